@@ -1,0 +1,11 @@
+/* Names of the types that are no keywords everywhere. */
+
+/* As gcc's own headers define them; those headers are not installed everywhere. */
+typedef int __m64 __attribute__((__vector_size__(8), __may_alias__));
+typedef float __m128 __attribute__((__vector_size__(16), __may_alias__));
+
+/* Where gcc makes code for another machine only sizes and alignments are judged,
+   and this type has another name. */
+#ifndef __x86_64__
+typedef _Float128 __float128;
+#endif

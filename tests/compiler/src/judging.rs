@@ -1,0 +1,211 @@
+//! Compares what gcc's functions did with what the independent layout says.
+
+use crate::program::Answer;
+use crate::source::declaration;
+use crate::subject::{Subject, HIDDEN_ADDRESS};
+use independent::cases::hex_of_bytes;
+use independent::listing::listing;
+use independent::moving::gathering;
+use independent::places::ReturnPlace;
+use independent::station::{attach, Station, SEAT};
+use independent::walk::{open, step, Walk};
+
+/// A difference: what was compared, gcc's answer, the layout's answer.
+pub struct Difference {
+    pub what: String,
+    pub gcc: String,
+    pub layout: String,
+}
+
+/// All differences of one subject, and how many comparisons were made.
+#[derive(Default)]
+pub struct Judgement {
+    pub differences: Vec<Difference>,
+    pub comparisons: usize,
+}
+
+impl Judgement {
+    fn equal(&mut self, what: &str, gcc: String, layout: String) {
+        self.comparisons += 1;
+        if gcc != layout {
+            self.differences.push(Difference { what: what.to_string(), gcc, layout });
+        }
+    }
+
+    /// Bytes where the mask is 1; the others print as dots.
+    fn equal_masked(&mut self, what: &str, gcc: &[u8], layout: &[u8], mask: &[u8]) {
+        self.equal(what, masked(gcc, mask), masked(layout, mask));
+    }
+}
+
+fn masked(bytes: &[u8], mask: &[u8]) -> String {
+    let each = bytes.iter().zip(mask);
+    each.map(|(byte, &kept)| if kept == 1 { format!("{byte:02x}") } else { "..".into() }).collect()
+}
+
+/// Sizes and alignments alone.
+pub fn judge_sizes(subject: &Subject, answer: &Answer) -> Judgement {
+    let mut judgement = Judgement::default();
+    judge_measures(subject, answer, &mut judgement);
+    judgement
+}
+
+pub fn judge(subject: &Subject, answer: &Answer) -> Judgement {
+    let mut judgement = judge_sizes(subject, answer);
+    judge_caller(subject, answer, &mut judgement);
+    judge_callee(subject, answer, &mut judgement);
+    judge_return(subject, answer, &mut judgement);
+    if subject.accepted.types.description().is_variadic() {
+        judge_walk(subject, answer, &mut judgement);
+    }
+    judgement
+}
+
+/// sizeof and _Alignof of every type.
+fn judge_measures(subject: &Subject, answer: &Answer, judgement: &mut Judgement) {
+    let types = &subject.accepted.types;
+    for (number, [size, alignment]) in answer.measures.iter().enumerate() {
+        let measure = types.measure(number as u8);
+        let what = format!("size and alignment of type {number}");
+        let layout = format!("{} {}", measure.size.0, measure.alignment.0);
+        judgement.equal(&what, format!("{size} {alignment}"), layout);
+    }
+}
+
+/// What the probe found against placing, and gathered from what it found.
+fn judge_caller(subject: &Subject, answer: &Answer, judgement: &mut Judgement) {
+    judgement.equal_masked(
+        "registers that a callee finds",
+        &answer.registers,
+        &subject.registers,
+        &subject.register_mask,
+    );
+    judgement.equal_masked(
+        "stack that a callee finds",
+        &answer.stack,
+        &subject.stack,
+        &subject.stack_mask,
+    );
+    let mut gathered = vec![0; subject.values.len()];
+    let hidden = gathering(subject.description, &answer.registers, &answer.stack, &mut gathered);
+    judgement.equal("gathering", format!("{}", hidden.is_ok()), "true".to_string());
+    judgement.equal_masked(
+        "values gathered from what a callee finds",
+        &gathered,
+        &subject.values,
+        &subject.value_mask,
+    );
+    if subject.accepted.types.description().is_variadic() {
+        let count = subject.accepted.layout.vector_count().0;
+        judgement.equal("al", format!("{}", answer.rax as u8), format!("{count}"));
+    }
+    judgement.equal_masked(
+        "value that a caller takes from the return places",
+        &answer.taken,
+        &subject.returned,
+        &subject.return_mask,
+    );
+}
+
+/// What gcc's function read as named parameters and by va_arg.
+fn judge_callee(subject: &Subject, answer: &Answer, judgement: &mut Judgement) {
+    judgement.equal_masked(
+        "values that a callee reads",
+        &answer.read,
+        &subject.spaced(&subject.values),
+        &subject.spaced(&subject.value_mask),
+    );
+}
+
+/// Where gcc's function left its value.
+fn judge_return(subject: &Subject, answer: &Answer, judgement: &mut Judgement) {
+    let mut image = answer.after[..48].to_vec();
+    // st0 and st1 stand at 28 and 38 of the saved x87 state.
+    for start in [48 + 28, 48 + 38] {
+        image.extend(&answer.after[start..start + 10]);
+        image.extend([0; 6]);
+    }
+    for (value_start, image_start, length) in subject.return_pieces() {
+        judgement.equal_masked(
+            &format!("returned bytes at {value_start}"),
+            &image[image_start..image_start + length],
+            &subject.returned[value_start..value_start + length],
+            &subject.return_mask[value_start..value_start + length],
+        );
+    }
+    if matches!(subject.accepted.layout.return_place, ReturnPlace::Memory(_)) {
+        let rax = u64::from_le_bytes(image[..8].try_into().expect("eight bytes"));
+        judgement.equal("returned address", format!("{rax:x}"), format!("{HIDDEN_ADDRESS:x}"));
+        judgement.equal_masked(
+            "returned bytes in memory",
+            &answer.hidden_room,
+            &subject.returned,
+            &subject.return_mask,
+        );
+    }
+    let expected = subject.return_kind().saturating_sub(1);
+    let found = x87_numbers(&answer.after[48..]);
+    judgement.equal("numbers on the x87 stack", format!("{found}"), format!("{expected}"));
+}
+
+/// How many of the eight tags of a saved x87 state are not "empty".
+fn x87_numbers(state: &[u8]) -> usize {
+    let tags = u16::from_le_bytes([state[8], state[9]]);
+    (0..8).filter(|place| (tags >> (2 * place)) & 3 != 3).count()
+}
+
+fn record_text(walk: &Walk) -> String {
+    format!("gp {} fp {} over {}", walk.gp_offset, walk.fp_offset, walk.overflow)
+}
+
+/// The walk: the offsets that va_start and va_arg leave against open and step,
+/// and the bytes that step hands back.
+fn judge_walk(subject: &Subject, answer: &Answer, judgement: &mut Judgement) {
+    let mut station = Station::default();
+    let mut seat = vec![0x11; SEAT];
+    attach(&mut station, &mut seat, subject.description).expect("accepted");
+    let mut walk = open(&station, &seat).expect("variadic");
+    let placements = &subject.accepted.layout.placements;
+    let named = walk.position as usize;
+    let mut start: usize = placements[..named].iter().map(|placement| placement.size.0).sum();
+    let mut records = vec![record_text(&walk)];
+    for placement in &placements[named..] {
+        let size = placement.size.0;
+        let mut out = vec![0; size];
+        let stepped = step(
+            &station,
+            &seat,
+            &mut walk,
+            placement.type_number,
+            &subject.entered_registers,
+            &subject.entered_stack,
+            &mut out,
+        );
+        judgement.equal("step", format!("{stepped:?}"), "Ok(())".to_string());
+        let value = &subject.values[start..start + size];
+        judgement.equal("bytes of a step", hex_of_bytes(&out), hex_of_bytes(value));
+        start += size;
+        records.push(record_text(&walk));
+    }
+    let noted = answer.notes.iter();
+    let noted: Vec<String> =
+        noted.map(|[gp, fp, over]| format!("gp {gp} fp {fp} over {over}")).collect();
+    judgement.equal("offsets of the walk", noted.join(", "), records.join(", "));
+}
+
+/// The report of a subject with differences.
+pub fn report(subject: &Subject, judgement: &Judgement) -> String {
+    let mut text = format!(
+        "MISMATCH\ndescription {}\n{}{}",
+        hex_of_bytes(subject.description),
+        declaration(&subject.accepted.types),
+        listing(subject.description)
+    );
+    for difference in &judgement.differences {
+        text.push_str(&format!(
+            "{}:\n  gcc    {}\n  layout {}\n",
+            difference.what, difference.gcc, difference.layout
+        ));
+    }
+    text
+}

@@ -1,0 +1,111 @@
+//! The driver itself: an answer that agrees with the layout gives no difference,
+//! and each kind of wrong answer gives one. This says nothing about gcc.
+
+use crate::judging::judge;
+use crate::program::Answer;
+use crate::subject::{Subject, HIDDEN_ADDRESS};
+use independent::generator::{random_description, SMALL};
+use independent::notation::description;
+use independent::random::Random;
+use independent::walk::offsets_after;
+
+/// What a compiler that keeps to the layout would do.
+fn agreeing(subject: &Subject) -> Answer {
+    let layout = &subject.accepted.layout;
+    let types = &subject.accepted.types;
+    let kind = subject.return_kind();
+    let image = subject.return_image();
+    let mut after = image[..48].to_vec();
+    if kind == 1 {
+        after[..8].copy_from_slice(&HIDDEN_ADDRESS.to_le_bytes());
+    }
+    let mut state = [0; 108];
+    let tags: u16 = [0xFFFF, 0xFFFF, 0x3FFF, 0x0FFF][kind as usize];
+    state[8..10].copy_from_slice(&tags.to_le_bytes());
+    state[28..38].copy_from_slice(&image[48..58]);
+    state[38..48].copy_from_slice(&image[64..74]);
+    after.extend(state);
+    let named = types.description().named();
+    let notes = layout.taken[named..].iter().map(|&taken| {
+        let offsets = offsets_after(taken);
+        [offsets.gp_offset, offsets.fp_offset, offsets.overflow].map(|bytes| bytes.0 as u32)
+    });
+    let measures = (0..types.description().types() as u8).map(|number| {
+        let measure = types.measure(number);
+        [measure.size.0 as u32, measure.alignment.0 as u32]
+    });
+    Answer {
+        registers: subject.registers.clone(),
+        rax: layout.vector_count().0 as u64,
+        stack: subject.stack.clone(),
+        taken: subject.returned.clone(),
+        read: subject.spaced(&subject.values),
+        notes: notes.collect(),
+        after,
+        hidden_room: subject.returned.clone(),
+        measures: measures.collect(),
+    }
+}
+
+#[test]
+fn an_agreeing_answer_has_no_difference() {
+    let mut random = Random::new(3);
+    for _ in 0..2000 {
+        let bytes = random_description(&mut random, SMALL);
+        let subject = Subject::new(&mut random, &bytes);
+        let judgement = judge(&subject, &agreeing(&subject));
+        assert!(judgement.differences.is_empty(), "{bytes:?}");
+    }
+}
+
+/// How many differences a change to the agreeing answer makes.
+fn differences(text: &str, change: impl Fn(&mut Answer)) -> usize {
+    let bytes = description(text);
+    let subject = Subject::new(&mut Random::new(4), &bytes);
+    let mut answer = agreeing(&subject);
+    change(&mut answer);
+    judge(&subject, &answer).differences.len()
+}
+
+#[test]
+fn each_kind_of_wrong_answer_is_a_difference() {
+    let text = "struct{long, double}: int, struct{float, int}, ..., long_double, double, int128";
+    assert_eq!(differences(text, |_| {}), 0);
+    // The registers, and what is gathered from them.
+    assert_eq!(differences(text, |answer| answer.registers[0] ^= 1), 2);
+    assert_eq!(differences(text, |answer| answer.registers[48] ^= 1), 2);
+    assert_eq!(differences(text, |answer| answer.stack[9] ^= 1), 2);
+    assert_eq!(differences(text, |answer| answer.rax ^= 1), 1);
+    assert_eq!(differences(text, |answer| answer.taken[15] ^= 1), 1);
+    assert_eq!(differences(text, |answer| answer.read[3] ^= 1), 1);
+    assert_eq!(differences(text, |answer| answer.notes[1][2] += 8), 1);
+    assert_eq!(differences(text, |answer| answer.after[0] ^= 1), 1);
+    assert_eq!(differences(text, |answer| answer.after[16] ^= 1), 1);
+    assert_eq!(differences(text, |answer| answer.after[48 + 8] ^= 1), 1);
+    assert_eq!(differences(text, |answer| answer.measures[2][1] += 1), 1);
+}
+
+#[test]
+fn masked_bytes_make_no_difference() {
+    let text = "char: char, struct{char, int}, long_double, float";
+    // Above the char in rdi, in the struct's padding, in the long double's tail,
+    // above the float, above the char in al.
+    for at in [1, 9, 49 + 3] {
+        assert_eq!(differences(text, |answer| answer.registers[at] ^= 1), 0, "{at}");
+    }
+    assert_eq!(differences(text, |answer| answer.stack[10] ^= 1), 0);
+    assert_eq!(differences(text, |answer| answer.read[32 + 10] ^= 1), 0);
+    assert_eq!(differences(text, |answer| answer.after[1] ^= 1), 0);
+}
+
+#[test]
+fn returns_in_memory_and_on_the_x87_stack_are_judged() {
+    let memory = "struct{char[17]}: int";
+    assert_eq!(differences(memory, |answer| answer.after[0] ^= 1), 1);
+    assert_eq!(differences(memory, |answer| answer.hidden_room[16] ^= 1), 1);
+    assert_eq!(differences(memory, |answer| answer.registers[0] ^= 1), 0);
+    let two = "complex_long_double:";
+    assert_eq!(differences(two, |answer| answer.after[48 + 28 + 9] ^= 1), 1);
+    assert_eq!(differences(two, |answer| answer.after[48 + 38] ^= 1), 1);
+    assert_eq!(differences(two, |answer| answer.after[48 + 9] ^= 0xC0), 1);
+}

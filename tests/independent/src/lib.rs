@@ -1,0 +1,25 @@
+//! Document 01 a second time: an independent layout, written from documents 000
+//! and 01 alone, for reading and not for speed. One module for each paragraph
+//! of document 01, in its order, then what the tests need.
+
+pub mod units;
+pub mod refusal;
+
+pub mod description;
+pub mod types;
+pub mod classes;
+pub mod places;
+pub mod moving;
+pub mod station;
+pub mod walk;
+pub mod listing;
+
+pub mod visits;
+pub mod random;
+pub mod draft;
+pub mod notation;
+pub mod cases;
+pub mod generator;
+pub mod damage;
+pub mod history;
+pub mod vectors;

@@ -1,0 +1,105 @@
+//! Commands over the independent layout; `independent help` lists them.
+
+use independent::cases;
+use independent::listing::listing;
+use independent::vectors::all_pairs;
+use independent::visits::visits;
+use std::io::{Read, Write};
+use std::path::Path;
+use std::process::ExitCode;
+
+const HELP: &str = "\
+independent list                    description on standard input, the lister's text
+independent visits                  description on standard input, visits of plain recursion
+independent cases                   the lister's case and P1 to P11, as document 01 prints them
+independent vectors write DIRECTORY [--seed N] [--towers]
+independent vectors check DIRECTORY [--seed N] [--towers]
+";
+
+/// The seed of the committed vectors.
+const SEED: u64 = 1;
+
+fn main() -> ExitCode {
+    let arguments: Vec<String> = std::env::args().skip(1).collect();
+    let words: Vec<&str> = arguments.iter().map(String::as_str).collect();
+    match words.as_slice() {
+        ["list"] => print_and_succeed(&listing(&standard_input())),
+        ["visits"] => print_and_succeed(&format!("{}\n", visits(&standard_input()))),
+        ["cases"] => print_cases(),
+        ["vectors", "write", directory, options @ ..] => write_vectors(directory, options),
+        ["vectors", "check", directory, options @ ..] => check_vectors(directory, options),
+        ["help"] | ["--help"] => print_and_succeed(HELP),
+        _ => {
+            eprint!("{HELP}");
+            ExitCode::FAILURE
+        }
+    }
+}
+
+fn standard_input() -> Vec<u8> {
+    let mut bytes = Vec::new();
+    std::io::stdin().read_to_end(&mut bytes).expect("standard input");
+    bytes
+}
+
+fn print_and_succeed(text: &str) -> ExitCode {
+    std::io::stdout().write_all(text.as_bytes()).expect("standard output");
+    ExitCode::SUCCESS
+}
+
+fn print_cases() -> ExitCode {
+    let (text, all_hold) = cases::report();
+    print!("{text}");
+    if all_hold {
+        println!("cases: all 12 as document 01 prints them");
+        ExitCode::SUCCESS
+    } else {
+        println!("cases: FAILED");
+        ExitCode::FAILURE
+    }
+}
+
+/// The seed, and whether towers of unions are let in.
+fn options_of(options: &[&str]) -> (u64, bool) {
+    let position = options.iter().position(|&option| option == "--seed");
+    let seed = position.map_or(SEED, |at| options[at + 1].parse().expect("a number"));
+    (seed, options.contains(&"--towers"))
+}
+
+fn write_vectors(directory: &str, options: &[&str]) -> ExitCode {
+    let (seed, towers) = options_of(options);
+    let (pairs, left_out) = all_pairs(seed, towers);
+    for pair in &pairs {
+        let path = |ending: &str| Path::new(directory).join(format!("{}.{ending}", pair.name));
+        std::fs::write(path("in"), &pair.input).expect("write");
+        std::fs::write(path("out"), &pair.output).expect("write");
+        let (input, output) = (pair.input.len(), pair.output.len());
+        println!("{}: {} records, {input} bytes in, {output} bytes out", pair.name, pair.records);
+    }
+    println!("seed {seed}: {left_out} records left out for plain recursion");
+    ExitCode::SUCCESS
+}
+
+fn check_vectors(directory: &str, options: &[&str]) -> ExitCode {
+    let (seed, towers) = options_of(options);
+    let (pairs, left_out) = all_pairs(seed, towers);
+    let mut all_equal = true;
+    for pair in &pairs {
+        let read = |ending: &str| {
+            std::fs::read(Path::new(directory).join(format!("{}.{ending}", pair.name)))
+        };
+        let input_equal = read("in").is_ok_and(|bytes| bytes == pair.input);
+        let output_equal = read("out").is_ok_and(|bytes| bytes == pair.output.as_bytes());
+        let equal = input_equal && output_equal;
+        all_equal = all_equal && equal;
+        let verdict = if equal { "equal" } else { "DIFFERENT" };
+        println!("{}: {} records, {verdict}", pair.name, pair.records);
+    }
+    println!("vectors: seed {seed}, {left_out} records left out for plain recursion");
+    if all_equal {
+        ExitCode::SUCCESS
+    } else {
+        println!("vectors: FAILED");
+        ExitCode::FAILURE
+    }
+}

@@ -1,0 +1,134 @@
+//! "Images and moving bytes": placing and gathering.
+
+use crate::places::{accepted, Accepted, Layout, Place, Placement, Register};
+use crate::refusal::Refusal;
+use crate::types::code;
+use crate::units::{Bytes, Registers};
+
+/// "The register image is 176 bytes".
+pub const REGISTER_IMAGE: usize = 176;
+/// "rdi, rsi, rdx, rcx, r8, r9 at 0..47, then xmm0..xmm7 at 48".
+pub const VECTOR_START: Bytes = Bytes(48);
+
+/// Which of the two images.
+#[derive(Clone, Copy, Debug, PartialEq, Eq)]
+pub enum Image {
+    Registers,
+    Stack,
+}
+
+/// One byte of one image.
+#[derive(Clone, Copy, Debug, PartialEq, Eq)]
+pub struct Spot {
+    pub image: Image,
+    pub offset: Bytes,
+}
+
+/// Where the eightbyte in a register begins in the register image.
+pub fn register_start(register: Register) -> Bytes {
+    match register {
+        Register::General(number) => Registers(number).general_room(),
+        Register::Vector(number) => VECTOR_START + Registers(number).vector_room(),
+        Register::VectorUpper(number) => VECTOR_START + Registers(number).vector_room() + Bytes(8),
+    }
+}
+
+/// Where a byte of an argument's value has its place.
+pub fn spot(placement: &Placement, byte: Bytes) -> Spot {
+    match &placement.place {
+        Place::Stack(start) => Spot { image: Image::Stack, offset: *start + byte },
+        Place::Registers(registers) => {
+            let eightbyte = byte.eightbyte();
+            let inside = Bytes(byte.0 - eightbyte.start().0);
+            let offset = register_start(registers[eightbyte.0]) + inside;
+            Spot { image: Image::Registers, offset }
+        }
+    }
+}
+
+/// The place of each byte of the packed values, in their order.
+pub fn spots(layout: &Layout) -> Vec<Spot> {
+    let of_one = |placement: &Placement| -> Vec<Spot> {
+        (0..placement.size.0).map(|byte| spot(placement, Bytes(byte))).collect()
+    };
+    layout.placements.iter().flat_map(of_one).collect()
+}
+
+/// 11: values, register image and stack image of exactly the right lengths.
+fn check_lengths(
+    layout: &Layout,
+    values: usize,
+    registers: usize,
+    stack: usize,
+) -> Result<(), Refusal> {
+    let right =
+        values == layout.values_length() && registers == REGISTER_IMAGE && stack == layout.area.0;
+    if right {
+        Ok(())
+    } else {
+        Err(Refusal::WrongLength)
+    }
+}
+
+/// 12: "A _Bool argument's byte must be 0 or 1; one inside an aggregate may be
+/// anything."
+fn check_bools(accepted: &Accepted, values: &[u8]) -> Result<(), Refusal> {
+    let mut start = 0;
+    for placement in &accepted.layout.placements {
+        if accepted.types.is_basic(placement.type_number, code::BOOL) && values[start] > 1 {
+            return Err(Refusal::WrongBool);
+        }
+        start += placement.size.0;
+    }
+    Ok(())
+}
+
+/// "Placing copies each value byte to its place and writes zero everywhere else
+/// in both images." Answers the vector count.
+pub fn placing(
+    bytes: &[u8],
+    hidden_address: u64,
+    values: &[u8],
+    registers: &mut [u8],
+    stack: &mut [u8],
+) -> Result<Registers, Refusal> {
+    let accepted = accepted(bytes)?;
+    let layout = &accepted.layout;
+    check_lengths(layout, values.len(), registers.len(), stack.len())?;
+    check_bools(&accepted, values)?;
+    registers.fill(0);
+    stack.fill(0);
+    // "The hidden address, little-endian, fills rdi where it is used".
+    if layout.hidden_address {
+        registers[0..8].copy_from_slice(&hidden_address.to_le_bytes());
+    }
+    for (value, spot) in values.iter().zip(spots(layout)) {
+        match spot.image {
+            Image::Registers => registers[spot.offset.0] = *value,
+            Image::Stack => stack[spot.offset.0] = *value,
+        }
+    }
+    Ok(layout.vector_count())
+}
+
+/// "Gathering does the reverse, looks at no unused byte, and takes a _Bool byte
+/// as it finds it." Answers the hidden address, 0 where none is in use.
+pub fn gathering(
+    bytes: &[u8],
+    registers: &[u8],
+    stack: &[u8],
+    values: &mut [u8],
+) -> Result<u64, Refusal> {
+    let layout = accepted(bytes)?.layout;
+    check_lengths(&layout, values.len(), registers.len(), stack.len())?;
+    for (value, spot) in values.iter_mut().zip(spots(&layout)) {
+        *value = match spot.image {
+            Image::Registers => registers[spot.offset.0],
+            Image::Stack => stack[spot.offset.0],
+        };
+    }
+    if !layout.hidden_address {
+        return Ok(0);
+    }
+    Ok(u64::from_le_bytes(registers[0..8].try_into().expect("eight bytes")))
+}

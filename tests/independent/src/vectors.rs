@@ -1,0 +1,764 @@
+//! The vectors: pairs of NAME.in and NAME.out that programs in another language
+//! read and must answer. Formats: vectors/README.md.
+
+use crate::cases::{bytes_of_hex, CASES, LISTER};
+use crate::classes::classes_of;
+use crate::damage::{damaged, refusals_and_pairs};
+use crate::draft::Draft;
+use crate::generator::{self, random_description, Shape, LARGE, MIDDLE, SMALL, THOUGHT};
+use crate::history::{random_history, random_images, random_values, word_and_hex, Command, Script};
+use crate::listing::listing;
+use crate::moving::{gathering, placing, REGISTER_IMAGE};
+use crate::notation::{self, description};
+use crate::places::{accepted, layout, Place, Placement};
+use crate::random::Random;
+use crate::station::Station;
+use crate::types::{asked, run_range};
+use crate::units::Bytes;
+use crate::visits::{visits, MOST_VISITS};
+use crate::walk::Walk;
+
+/// One file pair.
+pub struct Pair {
+    pub name: &'static str,
+    pub input: Vec<u8>,
+    pub output: String,
+    pub records: usize,
+}
+
+/// Collects the records of one pair.
+struct Writer {
+    pair: Pair,
+    towers: bool,
+    left_out: usize,
+}
+
+impl Writer {
+    fn new(name: &'static str, towers: bool) -> Writer {
+        let pair = Pair { name, input: Vec::new(), output: String::new(), records: 0 };
+        Writer { pair, towers, left_out: 0 }
+    }
+
+    /// Descriptions over a million visits of plain recursion are left out
+    /// unless they are let in.
+    fn admits(&mut self, description: &[u8]) -> bool {
+        let admitted = self.towers || visits(description) <= MOST_VISITS;
+        if !admitted {
+            self.left_out += 1;
+        }
+        admitted
+    }
+
+    fn part(&mut self, part: &[u8]) {
+        self.pair.input.extend((part.len() as u16).to_le_bytes());
+        self.pair.input.extend(part);
+    }
+}
+
+/// All five pairs, and how many records were left out.
+pub fn all_pairs(seed: u64, towers: bool) -> (Vec<Pair>, usize) {
+    let makers = [questions, layouts, moves, histories, listings];
+    let mut pairs = Vec::new();
+    let mut left_out = 0;
+    for (index, make) in makers.iter().enumerate() {
+        let mut random = Random::new(seed.wrapping_add(index as u64));
+        let writer = make(&mut random, towers);
+        left_out += writer.left_out;
+        pairs.push(writer.pair);
+    }
+    (pairs, left_out)
+}
+
+// ---- questions
+
+fn questions(random: &mut Random, towers: bool) -> Writer {
+    let mut writer = Writer::new("questions", towers);
+    for code in 0..=15 {
+        let mut draft = Draft::new();
+        draft.basic(code);
+        ask(&mut writer, &draft.bytes(), 0);
+    }
+    for text in THOUGHT {
+        ask_most(random, &mut writer, &description(text), 3);
+    }
+    for (_, bytes) in generator::limits().iter().chain(&generator::towers()) {
+        ask_most(random, &mut writer, bytes, 2);
+    }
+    for refusals in refusals_and_pairs() {
+        let bytes = damaged(random, &refusals);
+        ask_most(random, &mut writer, &bytes, 1);
+    }
+    for _ in 0..88 {
+        let bytes = random_description(random, SMALL);
+        ask_most(random, &mut writer, &bytes, 2);
+    }
+    for _ in 0..8 {
+        let bytes = random_description(random, MIDDLE);
+        ask_most(random, &mut writer, &bytes, 4);
+    }
+    writer
+}
+
+/// The newest types and one at random; now and then T and 255.
+fn ask_most(random: &mut Random, writer: &mut Writer, bytes: &[u8], count: usize) {
+    let types = bytes.get(5).copied().unwrap_or(0);
+    for back in 1..=count {
+        ask(writer, bytes, types.wrapping_sub(back as u8));
+    }
+    if random.one_in(3) {
+        ask(writer, bytes, random.below(types.max(1) as usize) as u8);
+    }
+    if random.one_in(8) {
+        ask(writer, bytes, random.choose(&[types, 255, 64, 254]));
+    }
+}
+
+fn ask(writer: &mut Writer, bytes: &[u8], type_number: u8) {
+    if !writer.admits(bytes) {
+        return;
+    }
+    writer.part(bytes);
+    writer.pair.input.push(type_number);
+    writer.pair.output.push_str(&question_line(bytes, type_number));
+    writer.pair.records += 1;
+}
+
+pub fn question_line(bytes: &[u8], type_number: u8) -> String {
+    let types = match asked(bytes, type_number) {
+        Ok(types) => types,
+        Err(refusal) => return format!("refused {}\n", refusal.number()),
+    };
+    let measure = types.measure(type_number);
+    let [first, second] = classes_of(&types, type_number);
+    let run = run_range(bytes, type_number);
+    let run_text =
+        if run.is_empty() { "none".to_string() } else { format!("{} {}", run.start, run.len()) };
+    format!(
+        "size {} align {} classes {} {} run {run_text}\n",
+        measure.size.0,
+        measure.alignment.0,
+        first.name(),
+        second.name()
+    )
+}
+
+// ---- layouts
+
+fn layouts(random: &mut Random, towers: bool) -> Writer {
+    let mut writer = Writer::new("layouts", towers);
+    lay_out(&mut writer, &bytes_of_hex(LISTER), 64);
+    for case in &CASES {
+        lay_out(&mut writer, &description(case.function), 64);
+    }
+    for text in THOUGHT {
+        lay_out(&mut writer, &description(text), 64);
+    }
+    for (_, bytes) in generator::limits().iter().chain(&generator::towers()) {
+        lay_out(&mut writer, bytes, 255);
+    }
+    for lent in [0, 1, 4, 5, 6, 255] {
+        lay_out(&mut writer, &bytes_of_hex(LISTER), lent);
+        lay_out(&mut writer, &Draft::new().bytes(), lent);
+    }
+    for refusals in refusals_and_pairs() {
+        for _ in 0..2 {
+            let bytes = damaged(random, &refusals);
+            let lent = random.choose(&[0, 64, 255]);
+            lay_out(&mut writer, &bytes, lent);
+        }
+    }
+    for index in 0..270 {
+        let shape = if index % 23 == 0 { MIDDLE } else { SMALL };
+        let bytes = random_description(random, shape);
+        let lent = if random.one_in(10) { random.below(bytes[8] as usize + 1) } else { 64 };
+        lay_out(&mut writer, &bytes, lent as u8);
+    }
+    for _ in 0..4 {
+        let bytes = random_description(random, LARGE);
+        lay_out(&mut writer, &bytes, 64);
+    }
+    writer
+}
+
+fn empty_placement() -> Placement {
+    let place = Place::Stack(Bytes(0));
+    Placement { type_number: 0, size: Bytes(0), alignment: Bytes(0), place }
+}
+
+fn lay_out(writer: &mut Writer, bytes: &[u8], lent: u8) {
+    if !writer.admits(bytes) {
+        return;
+    }
+    writer.part(bytes);
+    writer.pair.input.push(lent);
+    writer.pair.output.push_str(&layout_text(bytes, lent));
+    writer.pair.records += 1;
+}
+
+pub fn layout_text(bytes: &[u8], lent: u8) -> String {
+    let mut list = vec![empty_placement(); lent as usize];
+    match layout(bytes, &mut list) {
+        Ok(layout) => format!("{}values {}\n", listing(bytes), layout.values_length()),
+        Err(refusal) => format!("refused {}\n", refusal.number()),
+    }
+}
+
+// ---- moves
+
+/// One record of the moves.
+#[derive(Clone)]
+struct Move {
+    description: Vec<u8>,
+    hidden_address: u64,
+    values: Vec<u8>,
+    registers: Vec<u8>,
+    stack: Vec<u8>,
+    out: u16,
+}
+
+fn moves(random: &mut Random, towers: bool) -> Writer {
+    let mut writer = Writer::new("moves", towers);
+    for one in printed_moves() {
+        add_move(&mut writer, &one);
+    }
+    let lister = right_move(random, &bytes_of_hex(LISTER));
+    for one in wrong_lengths(&lister) {
+        add_move(&mut writer, &one);
+    }
+    for function in CASES.iter().map(|case| case.function).chain(THOUGHT) {
+        let one = right_move(random, &description(function));
+        add_move(&mut writer, &one);
+    }
+    for refusals in refusals_and_pairs().iter().take(10) {
+        let bytes = damaged(random, refusals);
+        add_move(&mut writer, &move_for(&bytes, vec![1; 4], 0xFF, 0, 4));
+    }
+    add_move(&mut writer, &right_move(random, &description("void: int, struct{char[4096]}")));
+    for _ in 0..55 {
+        let bytes = move_description(random);
+        let one = right_move(random, &bytes);
+        add_move(&mut writer, &one);
+    }
+    for _ in 0..25 {
+        let one = spoilt_move(random);
+        add_move(&mut writer, &one);
+    }
+    writer
+}
+
+/// Small ones only, so that the file stays small.
+fn move_description(random: &mut Random) -> Vec<u8> {
+    let shape = Shape { most_types: 8, most_arguments: 9, most_members: 4, largest: 40 };
+    loop {
+        let bytes = random_description(random, shape);
+        if accepted(&bytes).is_ok_and(|accepted| accepted.layout.area.0 <= 128) {
+            return bytes;
+        }
+    }
+}
+
+fn move_for(bytes: &[u8], values: Vec<u8>, filling: u8, area: usize, out: u16) -> Move {
+    Move {
+        description: bytes.to_vec(),
+        hidden_address: 0x1122_3344_5566_7788,
+        values,
+        registers: vec![filling; REGISTER_IMAGE],
+        stack: vec![filling; area],
+        out,
+    }
+}
+
+/// Right lengths, random values, images full of rubbish.
+fn right_move(random: &mut Random, bytes: &[u8]) -> Move {
+    let accepted = accepted(bytes).expect("a move for an accepted description");
+    let values = random_values(random, bytes);
+    Move {
+        description: bytes.to_vec(),
+        hidden_address: random.next(),
+        out: values.len() as u16,
+        values,
+        registers: random.bytes(REGISTER_IMAGE),
+        stack: random.bytes(accepted.layout.area.0),
+    }
+}
+
+/// A move for the text of a function, with these values and images of FF.
+fn printed_move(text: &str, values: &[u8]) -> Move {
+    let bytes = description(text);
+    let accepted = accepted(&bytes).expect("printed moves are accepted");
+    let out = accepted.layout.values_length() as u16;
+    move_for(&bytes, values.to_vec(), 0xFF, accepted.layout.area.0, out)
+}
+
+/// Moves whose answers a reader can check.
+fn printed_moves() -> Vec<Move> {
+    let counted: Vec<u8> = (1..=48).collect();
+    let mut tail = counted[..10].to_vec();
+    tail.extend([0xAA; 6]);
+    let mut wrong_bool = printed_move("void: bool, int", &[2, 1, 2, 3, 4]);
+    wrong_bool.values.push(9);
+    let mut gathered_bool = printed_move("void: bool, char", &[2, 1]);
+    gathered_bool.registers.fill(7);
+    vec![
+        printed_move("void: struct{float, struct{float, int}}", &counted[..12]),
+        printed_move("void: struct{double, int}", &counted[..16]),
+        printed_move("void: struct{float, float, int}", &counted[..12]),
+        printed_move("void: struct{char[3]}", &counted[..3]),
+        printed_move("void: struct{char[11]}", &counted[..11]),
+        printed_move("void: m128", &counted[..16]),
+        printed_move("void: float128, m128", &counted[..32]),
+        printed_move("void: long_double", &tail),
+        printed_move("void: complex_long_double", &counted[..32]),
+        printed_move("void:", &[]),
+        printed_move("void: int", &counted[..4]),
+        printed_move("void: bool", &[2]),
+        printed_move("void: bool", &[1]),
+        printed_move("void: bool", &[0]),
+        printed_move("void: char, bool, bool", &[200, 1, 255]),
+        printed_move("void: struct{bool}, union{bool, char}", &[2, 255]),
+        printed_move("void: struct{bool[3]}", &[2, 3, 255]),
+        wrong_bool,
+        gathered_bool,
+        printed_move("struct{char[17]}: int", &counted[..4]),
+        printed_move("struct{char[16]}: int", &counted[..4]),
+        printed_move("complex_long_double: int", &counted[..4]),
+        printed_move("struct{complex_long_double}: bool", &[3]),
+        printed_move(
+            "void: long, long, long, long, long, struct{double, long}",
+            &counted[..48].repeat(2)[..56],
+        ),
+    ]
+}
+
+/// Every wrong length of a right move, one at a time and all together.
+fn wrong_lengths(right: &Move) -> Vec<Move> {
+    let mut all = vec![right.clone()];
+    for longer in [false, true] {
+        for which in 0..4 {
+            let mut one = right.clone();
+            match which {
+                0 => resize(&mut one.values, longer),
+                1 => resize(&mut one.registers, longer),
+                2 => resize(&mut one.stack, longer),
+                _ => one.out = if longer { one.out + 1 } else { one.out - 1 },
+            }
+            all.push(one);
+        }
+    }
+    let mut empty = right.clone();
+    empty.values.clear();
+    empty.registers.clear();
+    empty.stack.clear();
+    empty.out = 0;
+    all.push(empty);
+    let mut nothing = printed_move("void:", &[]);
+    nothing.stack = vec![0xFF];
+    all.push(nothing.clone());
+    nothing.stack.clear();
+    nothing.out = 1;
+    all.push(nothing);
+    all
+}
+
+fn resize(bytes: &mut Vec<u8>, longer: bool) {
+    if longer {
+        bytes.push(0x5A);
+    } else {
+        bytes.pop();
+    }
+}
+
+/// A random move with one length or one _Bool wrong.
+fn spoilt_move(random: &mut Random) -> Move {
+    let text = "int: bool, struct{bool, float}, long, bool, m128, int";
+    let bytes = if random.one_in(2) { description(text) } else { move_description(random) };
+    let mut one = right_move(random, &bytes);
+    match random.below(7) {
+        0 => one.out += 1,
+        1 => one.stack.push(1),
+        2 => one.registers.truncate(random.below(176)),
+        3 => one.values.push(random.byte()),
+        4 => one.out = 0,
+        _ => {
+            for value in one.values.iter_mut() {
+                *value |= 2;
+            }
+        }
+    }
+    one
+}
+
+fn add_move(writer: &mut Writer, one: &Move) {
+    if !writer.admits(&one.description) {
+        return;
+    }
+    writer.part(&one.description);
+    writer.pair.input.extend(one.hidden_address.to_le_bytes());
+    writer.part(&one.values);
+    writer.part(&one.registers);
+    writer.part(&one.stack);
+    writer.pair.input.extend(one.out.to_le_bytes());
+    writer.pair.output.push_str(&move_text(one));
+    writer.pair.records += 1;
+}
+
+fn move_text(one: &Move) -> String {
+    let mut registers = one.registers.clone();
+    let mut stack = one.stack.clone();
+    let placed =
+        placing(&one.description, one.hidden_address, &one.values, &mut registers, &mut stack);
+    let mut values = vec![0xEE; one.out as usize];
+    let gathered = gathering(&one.description, &registers, &stack, &mut values);
+    let first = match placed {
+        Ok(count) => format!("placed {}", count.0),
+        Err(refusal) => format!("refused {}", refusal.number()),
+    };
+    let second = match gathered {
+        Ok(hidden_address) => format!("gathered {hidden_address}"),
+        Err(refusal) => format!("refused {}", refusal.number()),
+    };
+    format!(
+        "{first}\n{}\n{}\n{second}\n{}\n",
+        word_and_hex("registers", &registers),
+        word_and_hex("stack", &stack),
+        word_and_hex("values", &values)
+    )
+}
+
+// ---- histories
+
+fn histories(random: &mut Random, towers: bool) -> Writer {
+    let mut writer = Writer::new("histories", towers);
+    let mut script = Script::new();
+    printed_histories(random, &mut script);
+    for _ in 0..30 {
+        random_history(random, &mut script, 26);
+    }
+    for (command, line) in script.commands.iter().zip(&script.lines) {
+        if let Command::Attach(bytes) = command {
+            // A history cannot lose a command, so none may be too dear.
+            assert!(visits(bytes) <= MOST_VISITS, "draw another seed");
+        }
+        command.encode(&mut writer.pair.input);
+        writer.pair.output.push_str(line);
+        writer.pair.output.push('\n');
+        writer.pair.records += 1;
+    }
+    writer
+}
+
+/// Histories that the paper speaks of.
+fn printed_histories(random: &mut Random, script: &mut Script) {
+    for function in walked_functions() {
+        script.add(Command::Reset);
+        script.add(Command::FillSeat(0x5A));
+        script.attach(random, &function);
+        script.walk_whole(0);
+        script.add(Command::Detach);
+    }
+    long_then_short(random, script);
+    earlier_attachment(random, script);
+    records_by_hand(random, script);
+    plain_function(random, script);
+    last_numbers(random, script);
+    spoilt_seats(random, script);
+    wrong_lengths_in_order(random, script);
+}
+
+fn walked_functions() -> Vec<Vec<u8>> {
+    let texts = [
+        "void: int, double, ..., int, long_double, double",
+        "struct{char[17]}: ..., int, struct{double, double}, struct{long, float}, int128",
+        "void: long, long, long, long, long, long, long, ..., int128, long, m128, long",
+        "void: long, long, long, long, long, ..., struct{double, long}, struct{long, double}",
+        "void: long, long, long, long, long, ..., struct{long, double}, double",
+        "void: long, long, long, long, long, ..., int128, int, double, struct{long, long}, long",
+        "void: double, double, double, double, double, double, double, ..., complex_double, \
+         double, double, int, float128, struct{char[3]}",
+        "void: ..., m128, float128, complex_float, m64, struct{float, float, float}, pointer",
+        "void: int, ..., complex_long_double, struct{char[20]}, struct{char[5]}, long_double, int",
+        "void: ..., struct{float, struct{float, int}}, union{m128, long}, struct{int[3]}",
+        "void: int, ...",
+    ];
+    let mut all = vec![bytes_of_hex(LISTER)];
+    all.extend(texts.iter().map(|text| description(text)));
+    all
+}
+
+/// A long description, then a short one, in the same seat.
+fn long_then_short(random: &mut Random, script: &mut Script) {
+    let mut long = notation::draft("void: int, ..., double, long");
+    long.members = vec![1; 255];
+    while long.bytes().len() < 400 {
+        long.record(0, 4, 0);
+    }
+    long.members.truncate(255 - (long.bytes().len() - 400));
+    let short = description("void: int, ..., long, double");
+    assert!(long.bytes().len() == 400 && short.len() <= 30);
+    script.add(Command::Reset);
+    script.add(Command::FillSeat(0xC3));
+    for bytes in [long.bytes(), short, long.bytes()] {
+        script.attach(random, &bytes);
+        script.walk_whole(1);
+        script.add(Command::Detach);
+    }
+}
+
+/// "A walk opened under an earlier attachment is refused": 13 after a detach,
+/// 17 after the same bytes are attached again; a refused attach changes nothing.
+fn earlier_attachment(random: &mut Random, script: &mut Script) {
+    let first = description("void: int, ..., long, double, long");
+    let second = description("void: double, ..., double, long");
+    script.add(Command::Reset);
+    script.attach(random, &first);
+    script.add(Command::Open { slot: 0 });
+    script.step_right(0);
+    script.add(Command::Attach(second.clone()));
+    script.add(Command::Attach(vec![1, 2, 3]));
+    script.step_right(0);
+    script.add(Command::Detach);
+    script.add(Command::Detach);
+    script.step_right(0);
+    script.add(Command::Attach(vec![1, 2, 3]));
+    script.step_right(0);
+    script.attach(random, &first);
+    script.step_right(0);
+    script.add(Command::Open { slot: 1 });
+    script.step_right(1);
+    script.add(Command::Detach);
+    script.attach(random, &second);
+    script.step_right(1);
+    script.step_right(0);
+    script.walk_whole(1);
+}
+
+/// 17, 18, 19 and 20 in their order, on records made by hand.
+fn records_by_hand(random: &mut Random, script: &mut Script) {
+    script.add(Command::Reset);
+    script.attach(random, &bytes_of_hex(LISTER));
+    script.add(Command::Open { slot: 0 });
+    let right = script.scene.walks[0];
+    let end = Walk { position: 5, gp_offset: 32, fp_offset: 80, ..right };
+    let records = [
+        right,
+        end,
+        Walk { gp_offset: 16, ..end },
+        Walk { number: 2, ..end },
+        Walk { number: 2, position: 99, ..right },
+        Walk { position: 2, overflow: 0, ..right },
+        Walk { position: 6, ..end },
+        Walk { position: u64::MAX, ..right },
+        Walk { position: 1 << 32 | 3, ..right },
+        Walk { gp_offset: 1 << 32 | 16, ..right },
+        Walk { fp_offset: 48, ..right },
+        Walk { overflow: 8, ..right },
+        Walk { position: 4, fp_offset: 80, ..right },
+        Walk { position: 4, ..right },
+        Walk { fp_offset: 304, ..right },
+    ];
+    for walk in records {
+        script.add(Command::WalkByHand { slot: 2, walk });
+        for (asked, out) in [(2, 8), (1, 7), (5, 16), (255, 8), (1, 8)] {
+            script.add(Command::Show { slot: 2, asked });
+            script.add(Command::Number { slot: 2, asked });
+            script.add(Command::Step { slot: 2, asked, out });
+        }
+    }
+}
+
+/// Open is 16 on a plain function; a step there is 17, 18 or 19, never 16.
+fn plain_function(random: &mut Random, script: &mut Script) {
+    script.add(Command::Reset);
+    script.attach(random, &description("void: int, double"));
+    script.add(Command::Open { slot: 0 });
+    let end = Walk { number: 1, position: 2, gp_offset: 8, fp_offset: 64, overflow: 0 };
+    let records = [
+        Walk::default(),
+        end,
+        Walk { overflow: 8, ..end },
+        Walk { position: 1, fp_offset: 48, ..end },
+        Walk { number: 0, ..end },
+    ];
+    for walk in records {
+        script.add(Command::WalkByHand { slot: 0, walk });
+        script.step_right(0);
+        script.add(Command::Step { slot: 0, asked: 0, out: 4 });
+    }
+}
+
+/// "Attach at number 4,294,967,294 passes once."
+fn last_numbers(random: &mut Random, script: &mut Script) {
+    let good = description("void: int, ..., long, double");
+    for number in [u32::MAX - 2, u32::MAX - 1, u32::MAX] {
+        for attached in [false, true] {
+            script.add(Command::Reset);
+            script.add(Command::StationByHand(Station { attached, length: 0, number }));
+            script.attach(random, &good);
+            script.add(Command::Attach(vec![]));
+            script.walk_whole(0);
+            script.add(Command::Detach);
+            script.add(Command::Attach(vec![]));
+            script.attach(random, &good);
+            script.walk_whole(0);
+        }
+    }
+}
+
+/// Places in the lister's case, 42 bytes long, and what to spoil them with: mark,
+/// version, T, byte 6, A, records, a member, arguments, return, a byte behind.
+const SPOILS: [(u16, u8); 16] = [
+    (0, 0),
+    (3, 2),
+    (5, 65),
+    (6, 0),
+    (6, 2),
+    (7, 2),
+    (8, 6),
+    (11, 9),
+    (16, 6),
+    (23, 1),
+    (23, 3),
+    (35, 16),
+    (37, 6),
+    (40, 2),
+    (9, 6),
+    (42, 1),
+];
+
+/// Seats that no call would leave so: open and step read what is there.
+fn spoilt_seats(random: &mut Random, script: &mut Script) {
+    let good = bytes_of_hex(LISTER);
+    for (index, value) in SPOILS {
+        script.add(Command::Reset);
+        script.attach(random, &good);
+        script.add(Command::Open { slot: 0 });
+        script.add(Command::Spoil { index, value });
+        script.add(Command::Open { slot: 1 });
+        script.step_right(0);
+        script.add(Command::Step { slot: 0, asked: 1, out: 8 });
+        script.add(Command::Detach);
+    }
+    for length in [0, 10, 11, 41, 42, 43, 586] {
+        script.add(Command::Reset);
+        script.attach(random, &good);
+        script.add(Command::Open { slot: 0 });
+        script.add(Command::StationByHand(Station { attached: true, length, number: 1 }));
+        script.add(Command::Open { slot: 1 });
+        script.add(Command::Step { slot: 0, asked: 1, out: 8 });
+        script.add(Command::Detach);
+    }
+    area_grown_in_the_seat(script);
+    type_grown_in_the_seat(script);
+}
+
+/// One long more in an array of 512, put into the seat by hand: 7 at open.
+fn type_grown_in_the_seat(script: &mut Script) {
+    let bytes = description("void: struct{long[512]}, ..., long");
+    script.add(Command::Reset);
+    script.add(Command::Attach(bytes));
+    script.add(Command::Open { slot: 0 });
+    // The array is type 1: its count stands at 2 and 3 of its record.
+    script.add(Command::Spoil { index: 11 + 4 + 2, value: 1 });
+    script.add(Command::Open { slot: 1 });
+    script.add(Command::Registers(vec![0; REGISTER_IMAGE]));
+    script.add(Command::Step { slot: 0, asked: 0, out: 8 });
+    script.add(Command::Show { slot: 0, asked: 0 });
+    script.add(Command::Number { slot: 0, asked: 0 });
+}
+
+/// A fifth block of 4,096 bytes, put into the seat by hand: 10 at open.
+fn area_grown_in_the_seat(script: &mut Script) {
+    let mut draft = Draft::new();
+    let block = draft.block(4096);
+    let long = draft.basic(4);
+    draft.arguments(block, 4);
+    draft.ellipsis();
+    draft.argument(long);
+    let bytes = draft.bytes();
+    script.add(Command::Reset);
+    script.add(Command::Attach(bytes.clone()));
+    script.add(Command::Open { slot: 0 });
+    script.add(Command::Spoil { index: (bytes.len() - 1) as u16, value: block });
+    script.add(Command::Open { slot: 1 });
+    script.add(Command::Registers(vec![0; REGISTER_IMAGE]));
+    script.add(Command::Step { slot: 0, asked: block, out: 8 });
+    script.add(Command::Number { slot: 0, asked: block });
+}
+
+/// Lengths of seat, station's description, register image and stack image: the
+/// first are right for the lister's case.
+const LENGTHS: [(u16, usize, usize, usize); 8] = [
+    (586, 42, 176, 16),
+    (585, 42, 176, 16),
+    (587, 42, 176, 16),
+    (586, 587, 176, 16),
+    (586, 42, 175, 16),
+    (586, 42, 176, 15),
+    (586, 42, 176, 0),
+    (586, 65535, 0, 0),
+];
+
+/// The early and the late 11, against everything between them.
+fn wrong_lengths_in_order(random: &mut Random, script: &mut Script) {
+    let good = bytes_of_hex(LISTER);
+    let (registers, stack) = random_images(random, &good);
+    for (seat, length, image, area) in LENGTHS {
+        for attached in [true, false] {
+            script.add(Command::Reset);
+            script.add(Command::Attach(good.clone()));
+            script.add(Command::Open { slot: 0 });
+            script.add(Command::Registers(registers[..image].to_vec()));
+            script.add(Command::Stack(stack[..area].to_vec()));
+            script.add(Command::StationByHand(Station { attached, length, number: 1 }));
+            script.add(Command::SeatLength(seat));
+            every_call(script, &good);
+        }
+    }
+}
+
+fn every_call(script: &mut Script, description: &[u8]) {
+    for (slot, asked, out) in [(0, 1, 8), (0, 1, 9), (0, 2, 9), (1, 1, 8)] {
+        script.add(Command::Show { slot, asked });
+        script.add(Command::Number { slot, asked });
+        script.add(Command::Step { slot, asked, out });
+    }
+    script.add(Command::Open { slot: 2 });
+    script.add(Command::Attach(description.to_vec()));
+    script.add(Command::Detach);
+    script.add(Command::Attach(Vec::new()));
+}
+
+// ---- listings
+
+fn listings(random: &mut Random, towers: bool) -> Writer {
+    let mut writer = Writer::new("listings", towers);
+    list(&mut writer, &[]);
+    list(&mut writer, &bytes_of_hex(LISTER));
+    let mut with_newline = bytes_of_hex(LISTER);
+    with_newline.push(b'\n');
+    list(&mut writer, &with_newline);
+    for case in &CASES {
+        list(&mut writer, &description(case.function));
+    }
+    for (_, bytes) in generator::limits().iter().chain(&generator::towers()) {
+        list(&mut writer, bytes);
+    }
+    for refusals in refusals_and_pairs() {
+        let bytes = damaged(random, &refusals);
+        list(&mut writer, &bytes);
+    }
+    for _ in 0..60 {
+        let bytes = random_description(random, SMALL);
+        list(&mut writer, &bytes);
+    }
+    writer
+}
+
+fn list(writer: &mut Writer, bytes: &[u8]) {
+    if !writer.admits(bytes) {
+        return;
+    }
+    writer.part(bytes);
+    writer.pair.output.push_str(&listing(bytes));
+    writer.pair.records += 1;
+}

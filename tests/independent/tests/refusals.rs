@@ -1,0 +1,158 @@
+//! Refusals: each number, each pair in its order, and each call's own order.
+
+use independent::cases::{bytes_of_hex, LISTER};
+use independent::damage::{damaged, refusals_and_pairs};
+use independent::history::{random_images, random_values};
+use independent::moving::{gathering, placing, REGISTER_IMAGE};
+use independent::notation::description;
+use independent::places::check;
+use independent::random::Random;
+use independent::refusal::Refusal;
+use independent::station::{attach, detach, Station, SEAT};
+use independent::types::types;
+use independent::walk::{open, show_number, step, Walk};
+
+#[test]
+fn the_lower_of_two_conditions_is_answered() {
+    let mut random = Random::new(7);
+    for refusals in refusals_and_pairs() {
+        for _ in 0..200 {
+            let bytes = damaged(&mut random, &refusals);
+            assert_eq!(check(&bytes), refusals[0], "{refusals:?} {bytes:?}");
+            let question = types(&bytes).err().map_or(0, Refusal::number);
+            let expected = if refusals[0] <= 7 { refusals[0] } else { 0 };
+            assert_eq!(question, expected, "{refusals:?} {bytes:?}");
+        }
+    }
+}
+
+#[test]
+fn bytes_changed_at_random_never_break_it() {
+    let mut random = Random::new(8);
+    let good = bytes_of_hex(LISTER);
+    for _ in 0..20_000 {
+        let mut bytes = good.clone();
+        for _ in 0..random.between(1, 3) {
+            let at = random.below(bytes.len());
+            bytes[at] = random.byte();
+        }
+        assert!(check(&bytes) <= 10);
+    }
+}
+
+#[test]
+fn lengths_come_before_bools() {
+    let bytes = description("void: bool, int");
+    let mut registers = vec![9; REGISTER_IMAGE];
+    let mut stack = vec![];
+    let mut place = |values: &[u8]| placing(&bytes, 0, values, &mut registers, &mut stack);
+    assert_eq!(place(&[2, 0, 0, 0]), Err(Refusal::WrongLength));
+    assert_eq!(place(&[2, 0, 0, 0, 0]), Err(Refusal::WrongBool));
+    assert!(registers.iter().all(|&byte| byte == 9), "a refusal writes nothing");
+}
+
+#[test]
+fn gathering_takes_a_bool_as_it_finds_it() {
+    let bytes = description("void: bool");
+    let mut values = [0];
+    assert_eq!(gathering(&bytes, &[7; REGISTER_IMAGE], &[], &mut values), Ok(0));
+    assert_eq!(values, [7]);
+}
+
+#[test]
+fn attach_and_detach_keep_their_orders() {
+    let good = description("void: int, ..., long");
+    let mut seat = vec![3; SEAT];
+    let mut station = Station { attached: true, length: 587, number: u32::MAX };
+    let before = station;
+    assert_eq!(attach(&mut station, &mut seat, &good), Err(Refusal::WrongLength));
+    assert_eq!(detach(&mut station, &mut seat), Err(Refusal::WrongLength));
+    station.length = 0;
+    assert_eq!(attach(&mut station, &mut seat, &[]), Err(Refusal::AlreadyAttached));
+    station.attached = false;
+    assert_eq!(attach(&mut station, &mut seat, &[]), Err(Refusal::NumbersUsedUp));
+    assert_eq!(detach(&mut station, &mut seat), Err(Refusal::NothingAttached));
+    station.number = u32::MAX - 1;
+    assert_eq!(attach(&mut station, &mut seat, &[]), Err(Refusal::UnderElevenBytes));
+    assert!(seat.iter().all(|&byte| byte == 3), "a refusal writes nothing");
+    assert_eq!(attach(&mut station, &mut seat, &good), Ok(()));
+    assert_eq!(station, Station { attached: true, length: good.len(), ..before });
+    assert_eq!(&seat[..good.len()], good.as_slice());
+    assert!(seat[good.len()..].iter().all(|&byte| byte == 0));
+    assert_eq!(detach(&mut station, &mut seat), Ok(()));
+    assert_eq!(station, Station { attached: false, length: 0, ..before });
+    assert!(seat.iter().all(|&byte| byte == 0));
+    assert_eq!(attach(&mut station, &mut seat, &good), Err(Refusal::NumbersUsedUp));
+}
+
+/// A step on the lister's case, attached as number 1.
+fn stepped(walk: Walk, asked: u8, stack: usize, out: usize) -> Result<(), Refusal> {
+    let bytes = bytes_of_hex(LISTER);
+    let mut station = Station::default();
+    let mut seat = vec![0; SEAT];
+    attach(&mut station, &mut seat, &bytes).expect("accepted");
+    let (registers, full) = random_images(&mut Random::new(1), &bytes);
+    let mut walk = walk;
+    let before = walk;
+    let mut buffer = vec![0; out];
+    let stack = &full[..stack];
+    let answer = step(&station, &seat, &mut walk, asked, &registers, stack, &mut buffer);
+    assert!(answer.is_ok() || walk == before, "a refusal moves no walk");
+    answer
+}
+
+#[test]
+fn a_step_keeps_its_order() {
+    let right = Walk { number: 1, position: 3, gp_offset: 16, fp_offset: 64, overflow: 16 };
+    let end = Walk { position: 5, gp_offset: 32, fp_offset: 80, ..right };
+    assert_eq!(stepped(right, 1, 16, 8), Ok(()));
+    assert_eq!(
+        stepped(Walk { number: 0, position: 9, ..right }, 9, 0, 0),
+        Err(Refusal::OtherAttachment)
+    );
+    assert_eq!(stepped(Walk { gp_offset: 24, ..end }, 9, 0, 0), Err(Refusal::WrongRecord));
+    assert_eq!(
+        stepped(Walk { position: 2, overflow: 0, ..right }, 4, 16, 16),
+        Err(Refusal::WrongRecord)
+    );
+    assert_eq!(stepped(end, 9, 0, 0), Err(Refusal::AtEnd));
+    assert_eq!(stepped(right, 255, 0, 0), Err(Refusal::OtherType));
+    assert_eq!(stepped(right, 1, 15, 8), Err(Refusal::WrongLength));
+    assert_eq!(stepped(right, 1, 16, 7), Err(Refusal::WrongLength));
+}
+
+#[test]
+fn a_plain_function_is_never_16_in_a_step() {
+    let bytes = description("void: int");
+    let mut station = Station::default();
+    let mut seat = vec![0; SEAT];
+    attach(&mut station, &mut seat, &bytes).expect("accepted");
+    assert_eq!(open(&station, &seat), Err(Refusal::NotVariadic));
+    let registers = vec![0; REGISTER_IMAGE];
+    let number = |walk: &Walk| show_number(&station, &seat, walk, 0, &registers, &[]);
+    let end = Walk { number: 1, position: 1, gp_offset: 8, fp_offset: 48, overflow: 0 };
+    assert_eq!(number(&end), 19);
+    assert_eq!(number(&Walk { overflow: 8, ..end }), 18);
+    assert_eq!(number(&Walk::default()), 17);
+}
+
+#[test]
+fn a_walk_of_an_earlier_attachment_is_refused() {
+    let bytes = description("void: int, ..., long, double");
+    let mut random = Random::new(5);
+    let (registers, stack) = random_images(&mut random, &bytes);
+    let mut station = Station::default();
+    let mut seat = random.bytes(SEAT);
+    attach(&mut station, &mut seat, &bytes).expect("accepted");
+    let walk = open(&station, &seat).expect("variadic");
+    let number =
+        |station: &Station, seat: &[u8]| show_number(station, seat, &walk, 1, &registers, &stack);
+    assert_eq!(number(&station, &seat), 0);
+    assert_eq!(attach(&mut station, &mut seat, &bytes), Err(Refusal::AlreadyAttached));
+    assert_eq!(number(&station, &seat), 0);
+    detach(&mut station, &mut seat).expect("attached");
+    assert_eq!(number(&station, &seat), 13);
+    attach(&mut station, &mut seat, &bytes).expect("accepted");
+    assert_eq!(number(&station, &seat), 17);
+    assert_eq!(random_values(&mut random, &bytes).len(), 20);
+}
