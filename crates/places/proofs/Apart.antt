@@ -6,7 +6,8 @@ use mathlib.Core.List.{List, [], _∷_, _++_, append-nil, map}
 use Prim.Native.Nat.{ℕ, zero, suc, _+_, _*_, _-_, _≤_, _<_, min, max}
 use native.Mathlib.Decide.{decLt}
 use native.Mathlib.Omega.{arith}
-use lib.ListN.{length, length-append}
+use lib.ListN.{length, getD, take, length-append, List·getD-append}
+use lib.Seq.{getD-append-add}
 use Rattle.units.specs.Raise.{raise}
 use Rattle.units.proofs.Raise.{raise-not-below}
 use Rattle.addresses.specs.Addresses.{run, All, NoDup, Below, Packed, Stretch}
@@ -18,9 +19,9 @@ use Rattle.places.specs.declared.Register.{Register}
 use Rattle.places.specs.declared.Used.{Used}
 use Rattle.places.specs.Shapes.{Shape, some?, Led, Shaped}
 use Rattle.places.specs.Places.{Place, inRegisters, onStack, generals, vectors, generalFor, vectorFor, registersFor, fits, start, placeIf, nextIf, place, next, after, area}
-use Rattle.places.specs.Images.{addressOf, slots, spread, bytesOf, addresses, total}
-use Rattle.places.specs.Statements.{Apart}
-use Rattle.places.proofs.Fits.{Fit, fits-true, next-not}
+use Rattle.places.specs.Images.{addressOf, slots, spread, bytesOf, addresses, total, valueOffset}
+use Rattle.places.specs.Statements.{Fit, Apart}
+use Rattle.places.proofs.Fits.{fits-true, next-not}
 
 -- k is at no argument's place so far
 pub record Free (u : Used) (k : ℕ) : Type 0 where
@@ -47,20 +48,20 @@ unfolding Region
 spread-packed [] b g f n l h v = record { each = tt; once = tt }
 spread-packed (general ∷ ks) b g f n l h v =
     packed-append (packed-run (8 * g) (min n 8)) (spread-packed ks false (g + 1) (f + 0) (n - 8) l (omega arith) (omega (arith, low-le b f)))
-      (λ k p. ⊎-elim (λ r. omega arith) (λ r. omega (arith, low-le b f)))
-      (λ k p. inl (omega arith))
-      (λ k. ⊎-elim (λ r. inl (omega arith)) (λ r. inr (omega (arith, low-le b f))))
+    (λ k p. ⊎-elim (λ r. omega arith) (λ r. omega (arith, low-le b f)))
+    (λ k p. inl (omega arith))
+    (λ k. ⊎-elim (λ r. inl (omega arith)) (λ r. inr (omega (arith, low-le b f))))
 spread-packed (vector ∷ ks) b g f n l h v =
     packed-append (packed-run (48 + 16 * f) (min n 8)) (spread-packed ks true (g + 0) (f + 1) (n - 8) l (omega arith) (omega arith))
-      (λ k p. ⊎-elim (λ r. omega arith) (λ r. omega arith))
-      (λ k p. inr (omega (arith, low-le b f)))
-      (λ k. ⊎-elim (λ r. inl (omega arith)) (λ r. inr (omega (arith, low-le b f))))
+    (λ k p. ⊎-elim (λ r. omega arith) (λ r. omega arith))
+    (λ k p. inr (omega (arith, low-le b f)))
+    (λ k. ⊎-elim (λ r. inl (omega arith)) (λ r. inr (omega (arith, low-le b f))))
 spread-packed (upper ∷ ks) false g f n l h v = absurd l
 spread-packed (upper ∷ ks) true g f n l h v =
     packed-append (packed-run (56 + 16 * (f - 1)) (min n 8)) (spread-packed ks false (g + 0) (f + 0) (n - 8) l (omega arith) (omega arith))
-      (λ k p. ⊎-elim (λ r. omega arith) (λ r. omega arith))
-      (λ k p. inr (omega arith))
-      (λ k. ⊎-elim (λ r. inl (omega arith)) (λ r. inr (omega arith)))
+    (λ k p. ⊎-elim (λ r. omega arith) (λ r. omega arith))
+    (λ k p. inr (omega arith))
+    (λ k. ⊎-elim (λ r. inl (omega arith)) (λ r. inr (omega arith)))
 
 spread-length : (bs : List ℕ) (n : ℕ) → n ≤ 8 * length bs → length (spread bs n) ≡ n
 spread-length [] n h = omega arith
@@ -111,14 +112,14 @@ argument-packed u s h = by (fits u (s .kinds)) refl
     by true e =
         let fit = fits-true u (s .kinds) e in
         packed-map (spread-packed (s .kinds) false (u .general .0) (u .vector .0) (s .size) (h .led) (fit .general) (omega arith))
-          (λ k. ⊎-elim
-            (λ r. record { was = omega arith; gone = λ f. omega (arith, f .general (omega arith)); below = omega arith })
-            (λ r. record { was = omega arith; gone = λ f. omega (arith, f .vector (omega arith) (omega arith)); below = omega arith }))
+        (λ k. ⊎-elim
+        (λ r. record { was = omega arith; gone = λ f. omega (arith, f .general (omega arith)); below = omega arith })
+        (λ r. record { was = omega arith; gone = λ f. omega (arith, f .vector (omega arith) (omega arith)); below = omega arith }))
     by false e =
         let l = start-behind u s in
         let m = raise-not-below 8 (start u s + s .size) (omega arith) in
         packed-map (packed-run (176 + start u s) (s .size))
-          (λ k r. record { was = omega arith; gone = λ f. omega (arith, f .stack (omega arith)); below = omega arith })
+        (λ k r. record { was = omega arith; gone = λ f. omega (arith, f .stack (omega arith)); below = omega arith })
 
 pub after-grows : (ss : List Shape) (u : Used) → u .stack .0 ≤ after u ss .stack .0
 after-grows [] u = omega arith
@@ -128,9 +129,9 @@ pub addresses-packed : (ss : List Shape) (u : Used) → All Shaped ss → Packed
 addresses-packed [] u h = record { each = tt; once = tt }
 addresses-packed (s ∷ ss) u h =
     packed-append (argument-packed u s (h .0)) (addresses-packed ss (next u s) (h .1))
-      (λ k t f. t .gone (f .0))
-      (λ k t. (t .was, omega (arith, after-grows ss (next u s), t .below)))
-      (λ k f. (free-back u (next u s) (next-grows u s) k (f .0), f .1))
+    (λ k t f. t .gone (f .0))
+    (λ k t. (t .was, omega (arith, after-grows ss (next u s), t .below)))
+    (λ k f. (free-back u (next u s) (next-grows u s) k (f .0), f .1))
 
 -- ---- what follows
 
@@ -168,6 +169,19 @@ apart ss u h =
       inside = addresses-below ss u h;
       past = addresses-past ss u h;
     }
+
+-- byte j of value i is at byte j of argument i's place
+pub address-at : (ss : List Shape) (u : Used) (z : Shape) → All Shaped ss → (i j : ℕ) → i < length ss → j < getD ss i z .size
+    → getD (addresses u ss) (valueOffset ss i + j) 0 ≡ getD (bytesOf (place (after u (take i ss)) (getD ss i z)) (getD ss i z .size)) j 0
+unfolding valueOffset
+address-at [] u z h i j l m = absurd (omega arith)
+address-at (s ∷ ss) u z h zero j l m =
+    let e : 0 + j ≡ j = omega arith in
+    let b : j < length (bytesOf (place u s) (s .size)) = omega (arith, length-bytes u s (h .0)) in
+    rw (e, List·getD-append)
+address-at (s ∷ ss) u z h (suc i) j l m =
+    let e : s .size + total (take i ss) + j ≡ length (bytesOf (place u s) (s .size)) + (total (take i ss) + j) = omega (arith, length-bytes u s (h .0)) in
+    rw (e, getD-append-add) (address-at ss (next u s) z (h .1) i j (omega arith) m)
 
 -- ---- for the movers
 

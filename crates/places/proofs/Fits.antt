@@ -1,7 +1,7 @@
 -- Which arguments find registers (B3), for laws and for code that tests. Assumes nothing.
 use mathlib.Core.Path.{_≡_, refl, sym, ap, _∙_}
-use mathlib.Core.Logic.{_⊎_, inl, inr}
-use mathlib.Core.Bool.{Bool, true, false, _&&_, and-eq-true-iff}
+use mathlib.Core.Logic.{_⊎_, _↔_, inl, inr}
+use mathlib.Core.Bool.{Bool, true, false, _&&_, and-eq-true-iff, and-false}
 use mathlib.Core.List.{List, [], _∷_}
 use Prim.Native.Nat.{ℕ, _+_, _≤_, _<_}
 use native.Mathlib.Omega.{arith}
@@ -11,12 +11,8 @@ use Rattle.places.specs.declared.Kind.{Kind}
 use Rattle.places.specs.declared.Register.{Register}
 use Rattle.places.specs.declared.Used.{Used}
 use Rattle.places.specs.Shapes.{Shape, some?}
-use Rattle.places.specs.Places.{Place, inRegisters, onStack, generals, vectors, registersFor, taking, enough, fits, start, stacking, placeIf, nextIf, place, next, places, after}
-
-pub record Fit (u : Used) (ks : List Kind) : Type 0 where
-  pub some : some? ks ≡ true
-  pub general : u .general .0 + generals ks ≤ 6
-  pub vector : u .vector .0 + vectors ks ≤ 8
+use Rattle.places.specs.Places.{Place, inRegisters, onStack, generals, vectors, registersFor, taking, enough, fits, start, stacking, placeIf, nextIf, place, next, after}
+use Rattle.places.specs.Statements.{Fit, Lacks, StackStep, RegisterStep}
 
 pub fits-true : (u : Used) (ks : List Kind) → fits u ks ≡ true → Fit u ks
 unfolding fits enough
@@ -24,10 +20,6 @@ fits-true u ks e =
     let both = and-eq-true-iff (some? ks) (leb (u .general .0 + generals ks) 6 && leb (u .vector .0 + vectors ks) 8) .0 e in
     let counts = and-eq-true-iff (leb (u .general .0 + generals ks) 6) (leb (u .vector .0 + vectors ks) 8) .0 (both .1) in
     record { some = both .0; general = leb-true _ _ (counts .0); vector = leb-true _ _ (counts .1) }
-
--- it has no eightbyte for a register, or some eightbyte finds none
-abbrev pub Lacks : Used → List Kind → Type 0
-Lacks u ks = (some? ks ≡ false) ⊎ ((6 < u .general .0 + generals ks) ⊎ (8 < u .vector .0 + vectors ks))
 
 pub fits-false : (u : Used) (ks : List Kind) → fits u ks ≡ false → Lacks u ks
 unfolding fits enough
@@ -39,7 +31,15 @@ fits-false u ks = by (some? ks) (leb (u .general .0 + generals ks) 6) (leb (u .v
     by true true false p q r e = inr (inr (leb-false _ _ r))
     by true true true p q r e = absurd (let z : _≡_ {A = ℕ} 0 1 = cc in omega arith)
 
--- the two cases
+lacks-false : (u : Used) (ks : List Kind) → Lacks u ks → fits u ks ≡ false
+unfolding fits enough
+lacks-false u ks (inl e) = rw e
+lacks-false u ks (inr (inl l)) = rw (lt-leb (u .general .0 + generals ks) 6 l) (and-false (some? ks))
+lacks-false u ks (inr (inr l)) =
+    rw (lt-leb (u .vector .0 + vectors ks) 8 l) (ap (λ (b : Bool). some? ks && b) (and-false (leb (u .general .0 + generals ks) 6)) ∙ and-false (some? ks))
+
+-- ---- the two cases
+
 module _ (u : Used) (s : Shape) where
   pub place-fits : fits u (s .kinds) ≡ true → place u s ≡ inRegisters (registersFor (u .general .0) (u .vector .0) (s .kinds))
   unfolding place
@@ -57,17 +57,6 @@ module _ (u : Used) (s : Shape) where
   unfolding next
   next-not e = ap (λ (b : Bool). nextIf b u s) e
 
--- what a place tells: on the stack exactly where something lacks, and then no register is used up (B3)
-pub record StackStep (u : Used) (s : Shape) (o : ℕ) : Type 0 where
-  pub lacks : Lacks u (s .kinds)
-  pub offset : o ≡ start u s
-  pub next-is : next u s ≡ stacking u s
-
-pub record RegisterStep (u : Used) (s : Shape) (rs : List Register) : Type 0 where
-  pub fit : Fit u (s .kinds)
-  pub registers : rs ≡ registersFor (u .general .0) (u .vector .0) (s .kinds)
-  pub next-is : next u s ≡ taking u (s .kinds)
-
 pub stack-step : (u : Used) (s : Shape) (o : ℕ) → place u s ≡ onStack o → StackStep u s o
 unfolding place
 stack-step u s o e = by (fits u (s .kinds)) refl e
@@ -83,6 +72,10 @@ register-step u s rs e = by (fits u (s .kinds)) refl e
     by : (b : Bool) → fits u (s .kinds) ≡ b → placeIf b u s ≡ inRegisters rs → RegisterStep u s rs
     by true p q = record { fit = fits-true u (s .kinds) p; registers = cc; next-is = next-fits u s p }
     by false p q = absurd (let z : _≡_ {A = ℕ} 0 1 = cc in omega arith)
+
+-- a stack argument is exactly one whose class demands it or that lacks some register
+pub stack-exactly : (u : Used) (s : Shape) → (place u s ≡ onStack (start u s)) ↔ Lacks u (s .kinds)
+stack-exactly u s = (λ e. stack-step u s (start u s) e .lacks, λ l. place-not u s (lacks-false u (s .kinds) l))
 
 -- no count runs past its file
 pub next-bounds : (u : Used) (s : Shape) → u .general .0 ≤ 6 → u .vector .0 ≤ 8 → (next u s .general .0 ≤ 6) × (next u s .vector .0 ≤ 8)

@@ -93,7 +93,7 @@ vectors-in-order (s ∷ ss) u = by (fits u (s .kinds)) (λ w. vectors-in-order s
 -- "the number of vector registers used", and of general ones
 pub counts : (ss : List Shape) (u : Used)
     → (u .general .0 + length (numbersIn generalNumber (places u ss)) ≡ after u ss .general .0)
-      × (u .vector .0 + length (numbersIn vectorNumber (places u ss)) ≡ after u ss .vector .0)
+    × (u .vector .0 + length (numbersIn vectorNumber (places u ss)) ≡ after u ss .vector .0)
 counts ss u = (
   omega (arith, ap length (generals-in-order ss u) ∙ length-run (u .general .0) (after u ss .general .0 - u .general .0), generals-grow ss u),
   omega (arith, ap length (vectors-in-order ss u) ∙ length-run (u .vector .0) (after u ss .vector .0 - u .vector .0), vectors-grow ss u),

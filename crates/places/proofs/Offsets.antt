@@ -1,7 +1,7 @@
 -- Stack offsets, room and area (C3, B4). Assumes nothing.
 use mathlib.Core.Path.{_≡_, sym, ap, _∙_}
 use mathlib.Core.Logic.{_↔_}
-use mathlib.Core.Bool.{Bool, true, false}
+use mathlib.Core.Bool.{Bool, true, false, cond}
 use mathlib.Core.List.{List, [], _∷_}
 use Prim.Native.Nat.{ℕ, _+_, _*_, _/_, _%_, _≤_, _<_, max}
 use native.Mathlib.Omega.{arith}
@@ -12,10 +12,10 @@ use Rattle.units.proofs.Raise.{raise-multiple, raise-not-below, raise-least, ra
 use Rattle.addresses.specs.Addresses.{All}
 use Rattle.places.specs.declared.Used.{Used}
 use Rattle.places.specs.Shapes.{Shape, Alignment, one, two, four, eight, sixteen, Shaped}
-use Rattle.places.specs.Places.{Place, onStack, fits, start, nextIf, place, next, after, area}
-use Rattle.places.specs.Recorded.{Small}
+use Rattle.places.specs.Places.{Place, onStack, fits, start, nextIf, place, next, after, area, fresh}
+use Rattle.places.specs.Recorded.{Room, Small}
 use Rattle.places.specs.Statements.{LowestOffset, RoundedUp}
-use Rattle.places.proofs.Fits.{stack-step}
+use Rattle.places.proofs.Fits.{stack-step, after-bounds}
 
 pub rounded-up : (m n : ℕ) → 0 < m → RoundedUp m n (raise m n)
 rounded-up m n h =
@@ -79,3 +79,14 @@ next-room u s h = by (fits u (s .kinds))
 pub after-room : (ss : List Shape) (u : Used) → All Small ss → after u ss .stack .0 ≤ u .stack .0 + 4120 * length ss
 after-room [] u h = omega arith
 after-room (s ∷ ss) u h = omega (arith, next-room u s (h .0), after-room ss (next u s) (h .1))
+
+-- so that the next of at most 64 arguments can be placed
+pub room-after : (hidden : Bool) (ss : List Shape) → length ss ≤ 64 → All Small ss → Room (after (fresh hidden) ss)
+room-after hidden ss l h =
+    let b = after-bounds ss (fresh hidden) (cond-one hidden) (omega arith) in
+    let r = after-room ss (fresh hidden) h in
+    record { general = b .0; vector = b .1; stack = omega arith }
+  where
+    cond-one : (b : Bool) → cond b 1 0 ≤ 6
+    cond-one true = omega arith
+    cond-one false = omega arith

@@ -8,6 +8,7 @@ use Rattle.places.specs.declared.Used.{Used}
 use Rattle.places.specs.Shapes.{Shape}
 use Rattle.places.specs.Places.{Place, place, next, places, after}
 use Rattle.places.specs.Images.{bytesOf, addresses, total, valueOffset}
+use Rattle.places.specs.Statements.{bytesOfAll}
 
 pub places-append : (ss ts : List Shape) (u : Used) → places u (ss ++ ts) ≡ places u ss ++ places (after u ss) ts
 places-append [] ts u = refl
@@ -48,3 +49,13 @@ unfolding valueOffset
 value-next [] i z h = absurd (omega arith)
 value-next (s ∷ ss) zero z h = omega arith
 value-next (s ∷ ss) (suc i) z h = omega (arith, value-next ss i z (omega arith))
+
+pub value-all : (ss : List Shape) → valueOffset ss (length ss) ≡ total ss
+unfolding valueOffset
+value-all [] = refl
+value-all (s ∷ ss) = omega (arith, value-all ss)
+
+-- the addresses are those of the places, one after the other
+pub addresses-places : (ss : List Shape) (u : Used) → addresses u ss ≡ bytesOfAll (places u ss) ss
+addresses-places [] u = refl
+addresses-places (s ∷ ss) u = ap (λ (l : List ℕ). bytesOf (place u s) (s .size) ++ l) (addresses-places ss (next u s))

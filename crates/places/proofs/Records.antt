@@ -2,7 +2,7 @@
 use mathlib.Core.Path.{_≡_, refl, sym, ap, ap₂, _∙_}
 use mathlib.Core.Bool.{Bool, true, false, cond, _&&_, _||_}
 use mathlib.Core.List.{List, [], _∷_, _++_}
-use Prim.Native.Nat.{ℕ, _+_, _-_, _≤_, max}
+use Prim.Native.Nat.{ℕ, suc, _+_, _-_, _≤_, max}
 use native.Mathlib.Omega.{arith}
 use lib.ListN.{length}
 use Rattle.units.specs.Raise.{raise}
@@ -31,13 +31,22 @@ use Rattle.places.specs.declared.Taken.{Taken}
 use Rattle.places.specs.declared.Placed.{Placed}
 use Rattle.places.specs.declared.Found.{Found}
 use Rattle.places.specs.declared.Found.the-variants.{Here, Nowhere}
-use Rattle.places.specs.Shapes.{Shape, kindOf, kindsOf, shapeOf}
-use Rattle.places.specs.Places.{Place, inRegisters, onStack, generals, vectors, generalFor, vectorFor, registerFor, registersFor, taking, enough, fits, start, stacking, place, next}
+use Rattle.places.specs.Shapes.{Shape, kindOf, kindsOf, shapeOf, some?, Shaped}
+use Rattle.places.specs.Places.{Place, inRegisters, onStack, generals, vectors, generalFor, vectorFor, registerFor, registersFor, taking, enough, fits, start, stacking, placeIf, place, next}
 use Rattle.places.specs.Recorded.{eightbyteOf, listed, asked, placeOf, recorded, IsTaken, IsPlaced, foundIf, IsFound, stackedAt}
-use Rattle.places.proofs.Fits.{place-fits, place-not, next-fits, next-not, used-same}
+use Rattle.places.specs.Statements.{Fit, Holds}
+use Rattle.places.proofs.Fits.{fits-true, place-fits, place-not, next-fits, next-not, used-same}
 
 clash : {A : Type 0} → _≡_ {A = Bool} true false → A
 clash e = absurd (let z : _≡_ {A = ℕ} 0 1 = cc in omega arith)
+
+length-registers : (ks : List Kind) (g f : ℕ) → length (registersFor g f ks) ≡ length ks
+length-registers [] g f = refl
+length-registers (k ∷ ks) g f = ap suc (length-registers ks (g + generalFor k) (f + vectorFor k))
+
+some-few : (ks : List Kind) → some? ks ≡ true → 1 ≤ length ks
+some-few [] e = clash (sym e)
+some-few (k ∷ ks) e = omega arith
 
 -- ---- there and back
 
@@ -46,17 +55,24 @@ recorded-place (One a) = refl
 recorded-place (Two a b) = refl
 recorded-place (Stack o) = refl
 
--- a place of one or two registers
-abbrev pub Holds : Place → Type 0
-Holds (inRegisters rs) = (1 ≤ length rs) × (length rs ≤ 2)
-Holds (onStack o) = Unit {0}
-
 pub place-recorded : (p : Place) → Holds p → placeOf (recorded p) ≡ p
 place-recorded (inRegisters []) h = absurd (omega arith)
 place-recorded (inRegisters (a ∷ [])) h = refl
 place-recorded (inRegisters (a ∷ b ∷ [])) h = refl
 place-recorded (inRegisters (a ∷ b ∷ c ∷ rs)) h = absurd (omega arith)
 place-recorded (onStack o) h = refl
+
+place-holds : (u : Used) (s : Shape) → Shaped s → Holds (place u s)
+unfolding place
+place-holds u s h = by (fits u (s .kinds)) refl
+  where
+    by : (b : Bool) → fits u (s .kinds) ≡ b → Holds (placeIf b u s)
+    by true e = rw length-registers (some-few (s .kinds) (fits-true u (s .kinds) e .some), h .few)
+    by false e = tt
+
+-- each argument's place can be held
+pub place-written : (u : Used) (s : Shape) → Shaped s → placeOf (recorded (place u s)) ≡ place u s
+place-written u s h = place-recorded (place u s) (place-holds u s h)
 
 -- what a contract says of a place determines it
 pub place-is : (r : Record) (p : Place) → placeOf r ≡ p → r ≡ recorded p
@@ -168,7 +184,7 @@ found-two u j k t s r h g e =
     let stack-is : t .used .stack .0 ≡ u .stack .0 = ap (λ (x : Used). x .stack .0) (h .used) in
     let all : s .used ≡ taking u (j ∷ k ∷ []) = g .used ∙ used-same _ _ (omega arith) (omega arith) stack-is in
     let second : s .register ≡ registerFor (u .general .0 + generalFor j) (u .vector .0 + vectorFor j) k =
-          g .register ∙ ap₂ (λ (x y : ℕ). registerFor x y k) general-is vector-is in
+    g .register ∙ ap₂ (λ (x y : ℕ). registerFor x y k) general-is vector-is in
     found-here u (j ∷ k ∷ []) (Two (t .register) (s .register)) (s .used) r (ap enough (sym all)) all
     (ap₂ (λ (x y : Register). inRegisters (x ∷ y ∷ [])) (h .register) second) e
 

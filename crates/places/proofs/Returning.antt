@@ -27,8 +27,8 @@ use Rattle.places.specs.declared.ReturnPlace.the-variants.{Void, Memory 
 use Rattle.places.specs.Shapes.{kindsIn, kindsOf, some?}
 use Rattle.places.specs.Places.{Place, inRegisters, generals, vectors, generalFor, vectorFor, registersFor, fits, fresh}
 use Rattle.places.specs.Recorded.{listed, placeOf, IsPlaced, IsFound}
-use Rattle.places.specs.Returns.{outside, returnIn, returnBy, returnOf, hiddenFor}
-use Rattle.places.proofs.Fits.{Lacks, fits-true, fits-false}
+use Rattle.places.specs.Returns.{outside, returnIn, returnBy, returnOf, hiddenBy, hiddenFor}
+use Rattle.places.proofs.Fits.{fits-true, fits-false}
 
 clash : {A : Type 0} → _≡_ {A = Bool} true false → A
 clash e = absurd (let z : _≡_ {A = ℕ} 0 1 = cc in omega arith)
@@ -84,7 +84,7 @@ return-never a b k f p o r h n e =
 -- ---- which place, by the classes
 
 hidden-memory : (cs : List Class) → hiddenFor cs ≡ true → returnOf cs ≡ InMemory
-unfolding same isX87 hiddenFor returnOf kindsOf
+unfolding same isX87 hiddenBy returnOf kindsOf
 hidden-memory [] e = clash (sym e)
 hidden-memory (NoClass ∷ cs) e = clash (sym e)
 hidden-memory (Integer ∷ cs) e = clash (sym e)
@@ -120,7 +120,7 @@ memory-first (i ∷ j ∷ k ∷ ks) c e = absurd (omega arith)
 
 -- the hidden address is used exactly where the value is returned in memory, and that is where its first class is MEMORY
 pub hidden-exactly : (cs : List Class) → (hiddenFor cs ≡ true) ↔ (returnOf cs ≡ InMemory)
-unfolding hiddenFor returnOf
+unfolding hiddenBy returnOf
 hidden-exactly cs = (hidden-memory cs, λ e. memory-first (kindsOf cs) (getD cs 0 NoClass) (ap numberOf e))
 
 -- "rax, rdx; xmm0, xmm1; xmm0 and its upper half; X87 st0; COMPLEX_X87 st0 and st1"
@@ -155,5 +155,5 @@ abbrev got : Case → Case
 got (case a b w p) = case a b (hiddenFor (a ∷ b ∷ [])) (returnOf (a ∷ b ∷ []))
 
 pub return-cases : map got cases ≡ cases
-unfolding same isX87 kindsOf hiddenFor returnOf
+unfolding same isX87 kindsOf hiddenBy returnOf
 return-cases = refl

@@ -95,9 +95,9 @@ stackedAt u size align =
     record {
       place = Stack (record { 0 = raise (max 8 align) (u .stack .0) });
       used =
-        record {
-          general = u .general;
-          vector = u .vector;
-          stack = record { 0 = raise 8 (raise (max 8 align) (u .stack .0) + size) };
-        };
+          record {
+            general = u .general;
+            vector = u .vector;
+            stack = record { 0 = raise 8 (raise (max 8 align) (u .stack .0) + size) };
+          };
     }

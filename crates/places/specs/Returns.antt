@@ -39,5 +39,8 @@ unfoldable pub returnOf : List Class → ReturnPlace
 returnOf cs = returnBy (kindsOf cs) (getD cs 0 NoClass)
 
 -- "If the return type's class is MEMORY, a hidden address takes rdi first"
-unfoldable pub hiddenFor : List Class → Bool
-hiddenFor cs = same (getD cs 0 NoClass) Memory
+unfoldable pub hiddenBy : Class → Bool
+hiddenBy first = same first Memory
+
+abbrev pub hiddenFor : List Class → Bool
+hiddenFor cs = hiddenBy (getD cs 0 NoClass)

@@ -1,6 +1,7 @@
 // The places of arguments (document 01, "Places"): registers by their number in their file, or a stack offset. `place_next` places one argument, and nothing else does.
 use classes::Class;
-use units::{Bytes, Registers};
+use units::Bytes;
+use units::Registers;
 ghost use mathlib.Core.Path.{_≡_};
 ghost use mathlib.Core.List.{[], _∷_};
 ghost use Prim.Native.Nat.{_^_, _≤_};
@@ -9,7 +10,7 @@ ghost use Rattle.classify.specs.Asks.{AskType};
 ghost use Rattle.places.specs.Shapes.{kindsOf, shapeOf};
 ghost use Rattle.places.specs.Places.{fresh, enough, place, next};
 ghost use Rattle.places.specs.Recorded.{eightbyteOf, listed, asked, Room, Small, IsTaken, IsPlaced, foundIf, IsFound, stackedAt};
-ghost use Rattle.places.specs.Returns.{outside, returnOf, hiddenFor};
+ghost use Rattle.places.specs.Returns.{outside, returnOf, hiddenBy};
 
 // What an eightbyte asks for: INTEGER, SSE, SSEUP.
 pub enum Kind {
@@ -298,9 +299,9 @@ pub fn return_place(first: Class, second: Class) -> ReturnPlace
     }
 }
 
-// Whether a hidden address is passed for a returned value: "If the return type's class is MEMORY".
-pub fn hidden_for(first: Class, second: Class) -> bool
-    ensures { λ r. ⌜ r ≡ hiddenFor (first ∷ second ∷ []) ⌝ }
+// Whether a hidden address is passed for a returned value whose first class this is: "If the return type's class is MEMORY".
+pub fn hidden_for(first: Class) -> bool
+    ensures { λ r. ⌜ r ≡ hiddenBy first ⌝ }
 {
     classes::is_same(first, Class::Memory)
 }

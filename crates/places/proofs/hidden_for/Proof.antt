@@ -1,7 +1,7 @@
 -- `hidden_for` meets its contract.
 -- Assumes nothing.
 use borrow.Author.Needs.{needs}
-use Rattle.places.specs.Returns.{hiddenFor}
+use Rattle.places.specs.Returns.{hiddenBy}
 use Rattle.places.proofs.hidden_for.Statement.{statement}
 use Rattle.places.proofs.hidden_for.Tie as tie
 
@@ -9,7 +9,7 @@ is-same-requires : tie.Need-is-same-requires
 is-same-requires c κs = search needs
 
 returns : tie.Need-returns
-unfolding hiddenFor
+unfolding hiddenBy
 returns c = c .is-same .ensures
 
 pub hidden-for-spec : {M : Type 1} → statement M
