@@ -1,20 +1,18 @@
 -- What classification guarantees: the shape of each type that a description without refusal 1 to 7 names. Assumes nothing.
-use mathlib.Core.Path.{_≡_, refl, sym, ap, ap₂, _∙_}
-use mathlib.Core.Bool.{Bool, true, false, cond, _&&_, _||_}
+use mathlib.Core.Path.{_≡_, refl, sym, ap, _∙_}
+use mathlib.Core.Bool.{Bool, true, false, cond, _&&_}
 use mathlib.Core.List.{List, [], _∷_}
-use mathlib.Core.Logic.{_⊎_, inl, inr}
 use Prim.Native.Nat.{ℕ, zero, suc, _+_, _*_, _/_, _≤_, _<_}
 use native.Mathlib.Omega.{arith}
 use native.Mathlib.Decide.{decLt}
 use lib.Dec.{ltb}
-use lib.ListN.{length, getD, set, replicate, length-set}
+use lib.ListN.{length, getD, length-set}
 use Rattle.description.specs.Description.{typesIn}
 use Rattle.classes.specs.declared.Class.{Class}
 use Rattle.classes.specs.declared.Class.the-variants.{NoClass, Integer, Sse, SseUp, X87, X87Up, ComplexX87, Memory}
-use Rattle.classes.specs.Classes.{same, there, isX87, noClasses, mergeOf, mergeAll}
+use Rattle.classes.specs.Classes.{same, there, isX87, noClasses, mergeAll}
 use Rattle.classes.specs.CleanUp.{anyMemory, anyUpAlone, settleAll, blank, memoryOf, cleanUp}
-use Rattle.classes.specs.Ups.{UpsFollow, onStack}
-use Rattle.classes.proofs.Pairs.{two}
+use Rattle.classes.specs.Ups.{onStack}
 use Rattle.types.specs.Tree.{Ty, Tys, basic, array, struct, union, none, more}
 use Rattle.types.specs.Basic.{lp64}
 use Rattle.types.specs.Size.{sizeTy, alignTy, offsetAfter, endAfter}
@@ -29,11 +27,9 @@ use Rattle.classify.specs.Shaped.{Shaped as Classed}
 use Rattle.classify.proofs.Shaped.{type-shaped}
 use Rattle.places.specs.declared.Kind.{Kind}
 use Rattle.places.specs.declared.Kind.the-variants.{General as general, Vector as vector, Upper as upper}
-use Rattle.places.specs.Shapes.{Shape, kindsIn, kindsOf, shapeOf, some?, Led, Alignment, one as byOne, two as byTwo, four as byFour, eight as byEight, sixteen as bySixteen, Shaped}
+use Rattle.places.specs.Shapes.{kindsIn, kindsOf, shapeOf, some?, Led, Alignment, one as byOne, two as byTwo, four as byFour, eight as byEight, sixteen as bySixteen, Shaped}
 use Rattle.places.specs.Recorded.{Small}
-
-clash : {A : Type 0} → _≡_ {A = Bool} true false → A
-clash e = absurd (let z : _≡_ {A = ℕ} 0 1 = cc in omega arith)
+use Rattle.places.proofs.Fits.{clash}
 
 -- ---- a type has two classes
 

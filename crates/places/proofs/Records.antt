@@ -1,6 +1,6 @@
 -- How code holds shapes and places, step by step as the code goes, and that it says neither more nor less. Assumes nothing.
 use mathlib.Core.Path.{_≡_, refl, sym, ap, ap₂, _∙_}
-use mathlib.Core.Bool.{Bool, true, false, cond, _&&_, _||_}
+use mathlib.Core.Bool.{Bool, true, false, cond, _||_}
 use mathlib.Core.List.{List, [], _∷_, _++_}
 use Prim.Native.Nat.{ℕ, suc, _+_, _-_, _≤_, max}
 use native.Mathlib.Omega.{arith}
@@ -32,13 +32,11 @@ use Rattle.places.specs.declared.Placed.{Placed}
 use Rattle.places.specs.declared.Found.{Found}
 use Rattle.places.specs.declared.Found.the-variants.{Here, Nowhere}
 use Rattle.places.specs.Shapes.{Shape, kindOf, kindsOf, shapeOf, some?, Shaped}
-use Rattle.places.specs.Places.{Place, inRegisters, onStack, generals, vectors, generalFor, vectorFor, registerFor, registersFor, taking, enough, fits, start, stacking, placeIf, place, next}
-use Rattle.places.specs.Recorded.{eightbyteOf, listed, asked, placeOf, recorded, IsTaken, IsPlaced, foundIf, IsFound, stackedAt}
-use Rattle.places.specs.Statements.{Fit, Holds}
-use Rattle.places.proofs.Fits.{fits-true, place-fits, place-not, next-fits, next-not, used-same}
-
-clash : {A : Type 0} → _≡_ {A = Bool} true false → A
-clash e = absurd (let z : _≡_ {A = ℕ} 0 1 = cc in omega arith)
+use Rattle.places.specs.Places.{Place, inRegisters, onStack, generalFor, vectorFor, registerFor, registersFor, taking, enough, fits, start, placeIf, place, next}
+use Rattle.places.specs.Recorded.{listed, asked, placeOf, recorded, IsPlaced}
+use Rattle.places.specs.Steps.{eightbyteOf, IsTaken, foundIf, IsFound, stackedAt}
+use Rattle.places.specs.Statements.{Holds}
+use Rattle.places.proofs.Fits.{clash, fits-true, place-fits, place-not, next-fits, next-not, used-same}
 
 length-registers : (ks : List Kind) (g f : ℕ) → length (registersFor g f ks) ≡ length ks
 length-registers [] g f = refl

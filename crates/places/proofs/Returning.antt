@@ -1,7 +1,7 @@
 -- Return places and the hidden address (B6). Assumes nothing.
 use mathlib.Core.Path.{_≡_, refl, sym, ap, _∙_}
 use mathlib.Core.Logic.{_↔_, ⊎-elim}
-use mathlib.Core.Bool.{Bool, true, false, cond}
+use mathlib.Core.Bool.{Bool, true, false}
 use mathlib.Core.List.{List, [], _∷_, map}
 use Prim.Native.Nat.{ℕ, _+_, _≤_}
 use native.Mathlib.Omega.{arith}
@@ -10,28 +10,24 @@ use Rattle.units.specs.declared.Bytes.{Bytes}
 use Rattle.classes.specs.declared.Class.{Class}
 use Rattle.classes.specs.declared.Class.the-variants.{NoClass, Integer, Sse, SseUp, X87, X87Up, ComplexX87, Memory}
 use Rattle.classes.specs.Classes.{same, isX87}
-use Rattle.classes.specs.Ups.{onStack}
 use Rattle.places.specs.declared.Kind.{Kind}
 use Rattle.places.specs.declared.Kind.the-variants.{General as general, Vector as vector, Upper as upper}
 use Rattle.places.specs.declared.Kinds.{Kinds}
 use Rattle.places.specs.declared.Kinds.the-variants.{Stack as None, One as Single, Two as Pair}
 use Rattle.places.specs.declared.Register.{Register}
 use Rattle.places.specs.declared.Register.the-variants.{General, Vector, Upper}
-use Rattle.places.specs.declared.Place.{Place as Record}
-use Rattle.places.specs.declared.Place.the-variants.{One, Two, Stack}
+use Rattle.places.specs.declared.Place.the-variants.{Stack}
 use Rattle.places.specs.declared.Placed.{Placed}
 use Rattle.places.specs.declared.Found.{Found}
 use Rattle.places.specs.declared.Found.the-variants.{Here, Nowhere}
 use Rattle.places.specs.declared.ReturnPlace.{ReturnPlace}
 use Rattle.places.specs.declared.ReturnPlace.the-variants.{Void, Memory as InMemory, One as InOne, Two as InTwo, St0, St0St1}
-use Rattle.places.specs.Shapes.{kindsIn, kindsOf, some?}
-use Rattle.places.specs.Places.{Place, inRegisters, generals, vectors, generalFor, vectorFor, registersFor, fits, fresh}
-use Rattle.places.specs.Recorded.{listed, placeOf, IsPlaced, IsFound}
+use Rattle.places.specs.Shapes.{kindsOf, some?}
+use Rattle.places.specs.Places.{inRegisters, generals, vectors, generalFor, vectorFor, registersFor, fits, fresh}
+use Rattle.places.specs.Recorded.{listed, placeOf}
+use Rattle.places.specs.Steps.{IsFound}
 use Rattle.places.specs.Returns.{outside, returnIn, returnBy, returnOf, hiddenBy, hiddenFor}
-use Rattle.places.proofs.Fits.{fits-true, fits-false}
-
-clash : {A : Type 0} → _≡_ {A = Bool} true false → A
-clash e = absurd (let z : _≡_ {A = ℕ} 0 1 = cc in omega arith)
+use Rattle.places.proofs.Fits.{clash, fits-true, fits-false}
 
 -- ---- as the code goes
 

@@ -9,7 +9,8 @@ ghost use Rattle.types.specs.Decode.{tyAt};
 ghost use Rattle.classify.specs.Asks.{AskType};
 ghost use Rattle.places.specs.Shapes.{kindsOf, shapeOf};
 ghost use Rattle.places.specs.Places.{fresh, enough, place, next};
-ghost use Rattle.places.specs.Recorded.{eightbyteOf, listed, asked, Room, Small, IsTaken, IsPlaced, foundIf, IsFound, stackedAt};
+ghost use Rattle.places.specs.Recorded.{listed, asked, Room, Small, IsPlaced};
+ghost use Rattle.places.specs.Steps.{eightbyteOf, IsTaken, foundIf, IsFound, stackedAt};
 ghost use Rattle.places.specs.Returns.{outside, returnOf, hiddenBy};
 
 // What an eightbyte asks for: INTEGER, SSE, SSEUP.
