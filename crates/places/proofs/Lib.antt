@@ -1,0 +1,9 @@
+pub mod Fits
+pub mod Prefix
+pub mod Apart
+pub mod Offsets
+pub mod Numbers
+pub mod Records
+pub mod Guaranteed
+pub mod Returning
+pub mod Cases

@@ -1,0 +1,308 @@
+// The places of arguments (document 01, "Places"): registers by their number in their file, or a stack offset. `place_next` places one argument, and nothing else does.
+use classes::Class;
+use units::Bytes;
+use units::Registers;
+ghost use mathlib.Core.Path.{_≡_};
+ghost use mathlib.Core.List.{[], _∷_};
+ghost use Prim.Native.Nat.{_^_, _≤_};
+ghost use Rattle.types.specs.Decode.{tyAt};
+ghost use Rattle.classify.specs.Asks.{AskType};
+ghost use Rattle.places.specs.Shapes.{kindsOf, shapeOf};
+ghost use Rattle.places.specs.Places.{fresh, enough, place, next};
+ghost use Rattle.places.specs.Recorded.{listed, asked, Room, Small, IsPlaced};
+ghost use Rattle.places.specs.Steps.{eightbyteOf, IsTaken, foundIf, IsFound, stackedAt};
+ghost use Rattle.places.specs.Returns.{outside, returnOf, hiddenBy};
+
+// What an eightbyte asks for: INTEGER, SSE, SSEUP.
+pub enum Kind {
+    General,
+    Vector,
+    Upper,
+}
+
+// The kinds of an argument's eightbytes, or that its class sends it to the stack.
+pub enum Kinds {
+    Stack,
+    One(Kind),
+    Two(Kind, Kind),
+}
+
+// What places an argument.
+pub struct Shape {
+    pub kinds: Kinds,
+    pub size: Bytes,
+    pub align: Bytes,
+}
+
+// So many registers of its file stand before it: General(0) is rdi, Vector(0) xmm0, Upper(0) the upper half of xmm0. Of a
+// returned value, General(0) is rax and General(1) rdx.
+pub enum Register {
+    General(Registers),
+    Vector(Registers),
+    Upper(Registers),
+}
+
+// Registers in eightbyte order, or a stack offset.
+pub enum Place {
+    One(Register),
+    Two(Register, Register),
+    Stack(Bytes),
+}
+
+// What is used so far.
+pub struct Used {
+    pub general: Registers,
+    pub vector: Registers,
+    pub stack: Bytes,
+}
+
+// A place, and what is used after it.
+pub struct Placed {
+    pub place: Place,
+    pub used: Used,
+}
+
+pub enum ReturnPlace {
+    Void,
+    Memory,
+    One(Register),
+    Two(Register, Register),
+    St0,
+    St0St1,
+}
+
+// What one eightbyte asks for.
+enum Eightbyte {
+    Empty,
+    Asks(Kind),
+    OnStack,
+}
+
+// The register of one eightbyte, and what is used after it.
+struct Taken {
+    register: Register,
+    used: Used,
+}
+
+// Registers for each eightbyte, or not enough.
+enum Found {
+    Here(Placed),
+    Nowhere,
+}
+
+fn eightbyte_of(class: Class) -> Eightbyte
+    ensures { λ r. ⌜ r ≡ eightbyteOf class ⌝ }
+{
+    match class {
+        Class::NoClass => Eightbyte::Empty,
+        Class::Integer => Eightbyte::Asks(Kind::General),
+        Class::Sse => Eightbyte::Asks(Kind::Vector),
+        Class::SseUp => Eightbyte::Asks(Kind::Upper),
+        Class::X87 => Eightbyte::OnStack,
+        Class::X87Up => Eightbyte::OnStack,
+        Class::ComplexX87 => Eightbyte::OnStack,
+        Class::Memory => Eightbyte::OnStack,
+    }
+}
+
+// What the eightbytes of a value with these classes ask for.
+fn kinds_of(first: Class, second: Class) -> Kinds
+    ensures { λ r. ⌜ listed r ≡ kindsOf (first ∷ second ∷ []) ⌝ }
+{
+    let low = eightbyte_of(first);
+    let high = eightbyte_of(second);
+    match low {
+        Eightbyte::OnStack => Kinds::Stack,
+        Eightbyte::Empty => match high {
+            Eightbyte::OnStack => Kinds::Stack,
+            Eightbyte::Empty => Kinds::Stack,
+            Eightbyte::Asks(kind) => Kinds::One(kind),
+        },
+        Eightbyte::Asks(kind) => match high {
+            Eightbyte::OnStack => Kinds::Stack,
+            Eightbyte::Empty => Kinds::One(kind),
+            Eightbyte::Asks(other) => Kinds::Two(kind, other),
+        },
+    }
+}
+
+// What places an argument of type k.
+pub fn shape_of(d: &[u8], k: usize) -> Shape
+    requires { ⌜ AskType (now d) k 0 ⌝ }
+    ensures { λ r. ⌜ asked r ≡ shapeOf (tyAt (now (d .entry)) k) ⌝ }
+{
+    let classes = classify::classes_of(d, k);
+    let first = classes[0];
+    let second = classes[1];
+    let kinds = kinds_of(first, second);
+    let extent = types::size_of(d, k);
+    let size = extent.size;
+    let align = extent.align;
+    Shape {
+        kinds: kinds,
+        size: size,
+        align: align,
+    }
+}
+
+// Nothing is used, or rdi by the hidden address.
+pub fn fresh(hidden: bool) -> Used
+    ensures { λ r. ⌜ r ≡ fresh hidden ⌝ }
+{
+    let general = if hidden { Registers(1) } else { Registers(0) };
+    Used {
+        general: general,
+        vector: Registers(0),
+        stack: Bytes(0),
+    }
+}
+
+// The next register for one eightbyte, be there so many or not.
+fn take(used: Used, kind: Kind) -> Taken
+    requires { ⌜ (used .general .0 ≤ 7) × (used .vector .0 ≤ 9) ⌝ }
+    ensures { λ r. ⌜ IsTaken used kind r ⌝ }
+{
+    let general = used.general;
+    let vector = used.vector;
+    let stack = used.stack;
+    match kind {
+        Kind::General => Taken {
+            register: Register::General(general),
+            used: Used {
+                general: units::one_more(general),
+                vector: vector,
+                stack: stack,
+            },
+        },
+        Kind::Vector => Taken {
+            register: Register::Vector(vector),
+            used: Used {
+                general: general,
+                vector: units::one_more(vector),
+                stack: stack,
+            },
+        },
+        Kind::Upper => Taken {
+            register: Register::Upper(units::before_last(vector)),
+            used: used,
+        },
+    }
+}
+
+// Registers, where those used after them are no more than the six and the eight there are.
+fn if_enough(place: Place, used: Used) -> Found
+    ensures { λ r. ⌜ r ≡ foundIf (enough used) place used ⌝ }
+{
+    let general = used.general;
+    let vector = used.vector;
+    if !units::at_most(general, Registers(6)) {
+        return Found::Nowhere;
+    }
+    if !units::at_most(vector, Registers(8)) {
+        return Found::Nowhere;
+    }
+    Found::Here(Placed {
+        place: place,
+        used: used,
+    })
+}
+
+// A register for each eightbyte: "If any eightbyte finds no register", none.
+fn in_registers(used: Used, kinds: Kinds) -> Found
+    requires { ⌜ (used .general .0 ≤ 6) × (used .vector .0 ≤ 8) ⌝ }
+    ensures { λ r. ⌜ IsFound used (listed kinds) r ⌝ }
+{
+    match kinds {
+        Kinds::Stack => Found::Nowhere,
+        Kinds::One(kind) => {
+            let only = take(used, kind);
+            let register = only.register;
+            let after = only.used;
+            if_enough(Place::One(register), after)
+        }
+        Kinds::Two(kind, other) => {
+            let low = take(used, kind);
+            let high = take(low.used, other);
+            let first = low.register;
+            let second = high.register;
+            let after = high.used;
+            if_enough(Place::Two(first, second), after)
+        }
+    }
+}
+
+// On the stack: "the lowest offset, after the one before, that is a multiple of 8 and of its alignment; the room it takes is rounded up to 8".
+fn on_stack(used: Used, size: Bytes, align: Bytes) -> Placed
+    requires { ⌜ (used .stack .0 ≤ 2 ^ 20) × (size .0 ≤ 4096) × (align .0 ≤ 16) ⌝ }
+    ensures { λ r. ⌜ r ≡ stackedAt used (size .0) (align .0) ⌝ }
+{
+    let general = used.general;
+    let vector = used.vector;
+    let multiple = units::larger(Bytes(8), align);
+    let offset = units::raise_to(multiple, used.stack);
+    let end = units::raise_to(Bytes(8), units::plus(offset, size));
+    Placed {
+        place: Place::Stack(offset),
+        used: Used {
+            general: general,
+            vector: vector,
+            stack: end,
+        },
+    }
+}
+
+// The place of the next argument, and what is used after it. "If any eightbyte finds no register, the whole argument goes on the
+// stack and takes none."
+pub fn place_next(used: Used, shape: Shape) -> Placed
+    requires { ⌜ Room used × Small (asked shape) ⌝ }
+    ensures { λ r. ⌜ IsPlaced (place used (asked shape)) (next used (asked shape)) r ⌝ }
+{
+    let kinds = shape.kinds;
+    let size = shape.size;
+    let align = shape.align;
+    let answer = in_registers(used, kinds);
+    let Found::Here(placed) = answer else {
+        return on_stack(used, size, align);
+    };
+    placed
+}
+
+// Where a value without registers is returned.
+fn outside_registers(class: Class) -> ReturnPlace
+    ensures { λ r. ⌜ r ≡ outside class ⌝ }
+{
+    match class {
+        Class::NoClass => ReturnPlace::Void,
+        Class::Integer => ReturnPlace::Void,
+        Class::Sse => ReturnPlace::Void,
+        Class::SseUp => ReturnPlace::Void,
+        Class::X87 => ReturnPlace::St0,
+        Class::X87Up => ReturnPlace::Void,
+        Class::ComplexX87 => ReturnPlace::St0St1,
+        Class::Memory => ReturnPlace::Memory,
+    }
+}
+
+// Where a value with these classes is returned; void has none.
+pub fn return_place(first: Class, second: Class) -> ReturnPlace
+    ensures { λ r. ⌜ r ≡ returnOf (first ∷ second ∷ []) ⌝ }
+{
+    let kinds = kinds_of(first, second);
+    let answer = in_registers(fresh(false), kinds);
+    let Found::Here(placed) = answer else {
+        return outside_registers(first);
+    };
+    let place = placed.place;
+    match place {
+        Place::One(register) => ReturnPlace::One(register),
+        Place::Two(low, high) => ReturnPlace::Two(low, high),
+        Place::Stack(_) => ReturnPlace::Void,
+    }
+}
+
+// Whether a hidden address is passed for a returned value whose first class this is: "If the return type's class is MEMORY".
+pub fn hidden_for(first: Class) -> bool
+    ensures { λ r. ⌜ r ≡ hiddenBy first ⌝ }
+{
+    classes::is_same(first, Class::Memory)
+}
