@@ -1,0 +1,127 @@
+-- "The lister's case, and these, as first arguments of a function returning void unless said": each description, and its layout and placement records.
+-- Assumes nothing: these are definitions.
+use mathlib.Core.Bool.{Bool, true, false}
+use mathlib.Core.List.{List, [], _∷_}
+use Prim.Native.Nat.{ℕ}
+use Rattle.places.specs.declared.Used.{Used}
+use Rattle.places.specs.declared.Place.{Place}
+use Rattle.places.specs.declared.Place.the-variants.{One, Two, Stack}
+use Rattle.places.specs.declared.ReturnPlace.{ReturnPlace}
+use Rattle.places.specs.declared.ReturnPlace.the-variants.{Void, Memory as InMemory, One as InOne}
+use Rattle.places.specs.Cases.{rdi, rsi, rdx, rcx, r8, r9, xmm0, xmm1, xmm2, xmm3, xmm4, xmm5, xmm6, xmm7}
+use Rattle.layout.specs.declared.Layout.{Layout}
+use Rattle.layout.specs.declared.Placement.{Placement}
+use Rattle.cases.specs.Written.{array, struct, union, written, plain, char, int, long, int128, float, double, longDouble, m128, complexDouble}
+
+-- what is used: general registers, vector registers, stack bytes
+abbrev pub used : ℕ → ℕ → ℕ → Used
+used general vector stack = record { general = record { 0 = general }; vector = record { 0 = vector }; stack = record { 0 = stack } }
+
+-- a layout: what is used after all arguments, area, length of the values, return place, hidden address, and where a walk starts
+abbrev pub layout : Used → ℕ → ℕ → ReturnPlace → Bool → Used → Layout
+layout all area values returns hidden named =
+    record { used = all; area = record { 0 = area }; values = record { 0 = values }; returns = returns; hidden = hidden; named = named }
+
+-- a plain function that returns void: a walk would start behind all arguments
+abbrev pub plainLayout : Used → ℕ → ℕ → Layout
+plainLayout all area values = layout all area values Void false all
+
+-- type, size, alignment, place
+abbrev pub placed : ℕ → ℕ → ℕ → Place → Placement
+placed type size align place = record { ty = type; size = record { 0 = size }; align = record { 0 = align }; place = place }
+
+abbrev pub stack : ℕ → Place
+stack o = Stack (record { 0 = o })
+
+pub record Case : Type 0 where
+  pub bytes : List ℕ
+  pub laid : Layout
+  pub records : List Placement
+
+unfoldable pub cases : List Case
+cases =
+    -- the lister's case: int, struct of double and long, long double, unnamed double and __int128; returns double
+    record {
+      bytes = written 1 3 1 (int ∷ double ∷ long ∷ struct 0 2 ∷ longDouble ∷ int128 ∷ []) (1 ∷ 2 ∷ []) (0 ∷ 3 ∷ 4 ∷ 1 ∷ 5 ∷ []);
+      laid = layout (used 4 2 16) 16 60 (InOne xmm0) false (used 2 1 16);
+      records = placed 0 4 4 (One rdi) ∷ placed 3 16 8 (Two xmm0 rsi) ∷ placed 4 16 16 (stack 0) ∷ placed 1 8 8 (One xmm1) ∷ placed 5 16 16 (Two rdx rcx) ∷ [];
+    }
+    ∷
+    -- P1: int, double, then unnamed int, long double, double
+    record {
+      bytes = written 1 2 255 (int ∷ double ∷ longDouble ∷ []) [] (0 ∷ 1 ∷ 0 ∷ 2 ∷ 1 ∷ []);
+      laid = layout (used 2 2 16) 16 40 Void false (used 1 1 0);
+      records = placed 0 4 4 (One rdi) ∷ placed 1 8 8 (One xmm0) ∷ placed 0 4 4 (One rsi) ∷ placed 2 16 16 (stack 0) ∷ placed 1 8 8 (One xmm1) ∷ [];
+    }
+    ∷
+    -- P2: union of __int128 and long double
+    record {
+      bytes = plain (int128 ∷ longDouble ∷ union 0 2 ∷ []) (0 ∷ 1 ∷ []) (2 ∷ []);
+      laid = plainLayout (used 2 0 0) 0 16;
+      records = placed 2 16 16 (Two rdi rsi) ∷ [];
+    }
+    ∷
+    -- P3: union of int and long double
+    record {
+      bytes = plain (int ∷ longDouble ∷ union 0 2 ∷ []) (0 ∷ 1 ∷ []) (2 ∷ []);
+      laid = plainLayout (used 0 0 16) 16 16;
+      records = placed 2 16 16 (stack 0) ∷ [];
+    }
+    ∷
+    -- P4: union of float and long double
+    record {
+      bytes = plain (float ∷ longDouble ∷ union 0 2 ∷ []) (0 ∷ 1 ∷ []) (2 ∷ []);
+      laid = plainLayout (used 0 0 16) 16 16;
+      records = placed 2 16 16 (stack 0) ∷ [];
+    }
+    ∷
+    -- P5: union of __m128 and long
+    record {
+      bytes = plain (m128 ∷ long ∷ union 0 2 ∷ []) (0 ∷ 1 ∷ []) (2 ∷ []);
+      laid = plainLayout (used 1 1 0) 0 16;
+      records = placed 2 16 16 (Two rdi xmm0) ∷ [];
+    }
+    ∷
+    -- P6: union of __m128 and a struct of two doubles
+    record {
+      bytes = plain (m128 ∷ double ∷ struct 0 2 ∷ union 2 2 ∷ []) (1 ∷ 1 ∷ 0 ∷ 2 ∷ []) (3 ∷ []);
+      laid = plainLayout (used 0 2 0) 0 16;
+      records = placed 3 16 16 (Two xmm0 xmm1) ∷ [];
+    }
+    ∷
+    -- P7: five longs, __int128, long
+    record {
+      bytes = plain (long ∷ int128 ∷ []) [] (0 ∷ 0 ∷ 0 ∷ 0 ∷ 0 ∷ 1 ∷ 0 ∷ []);
+      laid = plainLayout (used 6 0 16) 16 64;
+      records = placed 0 8 8 (One rdi) ∷ placed 0 8 8 (One rsi) ∷ placed 0 8 8 (One rdx) ∷ placed 0 8 8 (One rcx) ∷ placed 0 8 8 (One r8) ∷ placed 1 16 16 (stack 0) ∷ placed 0 8 8 (One r9) ∷ [];
+    }
+    ∷
+    -- P8: seven longs, __int128
+    record {
+      bytes = plain (long ∷ int128 ∷ []) [] (0 ∷ 0 ∷ 0 ∷ 0 ∷ 0 ∷ 0 ∷ 0 ∷ 1 ∷ []);
+      laid = plainLayout (used 6 0 32) 32 72;
+      records = placed 0 8 8 (One rdi) ∷ placed 0 8 8 (One rsi) ∷ placed 0 8 8 (One rdx) ∷ placed 0 8 8 (One rcx) ∷ placed 0 8 8 (One r8) ∷ placed 0 8 8 (One r9) ∷ placed 0 8 8 (stack 0) ∷ placed 1 16 16 (stack 16) ∷ [];
+    }
+    ∷
+    -- P9: struct of a float and a struct of float and int
+    record {
+      bytes = plain (float ∷ int ∷ struct 0 2 ∷ struct 2 2 ∷ []) (0 ∷ 1 ∷ 0 ∷ 2 ∷ []) (3 ∷ []);
+      laid = plainLayout (used 1 1 0) 0 12;
+      records = placed 3 12 4 (Two xmm0 rdi) ∷ [];
+    }
+    ∷
+    -- P10: seven doubles, complex double, double
+    record {
+      bytes = plain (double ∷ complexDouble ∷ []) [] (0 ∷ 0 ∷ 0 ∷ 0 ∷ 0 ∷ 0 ∷ 0 ∷ 1 ∷ 0 ∷ []);
+      laid = plainLayout (used 0 8 16) 16 80;
+      records = placed 0 8 8 (One xmm0) ∷ placed 0 8 8 (One xmm1) ∷ placed 0 8 8 (One xmm2) ∷ placed 0 8 8 (One xmm3) ∷ placed 0 8 8 (One xmm4) ∷ placed 0 8 8 (One xmm5) ∷ placed 0 8 8 (One xmm6) ∷ placed 1 16 8 (stack 0) ∷ placed 0 8 8 (One xmm7) ∷ [];
+    }
+    ∷
+    -- P11: returns a struct of 17 chars, takes an int
+    record {
+      bytes = written 0 1 3 (char ∷ int ∷ array 0 17 ∷ struct 0 1 ∷ []) (2 ∷ []) (1 ∷ []);
+      laid = layout (used 2 0 0) 0 4 InMemory true (used 2 0 0);
+      records = placed 1 4 4 (One rsi) ∷ [];
+    }
+    ∷
+    []

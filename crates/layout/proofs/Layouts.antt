@@ -1,0 +1,174 @@
+-- The layout as a whole: what is used and how many bytes the values have after any number of arguments. Assumes nothing.
+use mathlib.Core.Path.{_≡_, refl, sym, ap, _∙_}
+use mathlib.Core.Bool.{Bool, true, false, cond}
+use mathlib.Core.List.{List, [], _∷_, _++_}
+use Prim.Native.Nat.{ℕ, zero, suc, _+_, _-_, _*_, _^_, _≤_, _<_}
+use native.Mathlib.Numerals.{add-one}
+use native.Mathlib.Omega.{arith}
+use borrow.Author.Tests.{eq-eqb, ne-eqb, eqb-true, ltb-true, ltb-false}
+use lib.Dec.{ltb, eqb}
+use Rattle.units.specs.Raise.{raise}
+use Rattle.description.specs.Description.{namedIn, argumentsIn}
+use Rattle.form.specs.declared.Refusal.{Refusal}
+use Rattle.form.specs.Reading.{refusalOf}
+use Rattle.uses.specs.Uses.{usesRefusal}
+use Rattle.uses.proofs.Uses.{accepted-typed}
+use Rattle.places.specs.declared.Used.{Used}
+use Rattle.places.specs.declared.ReturnPlace.{ReturnPlace}
+use Rattle.places.specs.Shapes.{Shape}
+use Rattle.places.specs.Places.{fresh, after, area}
+use Rattle.places.specs.Images.{total}
+use Rattle.places.proofs.Prefix.{total-append}
+use Rattle.layout.specs.Arguments.{shapesFrom, shapes, returnPlace, hidden, usedFirst, usedAt, areaOf}
+use Rattle.layout.specs.Asks.{Before, AskArguments, IsLaid}
+use Rattle.layout.specs.Verdict.{verdict}
+use Rattle.layout.specs.Layout.{valuesOf, layoutOf, layoutAnswer}
+use Rattle.layout.specs.declared.LayoutAnswer.the-variants.{Laid, Refused}
+use Rattle.layout.specs.declared.Layout.{Layout}
+use Rattle.layout.specs.declared.Laying.{Laying}
+use Rattle.layout.proofs.Arguments.{shapes-none, shapes-single, shapes-split, used-none, used-next, used-split}
+use Rattle.layout.proofs.Verdict.{ten, no-ten}
+use Rattle.layout.proofs.Bounds.{arguments-few, argument-small, before-next}
+
+pub fresh-before : (b : Bool) → Before 0 (fresh b)
+fresh-before true = omega arith
+fresh-before false = omega arith
+
+module _ (d : List ℕ) where
+  -- the bytes of the first n values
+  unfoldable pub valuesAt : ℕ → ℕ
+  valuesAt n = total (shapesFrom d 0 n)
+
+  values-next : (n : ℕ) → valuesAt (n + 1) ≡ valuesAt n + total (shapesFrom d n (n + 1 - n))
+  unfolding valuesAt
+  values-next n = ap total (shapes-split d n (n + 1) (omega arith)) ∙ total-append (shapesFrom d 0 n) (shapesFrom d n (n + 1 - n))
+
+  module _ (right : usesRefusal d ≡ 0) where
+    one-small : (n : ℕ) → n < argumentsIn d → total (shapesFrom d n (n + 1 - n)) ≤ 4096
+    one-small n l =
+        omega (arith, ap total (shapes-single d n), argument-small d right n l .size)
+
+    -- after n arguments
+    pub asks-at : (n m : ℕ) → n ≤ m → m ≤ argumentsIn d → AskArguments d n m (usedAt d n) (valuesAt n)
+    unfolding valuesAt
+    asks-at zero m h l = record {
+      right = right;
+      order = h;
+      there = l;
+      before = rw (used-none d) (fresh-before (hidden d));
+      sum = rw (shapes-none d 0) (omega arith);
+    }
+    asks-at (suc n) m h l =
+        let r = asks-at n m (omega arith) l in
+        rw (← add-one n)
+        (record {
+          right = right;
+          order = omega arith;
+          there = l;
+          before = rw (used-next d n) (before-next d right n (usedAt d n) (omega arith) (r .before));
+          sum = omega (arith, values-next n, one-small n (omega arith), r .sum);
+        })
+
+  -- what the code finds, from rdi on
+  module _ (b : Bool) (f : Used) (is : b ≡ hidden d) (e : f ≡ fresh b) where
+    start : f ≡ usedAt d 0
+    start = e ∙ ap fresh is ∙ sym (used-none d)
+
+    pub asks-first : usesRefusal d ≡ 0 → (n : ℕ) → n ≤ argumentsIn d → AskArguments d 0 n f 0
+    asks-first right n l = record { right = right; order = omega arith; there = l; before = rw e (fresh-before b); sum = omega arith }
+
+    pub laid-used : (n : ℕ) (r : Laying) → IsLaid f 0 (shapesFrom d 0 (n - 0)) r → r .used ≡ usedAt d n
+    laid-used n r h = h .used ∙ ap (λ (u : Used). after u (shapesFrom d 0 (n - 0))) start ∙ sym (used-split d 0 n (omega arith))
+
+    pub laid-values : (n : ℕ) (r : Laying) → IsLaid f 0 (shapesFrom d 0 (n - 0)) r → r .values .0 ≡ valuesAt n
+    unfolding valuesAt
+    laid-values n r h = let q : n - 0 ≡ n = omega arith in rw q at (h .values) ∙ omega arith
+
+    -- the named arguments first, and then the others
+    module _ (p r : Laying) (n m : ℕ) (named : n ≡ namedIn d) (all : m ≡ argumentsIn d) (h : IsLaid f 0 (shapesFrom d 0 (n - 0)) p) where
+      pub start-used : p .used ≡ usedAt d (namedIn d)
+      start-used = laid-used n p h ∙ ap (usedAt d) named
+
+      pub asks-rest : usesRefusal d ≡ 0 → AskArguments d n m (p .used) (p .values .0)
+      asks-rest right =
+          rw (laid-used n p h, laid-values n p h, named, all)
+          (asks-at right (namedIn d) (argumentsIn d) (accepted-typed d right .named) (omega arith))
+
+      module _ (right : usesRefusal d ≡ 0) (k : IsLaid (p .used) (p .values .0) (shapesFrom d n (m - n)) r) where
+        within : n ≤ m
+        within = omega (arith, accepted-typed d right .named)
+
+        pub whole-used : r .used ≡ usedAt d (argumentsIn d)
+        whole-used = k .used ∙ ap (λ (u : Used). after u (shapesFrom d n (m - n))) (laid-used n p h) ∙ sym (used-split d n m within) ∙ ap (usedAt d) all
+
+        pub whole-values : r .values .0 ≡ valuesAt (argumentsIn d)
+        unfolding valuesAt
+        whole-values =
+            k .values
+            ∙ ap (λ (v : ℕ). v + total (shapesFrom d n (m - n))) (laid-values n p h)
+            ∙ sym (ap total (shapes-split d n m within) ∙ total-append (shapesFrom d 0 n) (shapesFrom d n (m - n)))
+            ∙ ap (λ (j : ℕ). total (shapesFrom d 0 j)) all
+
+        pub whole-small : r .used .stack .0 + 16 ≤ 2 ^ 63
+        whole-small =
+            omega (
+              arith,
+              ap (λ (u : Used). u .stack .0) whole-used,
+              asks-at right (argumentsIn d) (argumentsIn d) (omega arith) (omega arith) .before .stack,
+              arguments-few d right,
+            )
+
+  pub layout-is : (r : Layout) → r .used ≡ usedAt d (argumentsIn d) → r .area .0 ≡ raise 16 (r .used .stack .0) → r .values .0 ≡ valuesAt (argumentsIn d)
+      → r .returns ≡ returnPlace d → r .hidden ≡ hidden d → r .named ≡ usedAt d (namedIn d) → r ≡ layoutOf d
+  unfolding layoutOf valuesOf valuesAt areaOf area usedAt
+  layout-is r u a v p q n =
+      let area : r .area .0 ≡ areaOf d = a ∙ ap (λ (x : Used). raise 16 (x .stack .0)) u in
+      λ i. record { used = u i; area = record { 0 = area i }; values = record { 0 = v i }; returns = p i; hidden = q i; named = n i }
+
+-- the answer
+answered : (d : List ℕ) (b : Bool) → eqb (verdict d) 0 ≡ b → layoutAnswer d ≡ cond b (Laid (layoutOf d)) (Refused (refusalOf (verdict d)))
+unfolding layoutAnswer
+answered d b e = rw e
+
+pub answer-laid : (d : List ℕ) (l : Layout) → l ≡ layoutOf d → verdict d ≡ 0 → Laid l ≡ layoutAnswer d
+answer-laid d l e v = ap Laid e ∙ sym (answered d true (eq-eqb (verdict d) 0 v))
+
+pub answer-refused : (d : List ℕ) (n : ℕ) (r : Refusal) → r ≡ refusalOf n → verdict d ≡ n → (n ≡ 0 → ⊥) → Refused r ≡ layoutAnswer d
+answer-refused d n r e v z = ap Refused (e ∙ ap refusalOf (sym v)) ∙ sym (answered d false (ne-eqb (verdict d) 0 (λ q. z (sym v ∙ q))))
+
+-- by the area that was found
+module _ (d : List ℕ) (right : usesRefusal d ≡ 0) (l : Layout) (is : l ≡ layoutOf d) where
+  area-is : l .area .0 ≡ areaOf d
+  unfolding layoutOf
+  area-is = ap (λ (k : Layout). k .area .0) is
+
+  pub answer-wide : (r : Refusal) → r ≡ refusalOf 10 → ltb 16384 (l .area .0) ≡ true → Refused r ≡ layoutAnswer d
+  answer-wide r e h = answer-refused d 10 r e (ten d right (omega (arith, area-is, ltb-true 16384 (l .area .0) h))) (λ z. omega arith)
+
+  pub answer-small : ltb 16384 (l .area .0) ≡ false → Laid l ≡ layoutAnswer d
+  answer-small h = answer-laid d l is (no-ten d right (omega (arith, area-is, ltb-false 16384 (l .area .0) h)))
+
+-- an answer that is known says which verdict there is
+pub laid-accepted : (d : List ℕ) (l : Layout) → layoutAnswer d ≡ Laid l → (verdict d ≡ 0) × (l ≡ layoutOf d)
+laid-accepted d l e = by (eqb (verdict d) 0) refl
+  where
+    by : (b : Bool) → eqb (verdict d) 0 ≡ b → (verdict d ≡ 0) × (l ≡ layoutOf d)
+    by true q = (eqb-true (verdict d) 0 q, let z : Laid l ≡ Laid (layoutOf d) = sym e ∙ answered d true q in cc)
+    by false q = absurd (let z : Laid l ≡ Refused (refusalOf (verdict d)) = sym e ∙ answered d false q in let f : _≡_ {A = ℕ} 0 1 = cc in omega arith)
+
+pub refused-verdict : (d : List ℕ) (r : Refusal) → layoutAnswer d ≡ Refused r → r ≡ refusalOf (verdict d)
+refused-verdict d r e = by (eqb (verdict d) 0) refl
+  where
+    by : (b : Bool) → eqb (verdict d) 0 ≡ b → r ≡ refusalOf (verdict d)
+    by true q = absurd (let z : Refused r ≡ Laid (layoutOf d) = sym e ∙ answered d true q in let f : _≡_ {A = ℕ} 0 1 = cc in omega arith)
+    by false q = let z : Refused r ≡ Refused (refusalOf (verdict d)) = sym e ∙ answered d false q in cc
+
+-- no answer is 0 and refused: a refusal that is passed on has a number
+pub refused-nonzero : (d : List ℕ) (r : Refusal) → layoutAnswer d ≡ Refused r → verdict d ≡ 0 → ⊥
+refused-nonzero d r e v =
+    let z : Refused r ≡ Laid (layoutOf d) = e′ in
+    let f : _≡_ {A = ℕ} 0 1 = cc in
+    omega arith
+  where
+    e′ : Refused r ≡ Laid (layoutOf d)
+    e′ = sym e ∙ answered d true (eq-eqb (verdict d) 0 v)

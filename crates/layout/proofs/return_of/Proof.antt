@@ -1,0 +1,56 @@
+-- `return_of` meets its contract.
+-- Assumes nothing.
+use mathlib.Core.Path.{_≡_, sym, ap, _∙_}
+use Prim.Native.Nat.{ℕ}
+use native.Mathlib.Omega.{arith}
+use borrow.Author.Needs.{needs}
+use denote.Ref.{now}
+use Rattle.layout.proofs.Bounds.{type-asked}
+use Rattle.layout.proofs.Steps.{return-void, return-known, return-some, hidden-some}
+use Rattle.description.specs.Description.{returnIn}
+use Rattle.types.specs.Decode.{tyAt}
+use Rattle.classify.specs.Classify.{classesOf}
+use Rattle.uses.proofs.Uses.{accepted-typed}
+use Rattle.layout.proofs.return_of.Statement.{statement}
+use Rattle.layout.proofs.return_of.Tie as tie
+
+byte-at-requires : tie.Need-byte-at-requires
+byte-at-requires c κs = omega (arith, accepted-typed (now (c .before .args .d)) (c .before .pre) .whole .headed)
+
+returns : tie.Need-returns
+returns c = return-void (now (c .before .before .before .args .d)) (sym (c .before .byte-at .ensures .0) ∙ c .if1 .taken)
+
+classes-of-requires : tie.Need-classes-of-requires
+classes-of-requires c κs = rw (c .before .byte-at .ensures .0) (type-asked (now (c .before .before .before .args .d)) (c .before .before .before .pre) _ (return-known (now (c .before .before .before .args .d)) (c .before .before .before .pre) (λ e. c .if1 .left (c .before .byte-at .ensures .0 ∙ e))))
+
+array-copy-out-first : tie.Need-array-copy-out-first
+array-copy-out-first c = search needs
+
+array-copy-out-second : tie.Need-array-copy-out-second
+array-copy-out-second c = search needs
+
+return-place-requires : tie.Need-return-place-requires
+return-place-requires c κs = search needs
+
+hidden-for-requires : tie.Need-hidden-for-requires
+hidden-for-requires c κs = search needs
+
+returns-2 : tie.Need-returns-2
+returns-2 c =
+    let d = now (c .before .before .before .before .before .before .before .before .args .d) in
+    let n : returnIn d ≡ 255 → ⊥ = λ e. c .before .before .before .before .before .if1 .left (c .before .before .before .before .before .before .byte-at .ensures .0 ∙ e) in
+    let is = c .before .before .before .before .classes-of .ensures ∙ ap (λ (k : ℕ). classesOf (tyAt d k)) (c .before .before .before .before .before .before .byte-at .ensures .0) in
+    (return-some d n (c .before .before .before .before .classes-of .result) is _ (c .before .return-place .ensures), hidden-some d n (c .before .before .before .before .classes-of .result) is _ (c .hidden-for .ensures))
+
+pub return-of-spec : {M : Type 1} → statement M
+return-of-spec =
+    tie.close
+    (tie.spec
+    byte-at-requires
+    returns
+    classes-of-requires
+    array-copy-out-first
+    array-copy-out-second
+    return-place-requires
+    hidden-for-requires
+    returns-2)

@@ -1,0 +1,53 @@
+-- The arguments of a description and what it returns, as `places` takes them. Assumes nothing: these are definitions.
+use mathlib.Core.Bool.{Bool, cond, not, _&&_}
+use mathlib.Core.List.{List, [], _∷_}
+use Prim.Native.Nat.{ℕ, zero, suc, _+_}
+use lib.Dec.{eqb}
+use Rattle.description.specs.Description.{namedIn, argumentsIn, returnIn, argumentAt}
+use Rattle.types.specs.Decode.{tyAt}
+use Rattle.classes.specs.declared.Class.{Class}
+use Rattle.classify.specs.Classify.{classesOf}
+use Rattle.places.specs.declared.Used.{Used}
+use Rattle.places.specs.declared.ReturnPlace.{ReturnPlace}
+use Rattle.places.specs.declared.ReturnPlace.the-variants.{Void}
+use Rattle.places.specs.Shapes.{Shape, shapeOf}
+use Rattle.places.specs.Places.{fresh, after, area}
+use Rattle.places.specs.Returns.{returnOf, hiddenFor}
+
+-- what places argument i
+unfoldable pub shapeAt : List ℕ → ℕ → Shape
+shapeAt d i = shapeOf (tyAt d (argumentAt d i))
+
+-- the same of n arguments from the i-th on
+unfoldable pub shapesFrom : List ℕ → ℕ → ℕ → List Shape
+shapesFrom d i zero = []
+shapesFrom d i (suc n) = shapeAt d i ∷ shapesFrom d (i + 1) n
+
+-- of all arguments
+abbrev pub shapes : List ℕ → List Shape
+shapes d = shapesFrom d 0 (argumentsIn d)
+
+-- "Byte 9: return type number, 255 for void"
+unfoldable pub isVoid : List ℕ → Bool
+isVoid d = eqb (returnIn d) 255
+
+abbrev pub returnClasses : List ℕ → List Class
+returnClasses d = classesOf (tyAt d (returnIn d))
+
+unfoldable pub returnPlace : List ℕ → ReturnPlace
+returnPlace d = cond (isVoid d) Void (returnOf (returnClasses d))
+
+-- "If the return type's class is MEMORY, a hidden address takes rdi first"
+unfoldable pub hidden : List ℕ → Bool
+hidden d = not (isVoid d) && hiddenFor (returnClasses d)
+
+-- what is used where no argument is placed yet, and after the first i arguments
+abbrev pub usedFirst : List ℕ → Used
+usedFirst d = fresh (hidden d)
+
+unfoldable pub usedAt : List ℕ → ℕ → Used
+usedAt d i = after (usedFirst d) (shapesFrom d 0 i)
+
+-- "The stack image is the rounded area"
+unfoldable pub areaOf : List ℕ → ℕ
+areaOf d = area (usedFirst d) (shapes d)

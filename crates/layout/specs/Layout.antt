@@ -1,0 +1,39 @@
+-- What a layout answers: registers used, vector count, area, length of the packed values, return place, walk start.
+-- Assumes nothing: these are definitions.
+use mathlib.Core.Bool.{cond}
+use mathlib.Core.List.{List}
+use Prim.Native.Nat.{ℕ}
+use lib.Dec.{eqb}
+use Rattle.description.specs.Description.{namedIn, argumentsIn}
+use Rattle.form.specs.Reading.{refusalOf}
+use Rattle.places.specs.Images.{total}
+use Rattle.layout.specs.Arguments.{shapes, returnPlace, hidden, usedAt, areaOf}
+use Rattle.layout.specs.Verdict.{verdict}
+use Rattle.layout.specs.declared.Layout.{Layout}
+use Rattle.layout.specs.declared.LayoutAnswer.{LayoutAnswer}
+use Rattle.layout.specs.declared.LayoutAnswer.the-variants.{Laid, Refused}
+
+-- "Values come packed, argument after argument, size bytes each, no gaps"
+unfoldable pub valuesOf : List ℕ → ℕ
+valuesOf d = total (shapes d)
+
+-- "registers used (hidden address included), vector count" are those used after all arguments; a walk starts with "the offsets
+-- after the named arguments (and hidden address)"
+unfoldable pub layoutOf : List ℕ → Layout
+layoutOf d = record {
+  used = usedAt d (argumentsIn d);
+  area = record { 0 = areaOf d };
+  values = record { 0 = valuesOf d };
+  returns = returnPlace d;
+  hidden = hidden d;
+  named = usedAt d (namedIn d);
+}
+
+-- "1..10"
+unfoldable pub layoutAnswer : List ℕ → LayoutAnswer
+layoutAnswer d = cond (eqb (verdict d) 0) (Laid (layoutOf d)) (Refused (refusalOf (verdict d)))
+
+-- the paper's number of an answer: 0 where it is accepted
+abbrev pub numberOf : LayoutAnswer → ℕ
+numberOf (Laid l) = 0
+numberOf (Refused r) = r .number

@@ -1,0 +1,33 @@
+-- What is said of an accepted description's layout. Assumes nothing: these are definitions.
+use mathlib.Core.Path.{_≡_}
+use mathlib.Core.List.{List, [], _∷_, _++_}
+use Prim.Native.Nat.{ℕ, zero, suc, _+_, _*_, _%_, _≤_, _<_}
+use lib.ListN.{length}
+use Rattle.description.specs.Description.{typesIn, argumentsIn}
+use Rattle.types.specs.Basic.{lp64}
+use Rattle.types.specs.Size.{sizeTy, alignTy}
+use Rattle.types.specs.Decode.{tyAt}
+use Rattle.places.specs.Shapes.{Alignment}
+use Rattle.places.specs.Images.{bytesOf}
+use Rattle.places.specs.Recorded.{placeOf}
+use Rattle.layout.specs.Arguments.{shapeAt, usedAt, areaOf}
+use Rattle.layout.specs.Layout.{valuesOf}
+use Rattle.layout.specs.Placements.{placementAt}
+
+-- the bounds of all that an accepted description can ask for
+pub record Bounded (d : List ℕ) : Type 0 where
+  pub short : length d ≤ 586
+  pub filled : (k : ℕ) → k < typesIn d → 1 ≤ sizeTy lp64 (tyAt d k)
+  pub small : (k : ℕ) → k < typesIn d → sizeTy lp64 (tyAt d k) ≤ 4096
+  pub whole : (k : ℕ) → k < typesIn d → sizeTy lp64 (tyAt d k) % alignTy lp64 (tyAt d k) ≡ 0
+  pub aligned : (i : ℕ) → i < argumentsIn d → Alignment (shapeAt d i .align)
+  pub general : usedAt d (argumentsIn d) .general .0 ≤ 6
+  pub vector : usedAt d (argumentsIn d) .vector .0 ≤ 8
+  pub area : areaOf d ≤ 16384
+  pub sixteens : areaOf d % 16 ≡ 0
+  pub values : valuesOf d ≤ 4096 * argumentsIn d
+
+-- the addresses of the bytes of n records from the i-th on, one record after the other
+unfoldable pub recordAddresses : List ℕ → ℕ → ℕ → List ℕ
+recordAddresses d i zero = []
+recordAddresses d i (suc n) = bytesOf (placeOf (placementAt d i .place)) (placementAt d i .size .0) ++ recordAddresses d (i + 1) n
