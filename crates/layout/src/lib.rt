@@ -51,10 +51,10 @@ pub struct Step {
 }
 
 // Before the first record: the answer, how many records there are, none for a refusal, and what is used.
-struct Begun {
-    answer: LayoutAnswer,
-    count: usize,
-    used: Used,
+pub struct Begun {
+    pub answer: LayoutAnswer,
+    pub count: usize,
+    pub used: Used,
 }
 
 // Where a value is returned, and whether a hidden address is passed for it.
@@ -203,8 +203,9 @@ pub fn check(d: &[u8]) -> Refusal
     }
 }
 
-// Decides whether a list of `room` records is to be filled: 1 to 10, then 11 for a list that is shorter than A.
-fn begin(d: &[u8], room: usize) -> Begun
+// Decides whether a list of `room` records is to be filled: 1 to 10, then 11 for a list that is shorter than A. With
+// `place_argument` it serves a caller that has no list to lend.
+pub fn begin(d: &[u8], room: usize) -> Begun
     ensures { λ r. ⌜ (r ≡ begunOf (now (d .entry)) room) × (r .count ≤ room) ⌝ }
 {
     let answer = layout_of(d);
