@@ -1,0 +1,174 @@
+-- What the two calls answer and leave, from what they call. Assumes nothing.
+use mathlib.Core.Path.{_≡_, refl, sym, ap, ap₂, _∙_}
+use mathlib.Core.Bool.{Bool, true, false, cond}
+use mathlib.Core.List.{List, [], _∷_, _++_, append-assoc}
+use Prim.Native.Nat.{ℕ, _+_, _≤_, _<_}
+use native.Mathlib.Omega.{arith}
+use borrow.Author.Tests.{eq-eqb, ne-eqb}
+use lib.Dec.{eqb}
+use lib.ListN.{length, take, drop, replicate, length-append, replicate-append-replicate}
+use lib.Seq.{take-at, drop-at}
+use Rattle.addresses.specs.Addresses.{scatter, gather}
+use Rattle.addresses.specs.Copy.{cleared}
+use Rattle.addresses.proofs.Runs.{all-run}
+use Rattle.addresses.proofs.Parts.{gather-left}
+use Rattle.units.specs.declared.Registers.{Registers}
+use Rattle.description.specs.Description.{argumentsIn}
+use Rattle.form.specs.declared.Refusal.{Refusal}
+use Rattle.form.specs.Reading.{refusalOf}
+use Rattle.places.specs.Places.{fresh}
+use Rattle.places.specs.declared.Used.{Used}
+use Rattle.layout.specs.declared.Layout.{Layout}
+use Rattle.layout.specs.declared.LayoutAnswer.the-variants.{Laid, Refused}
+use Rattle.layout.specs.Arguments.{hidden, usedFirst, usedAt, areaOf}
+use Rattle.layout.specs.Layout.{layoutOf, layoutAnswer}
+use Rattle.layout.specs.Verdict.{verdict}
+use Rattle.layout.proofs.Layouts.{laid-accepted, refused-verdict, refused-nonzero}
+use Rattle.images.specs.Words.{littleEndian, number, rdi, withAddress, addressIn}
+use Rattle.moving.specs.Images.{addressesOf, blankBy, placed, gathered, hiddenIn}
+use Rattle.moving.specs.Orders.{wrongLength, firstBroken, placeRefusal, gatherRefusal}
+use Rattle.moving.specs.Answers.{placeAnswer, registersAfter, stackAfter, gatherAnswer, valuesAfter}
+use Rattle.moving.specs.Asks.{Lent}
+use Rattle.moving.specs.declared.PlaceAnswer.{PlaceAnswer}
+use Rattle.moving.specs.declared.PlaceAnswer.the-variants.{Placed, Refused as NotPlaced}
+use Rattle.moving.specs.declared.GatherAnswer.{GatherAnswer}
+use Rattle.moving.specs.declared.GatherAnswer.the-variants.{Gathered, Refused as NotGathered}
+use Rattle.moving.proofs.Orders.{right-lent, place-verdict, place-eleven, place-twelve, place-none, gather-verdict, gather-eleven, gather-accepted, broken-holds, broken-none}
+
+-- ---- the images before the first argument
+
+zeros-two : (n m : ℕ) → _≡_ {A = List ℕ} (replicate n 0 ++ replicate m 0) (replicate (n + m) 0)
+zeros-two n m = replicate-append-replicate n m 0
+
+pub blank-unused : (h : ℕ) (r s r′ s′ : List ℕ) → length r ≡ 176 → r′ ≡ cleared r → s′ ≡ cleared s → r′ ++ s′ ≡ blankBy false h (length s)
+unfolding cleared blankBy
+blank-unused h r s r′ s′ l e f =
+    let q : 176 + length s ≡ 8 + (168 + length s) = omega arith in
+    rw (e, f, l) (zeros-two 176 (length s) ∙ ap (λ (n : ℕ). replicate n 0) q ∙ sym (zeros-two 8 (168 + length s)))
+
+address-zeros : (h : ℕ) → withAddress (replicate 176 0) h ≡ littleEndian 8 h ++ replicate 168 0
+unfolding withAddress
+address-zeros h = refl
+
+pub blank-used : (h : ℕ) (r s r′ s′ r″ : List ℕ) → length r ≡ 176 → r′ ≡ cleared r → s′ ≡ cleared s → r″ ≡ withAddress r′ h → r″ ++ s′ ≡ blankBy true h (length s)
+unfolding cleared blankBy
+blank-used h r s r′ s′ r″ l e f g =
+    rw (g, e, f, l, address-zeros h) (append-assoc (littleEndian 8 h) (replicate 168 0) (replicate (length s) 0) ∙ ap (λ (x : List ℕ). littleEndian 8 h ++ x) (zeros-two 168 (length s)))
+
+-- all of both images
+pub filled-images : (d : List ℕ) (b : Bool) (h : ℕ) (vals s img jmg : List ℕ) → b ≡ hidden d → length s ≡ areaOf d
+    → img ≡ blankBy b h (length s) → jmg ≡ scatter img (addressesOf d) vals → jmg ≡ placed d h vals
+unfolding placed
+filled-images d b h vals s img jmg e l f g =
+    g ∙ ap (λ (x : List ℕ). scatter x (addressesOf d) vals) (f ∙ ap₂ (λ (y : Bool) (n : ℕ). blankBy y h n) e l)
+
+-- ---- placing
+
+module _ (d : List ℕ) (h : ℕ) (vals r s : List ℕ) where
+  abbrev pub PlaceEnd : PlaceAnswer → List ℕ → List ℕ → Type 0
+  PlaceEnd x r′ s′ = (x ≡ placeAnswer d vals (length r) (length s)) × ((r′ ≡ registersAfter d h vals r s) × (s′ ≡ stackAfter d h vals r s))
+
+  place-refused : (x : Refusal) (n : ℕ) → x .number ≡ n → placeRefusal d vals (length r) (length s) ≡ n → (n ≡ 0 → ⊥) → PlaceEnd (NotPlaced x) r s
+  unfolding placeAnswer registersAfter stackAfter refusalOf
+  place-refused x n e f z =
+      let q = ne-eqb (placeRefusal d vals (length r) (length s)) 0 (λ p. z (sym f ∙ p)) in
+      let g = e ∙ sym f in
+      (rw q (λ i. NotPlaced (record { number = g i })), (rw q, rw q))
+
+  -- 1 to 10
+  pub place-laid-not : (x y : Refusal) → layoutAnswer d ≡ Refused y → x .number ≡ y .number → PlaceEnd (NotPlaced x) r s
+  unfolding refusalOf
+  place-laid-not x y a e =
+      let number : y .number ≡ verdict d = ap (λ (z : Refusal). z .number) (refused-verdict d y a) in
+      let nonzero = refused-nonzero d y a in
+      place-refused x (verdict d) (e ∙ number) (place-verdict d vals (length r) (length s) nonzero) nonzero
+
+  module _ (l : Layout) (laid : layoutAnswer d ≡ Laid l) where
+    same-lengths : (b : Bool) → wrongLength l (length vals) (length r) (length s) ≡ b → wrongLength (layoutOf d) (length vals) (length r) (length s) ≡ b
+    same-lengths b e = ap (λ (x : Layout). wrongLength x (length vals) (length r) (length s)) (sym (laid-accepted d l laid .1)) ∙ e
+
+    pub place-wrong-length : (x : Refusal) → x ≡ refusalOf 11 → wrongLength l (length vals) (length r) (length s) ≡ true → PlaceEnd (NotPlaced x) r s
+    unfolding refusalOf
+    place-wrong-length x e w =
+        place-refused x 11 (ap (λ (z : Refusal). z .number) e) (place-eleven d vals (length r) (length s) (laid-accepted d l laid .0) (same-lengths true w)) (λ z. omega arith)
+
+    module _ (w : wrongLength l (length vals) (length r) (length s) ≡ false) where
+      pub place-lengths : Lent d (length vals) (length r) (length s)
+      place-lengths = right-lent d (length vals) (length r) (length s) (laid-accepted d l laid .0) (same-lengths false w)
+
+      pub place-hidden : l .hidden ≡ hidden d
+      unfolding layoutOf
+      place-hidden = ap (λ (x : Layout). x .hidden) (laid-accepted d l laid .1)
+
+      module _ (n m : ℕ) (found : n ≡ firstBroken d vals) (all : m ≡ argumentsIn d) where
+        pub place-wrong-bool : (x : Refusal) → x ≡ refusalOf 12 → n < m → PlaceEnd (NotPlaced x) r s
+        unfolding refusalOf
+        place-wrong-bool x e t =
+            place-refused x 12 (ap (λ (z : Refusal). z .number) e) (place-twelve d vals (length r) (length s) place-lengths (broken-holds d vals (omega (arith, found, all)))) (λ z. omega arith)
+
+        pub place-done : (r″ s″ : List ℕ) → m ≤ n → length r″ ≡ length r → r″ ++ s″ ≡ placed d h vals → PlaceEnd (Placed (l .used .vector)) r″ s″
+        unfolding placeAnswer registersAfter stackAfter layoutOf
+        place-done r″ s″ t k img =
+            let none = place-none d vals (length r) (length s) place-lengths (broken-none d vals (omega (arith, found, all))) in
+            let q = eq-eqb (placeRefusal d vals (length r) (length s)) 0 none in
+            let long : length r″ ≡ 176 = k ∙ place-lengths .registers in (
+              rw q (ap Placed (ap (λ (x : Layout). x .used .vector) (laid-accepted d l laid .1))),
+              (rw q (sym (take-at r″ s″ 176 long) ∙ ap (take 176) img), rw q (sym (drop-at r″ s″ 176 long) ∙ ap (drop 176) img)),
+            )
+
+-- ---- gathering
+
+module _ (d r s v : List ℕ) where
+  abbrev pub GatherEnd : GatherAnswer → List ℕ → Type 0
+  GatherEnd x v′ = (x ≡ gatherAnswer d r s (length v)) × (v′ ≡ valuesAfter d r s v)
+
+  gather-refused : (x : Refusal) (n : ℕ) → x .number ≡ n → gatherRefusal d (length v) (length r) (length s) ≡ n → (n ≡ 0 → ⊥) → GatherEnd (NotGathered x) v
+  unfolding gatherAnswer valuesAfter refusalOf
+  gather-refused x n e f z =
+      let q = ne-eqb (gatherRefusal d (length v) (length r) (length s)) 0 (λ p. z (sym f ∙ p)) in
+      let g = e ∙ sym f in
+      (rw q (λ i. NotGathered (record { number = g i })), rw q)
+
+  pub gather-laid-not : (x y : Refusal) → layoutAnswer d ≡ Refused y → x .number ≡ y .number → GatherEnd (NotGathered x) v
+  unfolding refusalOf
+  gather-laid-not x y a e =
+      let number : y .number ≡ verdict d = ap (λ (z : Refusal). z .number) (refused-verdict d y a) in
+      let nonzero = refused-nonzero d y a in
+      gather-refused x (verdict d) (e ∙ number) (gather-verdict d (length v) (length r) (length s) nonzero) nonzero
+
+  module _ (l : Layout) (laid : layoutAnswer d ≡ Laid l) where
+    same-lengths-2 : (b : Bool) → wrongLength l (length v) (length r) (length s) ≡ b → wrongLength (layoutOf d) (length v) (length r) (length s) ≡ b
+    same-lengths-2 b e = ap (λ (x : Layout). wrongLength x (length v) (length r) (length s)) (sym (laid-accepted d l laid .1)) ∙ e
+
+    pub gather-wrong-length : (x : Refusal) → x ≡ refusalOf 11 → wrongLength l (length v) (length r) (length s) ≡ true → GatherEnd (NotGathered x) v
+    unfolding refusalOf
+    gather-wrong-length x e w =
+        gather-refused x 11 (ap (λ (z : Refusal). z .number) e) (gather-eleven d (length v) (length r) (length s) (laid-accepted d l laid .0) (same-lengths-2 true w)) (λ z. omega arith)
+
+    module _ (w : wrongLength l (length v) (length r) (length s) ≡ false) where
+      pub gather-lengths : Lent d (length v) (length r) (length s)
+      gather-lengths = right-lent d (length v) (length r) (length s) (laid-accepted d l laid .0) (same-lengths-2 false w)
+
+      pub gather-first : (b : Bool) (u : Used) → b ≡ l .hidden → u ≡ fresh b → u ≡ usedFirst d
+      unfolding layoutOf
+      gather-first b u e f = f ∙ ap fresh (e ∙ ap (λ (x : Layout). x .hidden) (laid-accepted d l laid .1))
+
+      gather-done : (x : ℕ) (v′ : List ℕ) → x ≡ hiddenIn d (r ++ s) → v′ ≡ gathered d (r ++ s) → GatherEnd (Gathered x) v′
+      unfolding gatherAnswer valuesAfter
+      gather-done x v′ e f =
+          let q = eq-eqb (gatherRefusal d (length v) (length r) (length s)) 0 (gather-accepted d (length v) (length r) (length s) .1 gather-lengths) in
+          (rw q (ap Gathered e), rw q f)
+
+      is-hidden : (b : Bool) → l .hidden ≡ b → hidden d ≡ b
+      unfolding layoutOf
+      is-hidden b e = sym (ap (λ (x : Layout). x .hidden) (laid-accepted d l laid .1)) ∙ e
+
+      pub gather-none : (v′ : List ℕ) → l .hidden ≡ false → v′ ≡ gathered d (r ++ s) → GatherEnd (Gathered 0) v′
+      unfolding hiddenIn
+      gather-none v′ e f = gather-done 0 v′ (rw (is-hidden false e)) f
+
+      pub gather-address : (x : ℕ) (v′ : List ℕ) → l .hidden ≡ true → x ≡ addressIn r → v′ ≡ gathered d (r ++ s) → GatherEnd (Gathered x) v′
+      unfolding hiddenIn addressIn
+      gather-address x v′ e g f =
+          let long : length r ≡ 176 = gather-lengths .registers in
+          gather-done x v′ (rw (is-hidden true e) (g ∙ ap number (sym (gather-left rdi r s (all-run {P = λ p. p < length r} 0 8 (λ k m n. omega arith)))))) f

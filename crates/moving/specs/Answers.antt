@@ -1,0 +1,46 @@
+-- What placing and gathering answer, and what they leave in the lent buffers: document 01, "A refusal returns its number only and writes
+-- nothing". Assumes nothing: these are definitions.
+use mathlib.Core.Bool.{cond}
+use mathlib.Core.List.{List, _++_}
+use Prim.Native.Nat.{ℕ}
+use lib.Dec.{eqb}
+use lib.ListN.{length, take, drop}
+use Rattle.description.specs.Description.{argumentsIn}
+use Rattle.form.specs.Reading.{refusalOf}
+use Rattle.layout.specs.Arguments.{usedAt}
+use Rattle.moving.specs.Images.{placed, gathered, hiddenIn}
+use Rattle.moving.specs.Orders.{placeRefusal, gatherRefusal}
+use Rattle.moving.specs.declared.PlaceAnswer.{PlaceAnswer}
+use Rattle.moving.specs.declared.PlaceAnswer.the-variants.{Placed, Refused as NotPlaced}
+use Rattle.moving.specs.declared.GatherAnswer.{GatherAnswer}
+use Rattle.moving.specs.declared.GatherAnswer.the-variants.{Gathered, Refused as NotGathered}
+
+-- "The vector count (for al) is the number of vector registers used"
+unfoldable pub placeAnswer : List ℕ → List ℕ → ℕ → ℕ → PlaceAnswer
+placeAnswer d vals registers stack =
+    cond (eqb (placeRefusal d vals registers stack) 0) (Placed (usedAt d (argumentsIn d) .vector)) (NotPlaced (refusalOf (placeRefusal d vals registers stack)))
+
+-- the register image and the stack image at exit, r and s at entry
+unfoldable pub registersAfter : List ℕ → ℕ → List ℕ → List ℕ → List ℕ → List ℕ
+registersAfter d h vals r s = cond (eqb (placeRefusal d vals (length r) (length s)) 0) (take 176 (placed d h vals)) r
+
+unfoldable pub stackAfter : List ℕ → ℕ → List ℕ → List ℕ → List ℕ → List ℕ
+stackAfter d h vals r s = cond (eqb (placeRefusal d vals (length r) (length s)) 0) (drop 176 (placed d h vals)) s
+
+-- the hidden address, 0 where none is used
+unfoldable pub gatherAnswer : List ℕ → List ℕ → List ℕ → ℕ → GatherAnswer
+gatherAnswer d r s values =
+    cond (eqb (gatherRefusal d values (length r) (length s)) 0) (Gathered (hiddenIn d (r ++ s))) (NotGathered (refusalOf (gatherRefusal d values (length r) (length s))))
+
+-- the values at exit, v at entry
+unfoldable pub valuesAfter : List ℕ → List ℕ → List ℕ → List ℕ → List ℕ
+valuesAfter d r s v = cond (eqb (gatherRefusal d (length v) (length r) (length s)) 0) (gathered d (r ++ s)) v
+
+-- the paper's number of an answer: 0 where it is accepted
+abbrev pub placeNumber : PlaceAnswer → ℕ
+placeNumber (Placed n) = 0
+placeNumber (NotPlaced r) = r .number
+
+abbrev pub gatherNumber : GatherAnswer → ℕ
+gatherNumber (Gathered h) = 0
+gatherNumber (NotGathered r) = r .number
