@@ -1,0 +1,58 @@
+-- What the chapters before say of a description's bytes, as one record, so that station and walk are defined for any such paper;
+-- `kcb` is document 01's. Assumes nothing: these are definitions.
+use mathlib.Core.Bool.{Bool}
+use mathlib.Core.List.{List, [], map}
+use Prim.Native.Nat.{ℕ}
+use lib.Dec.{eqb}
+use lib.ListN.{length, getD, take}
+use Rattle.addresses.specs.Addresses.{run}
+use Rattle.description.specs.Description.{variadicIn, namedIn, argumentsIn, argumentAt}
+use Rattle.form.specs.Order.{first, numbered}
+use Rattle.places.specs.declared.Used.{Used}
+use Rattle.places.specs.Shapes.{Shape}
+use Rattle.places.specs.Places.{fresh, after, area}
+use Rattle.layout.specs.Arguments.{shapes as layoutShapes, hidden as layoutHidden}
+use Rattle.layout.specs.Verdict.{verdictConditions}
+
+pub record Paper : Type 0 where
+  pub conditions : List ℕ → List Bool  -- of refusals 1 to 10, in order
+  pub variadic : List ℕ → Bool
+  pub hidden : List ℕ → Bool  -- a hidden address takes rdi
+  pub named : List ℕ → ℕ  -- N
+  pub types : List ℕ → List ℕ  -- each argument's type number
+  pub shapes : List ℕ → List Shape  -- what places each argument
+
+module _ (P : Paper) where
+  -- 1 to 10, or 0
+  unfoldable pub verdictOf : List ℕ → ℕ
+  verdictOf d = first (numbered 1 (P .conditions d))
+
+  -- A
+  unfoldable pub arguments : List ℕ → ℕ
+  arguments d = length (P .shapes d)
+
+  unfoldable pub shapeAt : List ℕ → ℕ → Shape
+  shapeAt d p = getD (P .shapes d) p (record { kinds = []; size = 0; align = 1 })
+
+  -- 255 is no type's number
+  unfoldable pub typeAt : List ℕ → ℕ → ℕ
+  typeAt d p = getD (P .types d) p 255
+
+  -- what the hidden address and the first p arguments take
+  unfoldable pub usedAt : List ℕ → ℕ → Used
+  usedAt d p = after (fresh (P .hidden d)) (take p (P .shapes d))
+
+  -- "The stack image is the rounded area"
+  unfoldable pub areaOf : List ℕ → ℕ
+  areaOf d = area (fresh (P .hidden d)) (P .shapes d)
+
+-- document 01's own: "Byte 6: 0, or 1 for a variadic function", N, and the arguments in their order
+unfoldable pub kcb : Paper
+kcb = record {
+  conditions = verdictConditions;
+  variadic = λ d. eqb (variadicIn d) 1;
+  hidden = layoutHidden;
+  named = namedIn;
+  types = λ d. map (argumentAt d) (run 0 (argumentsIn d));
+  shapes = layoutShapes;
+}

@@ -1,0 +1,121 @@
+-- Section 3.5.7, counted in bytes, fetches each argument where the layout, counted in registers, places it, and goes on to where the
+-- layout goes on. Assumes nothing.
+use mathlib.Core.Path.{_≡_, refl, sym, ap, ap₂, _∙_}
+use mathlib.Core.Bool.{Bool, true, false, _&&_, cond, false≢true}
+use mathlib.Core.List.{List, [], _∷_, _++_, map}
+use Prim.Native.Nat.{ℕ, zero, suc, _+_, _*_, _-_, _%_, _≤_, _<_, max}
+use native.Mathlib.Omega.{arith}
+use lib.Dec.{leb, ltb}
+use lib.ListN.{length}
+use borrow.Author.Tests.{leb-true, leb-false}
+use Rattle.units.specs.Raise.{raise}
+use Rattle.addresses.specs.Addresses.{All}
+use Rattle.places.specs.declared.Kind.{Kind}
+use Rattle.places.specs.declared.Kind.the-variants.{General as general, Vector as vector, Upper as upper}
+use Rattle.places.specs.declared.Used.{Used}
+use Rattle.places.specs.Shapes.{Shape, some?, Led, Alignment, one, two, four, eight, sixteen, Shaped}
+use Rattle.places.specs.Places.{Place, inRegisters, onStack, generalFor, vectorFor, generals, vectors, registersFor, taking, enough, fits, start, stacking, placeIf, nextIf, place, next, places, after}
+use Rattle.places.specs.Images.{slots, bytesOf}
+use Rattle.places.proofs.Returning.{kinds-few}
+use Rattle.places.proofs.Prefix.{places-append, after-append}
+use Rattle.places.proofs.Offsets.{next-eights, after-eights}
+use Rattle.walk.specs.Offsets.{Offsets, Source, fromRegisters, fromStack, holds, reads, raised, readIf, stepIf, readAt, step, bytesFrom, walkAt, sourceIn, visits, steps}
+
+leb-same : (a b c d : ℕ) → (a ≤ b → c ≤ d) → (c ≤ d → a ≤ b) → leb a b ≡ leb c d
+leb-same a b c d f g = by (leb a b) (leb c d) refl refl
+  where
+    by : (s t : Bool) → leb a b ≡ s → leb c d ≡ t → s ≡ t
+    by true true p q = refl
+    by true false p q = absurd (omega (arith, f (leb-true a b p), leb-false c d q))
+    by false true p q = absurd (omega (arith, g (leb-true c d q), leb-false a b p))
+    by false false p q = refl
+
+-- byte offsets against 48 - 8 num_gp and 176 - 16 num_fp: registers against 6 and 8
+pub holds-fits : (u : Used) (ks : List Kind) → length ks ≤ 2 → holds (walkAt u) ks ≡ fits u ks
+unfolding holds fits walkAt enough
+holds-fits u ks h =
+    let few = kinds-few ks in
+    ap (λ (b : Bool). some? ks && b)
+    (ap₂ _&&_
+    (leb-same (8 * u .general .0) (48 - 8 * generals ks) (u .general .0 + generals ks) 6 (λ p. omega arith) (λ p. omega arith))
+    (leb-same (48 + 16 * u .vector .0) (176 - 16 * vectors ks) (u .vector .0 + vectors ks) 8 (λ p. omega arith) (λ p. omega arith)))
+
+-- an upper half stands behind a vector register, so one was used
+reads-slots : (ks : List Kind) (b : Bool) (g f x y : ℕ) → Led b ks → (b ≡ true → 1 ≤ f) → x ≡ 8 * g → y ≡ 48 + 16 * f
+    → reads x y ks ≡ slots (registersFor g f ks)
+reads-slots [] b g f x y l v p q = refl
+reads-slots (general ∷ ks) b g f x y l v p q =
+    ap₂ _∷_ p (reads-slots ks false (g + 1) (f + 0) (x + 8) y l (λ e. absurd (false≢true e)) (omega arith) (omega arith))
+reads-slots (vector ∷ ks) b g f x y l v p q =
+    ap₂ _∷_ q (reads-slots ks true (g + 0) (f + 1) x (y + 16) l (λ e. omega arith) (omega arith) (omega arith))
+reads-slots (upper ∷ ks) true g f x y l v p q =
+    let u = v refl in
+    ap₂ _∷_ (omega arith) (reads-slots ks false (g + 0) (f + 0) x y l (λ e. absurd (false≢true e)) (omega arith) (omega arith))
+reads-slots (upper ∷ ks) false g f x y l v p q = absurd l
+
+-- "raised to 16 where the alignment exceeds 8": the lowest multiple of 8 and of the alignment
+raised-start : (a t : ℕ) → Alignment a → t % 8 ≡ 0 → cond (ltb 8 a) (raise 16 t) t ≡ raise (max 8 a) t
+unfolding raise
+raised-start a t one h = omega arith
+raised-start a t two h = omega arith
+raised-start a t four h = omega arith
+raised-start a t eight h = omega arith
+raised-start a t sixteen h = refl
+
+pub offsets-same : (v w : Offsets) → v .general ≡ w .general → v .vector ≡ w .vector → v .overflow ≡ w .overflow → v ≡ w
+offsets-same v w p q r = λ i. record { general = p i; vector = q i; overflow = r i }
+
+-- B13: the walk at u fetches where the layout places
+pub read-agrees : (u : Used) (s : Shape) → Shaped s → u .stack .0 % 8 ≡ 0 → readAt (walkAt u) s ≡ sourceIn (place u s)
+unfolding readAt place walkAt raised start
+read-agrees u s h m = rw (holds-fits u (s .kinds) (h .few)) (by (fits u (s .kinds)))
+  where
+    by : (b : Bool) → readIf b (walkAt u) s ≡ sourceIn (placeIf b u s)
+    by true = ap fromRegisters (reads-slots (s .kinds) false (u .general .0) (u .vector .0) _ _ (h .led) (λ e. absurd (false≢true e)) refl refl)
+    by false = ap fromStack (raised-start (s .align) (u .stack .0) (h .aligned) m)
+
+-- and goes on to where the layout goes on
+pub step-agrees : (u : Used) (s : Shape) → Shaped s → u .stack .0 % 8 ≡ 0 → step (walkAt u) s ≡ walkAt (next u s)
+unfolding step next walkAt raised start
+step-agrees u s h m = rw (holds-fits u (s .kinds) (h .few)) (by (fits u (s .kinds)))
+  where
+    by : (b : Bool) → stepIf b (walkAt u) s ≡ walkAt (nextIf b u s)
+    by true = offsets-same _ _ (omega arith) (omega arith) refl
+    by false = offsets-same _ _ refl refl (ap (λ (o : ℕ). raise 8 (o + s .size)) (raised-start (s .align) (u .stack .0) (h .aligned) m))
+
+-- the bytes of a source are those of the place
+pub bytes-in : (p : Place) (n : ℕ) → bytesFrom (sourceIn p) n ≡ bytesOf p n
+bytes-in (inRegisters rs) n = refl
+bytes-in (onStack o) n = refl
+
+pub bytes-agree : (u : Used) (s : Shape) → Shaped s → u .stack .0 % 8 ≡ 0 → bytesFrom (readAt (walkAt u) s) (s .size) ≡ bytesOf (place u s) (s .size)
+bytes-agree u s h m = rw (read-agrees u s h m) (bytes-in (place u s) (s .size))
+
+-- over all arguments of a list
+pub walk-agrees : (ss : List Shape) (u : Used) → All Shaped ss → u .stack .0 % 8 ≡ 0 → visits (walkAt u) ss ≡ map sourceIn (places u ss)
+walk-agrees [] u h m = refl
+walk-agrees (s ∷ ss) u h m =
+    ap₂ _∷_ (read-agrees u s (h .0) m)
+    (ap (λ (o : Offsets). visits o ss) (step-agrees u s (h .0) m) ∙ walk-agrees ss (next u s) (h .1) (next-eights u s m))
+
+pub walk-ends : (ss : List Shape) (u : Used) → All Shaped ss → u .stack .0 % 8 ≡ 0 → steps (walkAt u) ss ≡ walkAt (after u ss)
+walk-ends [] u h m = refl
+walk-ends (s ∷ ss) u h m =
+    ap (λ (o : Offsets). steps o ss) (step-agrees u s (h .0) m) ∙ walk-ends ss (next u s) (h .1) (next-eights u s m)
+
+map-append : (ps qs : List Place) → map sourceIn (ps ++ qs) ≡ map sourceIn ps ++ map sourceIn qs
+map-append [] qs = refl
+map-append (p ∷ ps) qs = ap (λ (l : List Source). sourceIn p ∷ l) (map-append ps qs)
+
+-- a walk that is opened after the named arguments visits the places of the unnamed, one by one
+pub walk-unnamed : (named unnamed : List Shape) (u : Used) → All Shaped unnamed → u .stack .0 % 8 ≡ 0
+    → map sourceIn (places u (named ++ unnamed)) ≡ map sourceIn (places u named) ++ visits (walkAt (after u named)) unnamed
+walk-unnamed named unnamed u h m =
+    ap (λ (l : List Place). map sourceIn l) (places-append named unnamed u)
+    ∙ map-append (places u named) (places (after u named) unnamed)
+    ∙ ap (λ (l : List Source). map sourceIn (places u named) ++ l) (sym (walk-agrees unnamed (after u named) h (after-eights named u m)))
+
+-- "With none used they are 0, 48 and 0"
+pub none-used : walkAt (record { general = record { 0 = 0 }; vector = record { 0 = 0 }; stack = record { 0 = 0 } }) ≡ record { general = 0; vector = 48; overflow = 0 }
+unfolding walkAt
+none-used = refl

@@ -1,0 +1,5 @@
+pub mod Agreement
+pub mod Fetches
+pub mod Checks
+pub mod Opens
+pub mod Passes

@@ -1,0 +1,4 @@
+pub mod Offsets
+pub mod Orders
+pub mod Steps
+pub mod Asks
