@@ -1,0 +1,56 @@
+-- The history of the accident computes: every call answers what is told. Assumes nothing.
+use mathlib.Core.Path.{_≡_, refl}
+use mathlib.Core.Bool.{Bool, true, _&&_, and-eq-true-iff}
+use mathlib.Core.List.{List, [], _∷_}
+use Prim.Native.Nat.{ℕ, zero, suc}
+use native.Mathlib.Omega.{arith}
+use borrow.Author.Tests.{ltb-true}
+use lib.Dec.{ltb}
+use Rattle.units.specs.Raise.{raise, eightbytesIn}
+use Rattle.description.specs.Description.{IsBytes, headerOf, kindAt, aAt, countAt, memberAt, argumentAt}
+use Rattle.form.specs.Conditions.{tooShort, wrongMark, wrongVersion, wrongCounts, wrongLength, brokenBasic, brokenArray, brokenRun, brokenRecord, wrongRecord}
+use Rattle.form.specs.Search.{firstFrom}
+use Rattle.types.specs.Basic.{basicSize, basicAlign}
+use Rattle.types.specs.Decode.{tysFrom, tyBy, tyAt}
+use Rattle.types.specs.Large.{large, tooLarge}
+use Rattle.types.specs.Size.{offsetAfter, endAfter, widest, sizeTy, alignTy}
+use Rattle.classes.specs.Classes.{same, isX87, mergeOf, mergeAll}
+use Rattle.classes.specs.CleanUp.{upAlone, settled, cleanUp}
+use Rattle.classify.specs.Classify.{firstClass, secondClass, gap, put as putClass, basicAt, elementsAt, classesAt, classesOf}
+use Rattle.uses.specs.Uses.{wrongNumber, wrongReturn, wrongUse, narrow, narrowUnnamed}
+use Rattle.places.specs.Shapes.{kindsOf, shapeOf}
+use Rattle.places.specs.Places.{enough, fits, start, place, next, area}
+use Rattle.places.specs.Returns.{hiddenBy}
+use Rattle.layout.specs.Arguments.{shapeAt as layoutShape, shapesFrom, isVoid, hidden, areaOf as layoutArea}
+use Rattle.layout.specs.Verdict.{wideArea}
+use Rattle.station.specs.Paper.{verdictOf, arguments, shapeAt, typeAt, usedAt, areaOf, kcb}
+use Rattle.station.specs.Attachment.{newStation, wrongSeat, described, seatOf, detachRefusal, detachStation, detachSeat, attachRefusal, attachStation, attachSeat}
+use Rattle.walk.specs.Offsets.{holds, raised, readAt, step, walkAt}
+use Rattle.walk.specs.Orders.{wrongRegisters, otherNumber, standing, openRefusal, astray, atEnd, otherType, wrongStack, wrongOut, stepRefusal, showRefusal}
+use Rattle.walk.specs.Steps.{openWalk, bytesAt, movedOn, stepWalk, stepOut}
+use Rattle.histories.specs.Calls.{put}
+use Rattle.histories.specs.Values.{blank, imagesFor}
+use Rattle.histories.specs.Accident.{lister, other, damaged, history, Plays}
+
+-- a list is one of bytes where a test says so
+abbrev small : List ℕ → Bool
+small [] = true
+small (b ∷ bs) = ltb b 256 && small bs
+
+small-bytes : (d : List ℕ) → small d ≡ true → IsBytes d
+small-bytes [] e i = omega arith
+small-bytes (b ∷ bs) e zero = ltb-true b 256 (and-eq-true-iff (ltb b 256) (small bs) .0 e .0)
+small-bytes (b ∷ bs) e (suc i) = small-bytes bs (and-eq-true-iff (ltb b 256) (small bs) .0 e .1) i
+
+pub lister-bytes : IsBytes lister
+lister-bytes = small-bytes lister refl
+
+pub other-bytes : IsBytes other
+other-bytes = small-bytes other refl
+
+pub damaged-bytes : IsBytes damaged
+damaged-bytes = small-bytes damaged refl
+
+pub accident-plays : Plays (history lister-bytes other-bytes damaged-bytes)
+unfolding raise eightbytesIn headerOf kindAt aAt countAt memberAt argumentAt tooShort wrongMark wrongVersion wrongCounts wrongLength brokenBasic brokenArray brokenRun brokenRecord wrongRecord firstFrom basicSize basicAlign tysFrom tyBy tyAt large tooLarge offsetAfter endAfter widest sizeTy alignTy same isX87 mergeOf mergeAll upAlone settled cleanUp firstClass secondClass gap putClass basicAt elementsAt classesAt classesOf wrongNumber wrongReturn wrongUse narrow narrowUnnamed kindsOf shapeOf enough fits start place next area hiddenBy layoutShape shapesFrom isVoid hidden layoutArea wideArea verdictOf arguments shapeAt typeAt usedAt areaOf kcb newStation wrongSeat described seatOf detachRefusal detachStation detachSeat attachRefusal attachStation attachSeat holds raised readAt step walkAt wrongRegisters otherNumber standing openRefusal astray atEnd otherType wrongStack wrongOut stepRefusal showRefusal openWalk bytesAt movedOn stepWalk stepOut put blank imagesFor
+accident-plays = record { answer = refl; whole = refl; parted = refl }

@@ -1,0 +1,44 @@
+-- Condition C holds of document 01's own paper: the layout's chapters promise what `Lawful` asks. Assumes nothing.
+use mathlib.Core.Path.{_≡_, refl, sym, ap, _∙_}
+use mathlib.Core.List.{List, [], _∷_, map}
+use Prim.Native.Nat.{ℕ, suc, _≤_}
+use lib.ListN.{length}
+use Rattle.addresses.specs.Addresses.{run, All}
+use Rattle.addresses.proofs.Runs.{length-run}
+use Rattle.description.specs.Description.{argumentsIn, argumentAt}
+use Rattle.uses.specs.Uses.{usesRefusal}
+use Rattle.uses.proofs.Uses.{accepted-typed}
+use Rattle.places.specs.Shapes.{Shaped}
+use Rattle.layout.proofs.Bounds.{all-shaped}
+use Rattle.layout.proofs.Verdict.{accepted-uses}
+use Rattle.station.specs.Paper.{kcb, verdictOf, arguments}
+use Rattle.station.proofs.Kcb.{kcb-verdict, kcb-arguments, kcb-short}
+use Rattle.histories.specs.Lawful.{Lawful}
+use Rattle.histories.specs.ConditionC.{ConditionC}
+use Rattle.histories.proofs.Reconnection.{condition-c as lawful-c}
+
+length-map : (f : ℕ → ℕ) (ns : List ℕ) → length (map f ns) ≡ length ns
+length-map f [] = refl
+length-map f (n ∷ ns) = ap suc (length-map f ns)
+
+module _ (d : List ℕ) (e : verdictOf kcb d ≡ 0) where
+  right : usesRefusal d ≡ 0
+  right = accepted-uses d (sym (kcb-verdict d) ∙ e)
+
+  shaped : All Shaped (kcb .shapes d)
+  unfolding kcb
+  shaped = all-shaped d right
+
+  within : kcb .named d ≤ arguments kcb d
+  unfolding kcb
+  within = rw (kcb-arguments d) (accepted-typed d right .named)
+
+  typed : length (kcb .types d) ≡ arguments kcb d
+  unfolding kcb
+  typed = length-map (argumentAt d) (run 0 (argumentsIn d)) ∙ length-run 0 (argumentsIn d) ∙ sym (kcb-arguments d)
+
+pub kcb-lawful : Lawful kcb
+kcb-lawful = record { short = kcb-short; shaped = shaped; within = within; typed = typed }
+
+pub condition-c : ConditionC kcb
+condition-c = lawful-c kcb kcb-lawful

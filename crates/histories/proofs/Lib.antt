@@ -1,0 +1,12 @@
+pub mod Accident
+pub mod Attachments
+pub mod Images
+pub mod Walks
+pub mod Turns
+pub mod Histories
+pub mod Stale
+pub mod Frames
+pub mod Shown
+pub mod Promises
+pub mod Reconnection
+pub mod Kcb

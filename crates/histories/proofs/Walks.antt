@@ -1,0 +1,153 @@
+-- The laws of one walk: where it stands, what a step answers there, reads and leaves. Assumes nothing.
+use mathlib.Core.Path.{_≡_, refl, sym, ap, ap₂, _∙_}
+use mathlib.Core.Bool.{Bool, true, false, cond, not, _||_}
+use mathlib.Core.List.{List, [], _∷_, _++_}
+use Prim.Native.Nat.{ℕ, zero, suc, _≤_, _<_}
+use native.Mathlib.Omega.{arith}
+use lib.Dec.{eqb}
+use lib.ListN.{length, getD, take, length-take, length-drop, take-append-drop}
+use borrow.Author.Tests.{le-ltb, eq-eqb}
+use Rattle.addresses.specs.Addresses.{gather, All}
+use Rattle.form.specs.Order.{Rule, rule, first}
+use Rattle.places.specs.Shapes.{Shape, Shaped}
+use Rattle.places.specs.Places.{fresh, place}
+use Rattle.places.specs.Images.{bytesOf, addresses, total}
+use Rattle.places.proofs.Prefix.{after-at}
+use Rattle.places.proofs.Offsets.{after-eights}
+use Rattle.station.specs.declared.Station.{Station}
+use Rattle.station.specs.Paper.{Paper, verdictOf, arguments, shapeAt, typeAt, usedAt, areaOf}
+use Rattle.station.proofs.Orders.{first-append}
+use Rattle.walk.specs.declared.Walk.{Walk}
+use Rattle.walk.specs.Offsets.{Offsets, Source, readAt, bytesFrom, walkAt, sourceIn}
+use Rattle.walk.specs.Orders.{Ask, offsetsOf, withOffsets, wrongRegisters, otherNumber, standing, openRefusal, astray, atEnd, otherType, wrongStack, wrongOut, stepRefusal, showRefusal}
+use Rattle.walk.proofs.Agreement.{read-agrees, step-agrees, bytes-in}
+use Rattle.walk.specs.Steps.{openWalk, bytesAt, movedOn}
+use Rattle.histories.specs.Calls.{Lends}
+use Rattle.histories.specs.Lawful.{Lawful, Holds}
+use Rattle.histories.specs.Values.{cut, imagesFor}
+use Rattle.histories.proofs.Attachments.{described-held, right-held}
+use Rattle.histories.proofs.Images.{cut-gathered, length-images, gather-images}
+
+pub shaped-at : (o : Shape) (ss : List Shape) (p : ℕ) → All Shaped ss → p < length ss → Shaped (getD ss p o)
+shaped-at o [] p h l = absurd (omega arith)
+shaped-at o (s ∷ ss) zero h l = h .0
+shaped-at o (s ∷ ss) (suc p) h l = shaped-at o ss p (h .1) (omega arith)
+
+module _ (P : Paper) where
+  -- ---- a held description: 1 to 10 do not come up
+
+  pub open-held : Lawful P → (s : Station) (seat d : List ℕ) → Holds P s seat d → openRefusal P s seat ≡ cond (P .variadic d) 0 16
+  unfolding openRefusal verdictOf
+  open-held L s seat d h =
+      rw (right-held P L s seat d h, described-held P s seat d h, h .attached)
+      (first-append 0 (P .conditions d) (rule 16 (not (P .variadic d)) ∷ []) (h .accepted) ∙ by (P .variadic d))
+    where
+      by : (b : Bool) → first (rule 16 (not b) ∷ []) ≡ cond b 0 16
+      by true = refl
+      by false = refl
+
+  pub opens : (s : Station) (seat d : List ℕ) → Holds P s seat d → openWalk P s seat ≡ standing P d (s .number) (P .named d)
+  unfolding openWalk
+  opens s seat d h = rw (described-held P s seat d h)
+
+  -- what is left of step's order, and of show's
+  abbrev pub lateOrder : Station → List ℕ → Walk → Ask → List Rule → List Rule
+  lateOrder s d w a late =
+      rule 17 (otherNumber s w) ∷ rule 18 (astray P d w) ∷ rule 19 (atEnd P d w) ∷ rule 20 (otherType P d w a) ∷ late
+
+  abbrev pub heldOrder : Station → List ℕ → Walk → Ask → List Rule → List Rule
+  heldOrder s d w a late = rule 11 (wrongRegisters a) ∷ lateOrder s d w a late
+
+  pub step-held : Lawful P → (s : Station) (seat d : List ℕ) (w : Walk) (a : Ask) → Holds P s seat d
+      → stepRefusal P s seat w a ≡ first (heldOrder s d w a (rule 11 (wrongStack P d a || wrongOut P d w a) ∷ []))
+  unfolding stepRefusal verdictOf otherNumber
+  step-held L s seat d w a h =
+      rw (right-held P L s seat d h, described-held P s seat d h, h .attached)
+      (ap (λ (n : ℕ). cond (wrongRegisters a) 11 n)
+      (first-append 0 (P .conditions d) (lateOrder s d w a (rule 11 (wrongStack P d a || wrongOut P d w a) ∷ [])) (h .accepted)))
+
+  pub show-held : Lawful P → (s : Station) (seat d : List ℕ) (w : Walk) (a : Ask) → Holds P s seat d
+      → showRefusal P s seat w a ≡ first (heldOrder s d w a (rule 11 (wrongStack P d a) ∷ []))
+  unfolding showRefusal verdictOf otherNumber
+  show-held L s seat d w a h =
+      rw (right-held P L s seat d h, described-held P s seat d h, h .attached)
+      (ap (λ (n : ℕ). cond (wrongRegisters a) 11 n)
+      (first-append 0 (P .conditions d) (lateOrder s d w a (rule 11 (wrongStack P d a) ∷ [])) (h .accepted)))
+
+  -- ---- where a walk stands
+
+  -- it is not astray where it stands
+  standing-right : (d : List ℕ) (n p : ℕ) → P .named d ≤ p → p ≤ arguments P d → astray P d (standing P d n p) ≡ false
+  unfolding astray standing
+  standing-right d n p l m =
+      let w = walkAt (usedAt P d p) in
+      rw (le-ltb p (P .named d) l, le-ltb (arguments P d) p m, eq-eqb (w .general) (w .general) refl, eq-eqb (w .vector) (w .vector) refl, eq-eqb (w .overflow) (w .overflow) refl)
+
+  -- a step from there leads to the next
+  pub moves-on : (d : List ℕ) (n p : ℕ) → All Shaped (P .shapes d) → p < arguments P d → movedOn P d (standing P d n p) ≡ standing P d n (suc p)
+  unfolding movedOn standing usedAt shapeAt arguments
+  moves-on d n p h l =
+      ap (λ (o : Offsets). withOffsets n (suc p) o)
+      (step-agrees (usedAt P d p) (shapeAt P d p) (shaped-at _ (P .shapes d) p h l) (after-eights (take p (P .shapes d)) (fresh (P .hidden d)) refl)
+      ∙ ap walkAt (sym (after-at (P .shapes d) (fresh (P .hidden d)) p _ l)))
+
+  pub standing-reads : (d : List ℕ) (n p : ℕ) → All Shaped (P .shapes d) → p < arguments P d
+      → readAt (offsetsOf (standing P d n p)) (shapeAt P d p) ≡ sourceIn (place (usedAt P d p) (shapeAt P d p))
+  unfolding standing usedAt shapeAt arguments
+  standing-reads d n p h l =
+      read-agrees (usedAt P d p) (shapeAt P d p) (shaped-at _ (P .shapes d) p h l) (after-eights (take p (P .shapes d)) (fresh (P .hidden d)) refl)
+
+  bytes-at : (d : List ℕ) (n p : ℕ) (a : Ask) → bytesAt P d (standing P d n p) a
+      ≡ gather (a .registers ++ a .stack) (bytesFrom (readAt (offsetsOf (standing P d n p)) (shapeAt P d p)) (shapeAt P d p .size))
+  unfolding bytesAt standing
+  bytes-at d n p a = refl
+
+  cut-place : (d images : List ℕ) (p : ℕ) → All Shaped (P .shapes d) → p < arguments P d
+      → getD (cut (P .shapes d) (gather images (addresses (fresh (P .hidden d)) (P .shapes d)))) p []
+      ≡ gather images (bytesOf (place (usedAt P d p) (shapeAt P d p)) (shapeAt P d p .size))
+  unfolding usedAt shapeAt arguments
+  cut-place d images p h l = cut-gathered _ (P .shapes d) p (fresh (P .hidden d)) images h l
+
+  -- and reads the argument's bytes
+  pub reads : (d address values : List ℕ) (n p : ℕ) (a : Ask) → All Shaped (P .shapes d) → p < arguments P d
+      → length values ≡ total (P .shapes d) → Lends (imagesFor P d address values) a
+      → bytesAt P d (standing P d n p) a ≡ getD (cut (P .shapes d) values) p []
+  reads d address values n p a h l f g =
+      let images = imagesFor P d address values in
+      let o = shapeAt P d p in
+      bytes-at d n p a
+      ∙ ap (λ (m : List ℕ). gather m (bytesFrom (readAt (offsetsOf (standing P d n p)) o) (o .size))) (ap₂ _++_ (g .registers) (g .stack) ∙ take-append-drop 176 images)
+      ∙ ap (λ (q : Source). gather images (bytesFrom q (o .size))) (standing-reads d n p h l)
+      ∙ ap (λ (ps : List ℕ). gather images ps) (bytes-in (place (usedAt P d p) o) (o .size))
+      ∙ sym (cut-place d images p h l)
+      ∙ ap (λ (v : List ℕ). getD (cut (P .shapes d) v) p []) (gather-images P d address values h f)
+
+  -- ---- what a step answers there
+
+  pub lends-right : (d address values : List ℕ) (a : Ask) → Lends (imagesFor P d address values) a
+      → (length (a .registers) ≡ 176) × (length (a .stack) ≡ areaOf P d)
+  lends-right d address values a g =
+      let l = length-images P d address values in
+      (rw (g .registers, length-take) (omega arith), rw (g .stack, length-drop) (omega arith))
+
+  abbrev pub standingOrder : List ℕ → ℕ → Ask → List Rule
+  standingOrder d p a =
+      rule 19 (eqb p (arguments P d)) ∷ rule 20 (not (eqb (a .asked) (typeAt P d p))) ∷ rule 11 (not (eqb (length (a .out)) (shapeAt P d p .size))) ∷ []
+
+  pub step-standing : Lawful P → (s : Station) (seat d : List ℕ) (p : ℕ) (a : Ask) → Holds P s seat d → P .named d ≤ p → p ≤ arguments P d
+      → length (a .registers) ≡ 176 → length (a .stack) ≡ areaOf P d
+      → stepRefusal P s seat (standing P d (s .number) p) a ≡ first (standingOrder d p a)
+  step-standing L s seat d p a h l m x y =
+      step-held L s seat d (standing P d (s .number) p) a h
+      ∙ rw (standing-right d (s .number) p l m)
+      (unfold standing wrongRegisters otherNumber atEnd otherType wrongStack wrongOut in
+      rw (eq-eqb (length (a .registers)) 176 x, eq-eqb (s .number) (s .number) refl, eq-eqb (length (a .stack)) (areaOf P d) y))
+
+  pub show-standing : Lawful P → (s : Station) (seat d : List ℕ) (p : ℕ) (a : Ask) → Holds P s seat d → P .named d ≤ p → p ≤ arguments P d
+      → length (a .registers) ≡ 176 → length (a .stack) ≡ areaOf P d
+      → showRefusal P s seat (standing P d (s .number) p) a ≡ first (rule 19 (eqb p (arguments P d)) ∷ rule 20 (not (eqb (a .asked) (typeAt P d p))) ∷ [])
+  show-standing L s seat d p a h l m x y =
+      show-held L s seat d (standing P d (s .number) p) a h
+      ∙ rw (standing-right d (s .number) p l m)
+      (unfold standing wrongRegisters otherNumber atEnd otherType wrongStack in
+      rw (eq-eqb (length (a .registers)) 176 x, eq-eqb (s .number) (s .number) refl, eq-eqb (length (a .stack)) (areaOf P d) y))

@@ -1,0 +1,6 @@
+pub mod Calls
+pub mod Lawful
+pub mod Values
+pub mod Outcomes
+pub mod ConditionC
+pub mod Accident

@@ -1,0 +1,49 @@
+-- What a walk is to hand back, and the images that are placed for it. Assumes nothing: these are definitions.
+use mathlib.Core.Bool.{Bool, cond}
+use mathlib.Core.List.{List, [], _∷_, _++_}
+use Prim.Native.Nat.{ℕ, _+_}
+use lib.ListN.{take, drop, replicate}
+use Rattle.addresses.specs.Addresses.{run, scatter}
+use Rattle.places.specs.Shapes.{Shape}
+use Rattle.places.specs.Places.{fresh}
+use Rattle.places.specs.Images.{addresses}
+use Rattle.station.specs.Paper.{Paper, shapeAt, typeAt, areaOf}
+use Rattle.histories.specs.Calls.{Question}
+
+-- "Values come packed, argument after argument, size bytes each, no gaps": argument by argument
+abbrev pub cut : List Shape → List ℕ → List (List ℕ)
+cut [] values = []
+cut (s ∷ ss) values = take (s .size) values ∷ cut ss (drop (s .size) values)
+
+-- and packed again
+abbrev pub joined : List (List ℕ) → List ℕ
+joined [] = []
+joined (v ∷ vs) = v ++ joined vs
+
+-- "writes zero everywhere else in both images. The hidden address .. fills rdi where it is used and is otherwise not looked at": the
+-- images, n bytes of stack, before a value is placed. `address` is the hidden address, as bytes; rdi is the first eight of the register image
+unfoldable pub blank : Bool → List ℕ → ℕ → List ℕ
+blank hidden address n = cond hidden (scatter (replicate (176 + n) 0) (run 0 8) address) (replicate (176 + n) 0)
+
+-- "Placing copies each value byte to its place": the register image, and after it the stack image
+unfoldable pub imagesFor : Paper → List ℕ → List ℕ → List ℕ → List ℕ
+imagesFor P d address values = scatter (blank (P .hidden d) address (areaOf P d)) (addresses (fresh (P .hidden d)) (P .shapes d)) values
+
+-- "each unnamed argument's bytes in order"
+abbrev pub unnamed : Paper → List ℕ → List ℕ → List (List ℕ)
+unnamed P d values = drop (P .named d) (cut (P .shapes d) values)
+
+-- "asked by the right types": each argument's type number, and room for its bytes
+abbrev pub zipped : List ℕ → List Shape → List Question
+zipped [] ss = []
+zipped (t ∷ ts) [] = []
+zipped (t ∷ ts) (s ∷ ss) = record { asked = t; room = s .size } ∷ zipped ts ss
+
+unfoldable pub questions : Paper → List ℕ → List Question
+questions P d = zipped (P .types d) (P .shapes d)
+
+unfoldable pub question : Paper → List ℕ → ℕ → Question
+question P d p = record { asked = typeAt P d p; room = shapeAt P d p .size }
+
+abbrev pub unnamedQuestions : Paper → List ℕ → List Question
+unnamedQuestions P d = drop (P .named d) (questions P d)
