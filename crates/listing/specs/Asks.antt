@@ -2,19 +2,12 @@
 use mathlib.Core.Path.{_≡_}
 use mathlib.Core.List.{List}
 use Prim.Native.Nat.{ℕ, _≤_, _<_}
-use Rattle.places.specs.declared.Place.{Place}
-use Rattle.places.specs.declared.Place.the-variants.{One, Two, Stack}
 use Rattle.places.specs.declared.Used.{Used}
 use Rattle.layout.specs.declared.Layout.{Layout}
 use Rattle.layout.specs.declared.Placement.{Placement}
 use Rattle.layout.specs.Layout.{layoutOf}
 use Rattle.layout.specs.Verdict.{verdict}
-
--- the stack offset of a place
-abbrev pub offsetOf : Place → ℕ
-offsetOf (One a) = 0
-offsetOf (Two a b) = 0
-offsetOf (Stack o) = o .0
+use Rattle.place_words.specs.PlaceWords.{offsetOf}
 
 pub record SmallRecord (p : Placement) : Type 0 where
   pub size : p .size .0 ≤ 4096
