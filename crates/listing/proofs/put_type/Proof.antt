@@ -1,25 +1,24 @@
+-- 255 is void, and has no type. Assumes nothing.
+-- Assumes nothing.
+use native.Mathlib.Omega.{arith}
 use borrow.Author.Needs.{needs}
+use borrow.Author.Tests.{eq-eqb, ne-eqb}
+use denote.Ref.{now}
+use Rattle.text.proofs.Written.{wrote-none, wrote-more}
 use Rattle.listing.proofs.put_type.Statement.{statement}
 use Rattle.listing.proofs.put_type.Tie as tie
-use Rattle.listing.proofs.put_type.Reads as reads
-use Rattle.listing.proofs.put_type.Lts as lts
-use Rattle.text.proofs.put_number.Reads as put-number-reads
 
--- src/lib.rt:77:9
 returns : tie.Need-returns
-returns c = ?
+returns c = rw (eq-eqb (c .before .args .k) 255 (c .if1 .taken)) (wrote-more (wrote-none (now (c .before .args .out)) (c .before .args .at)) (omega arith))
 
--- src/lib.rt:79:31
 slice-aggregate-put-number : tie.Need-slice-aggregate-put-number
 slice-aggregate-put-number c = search needs
 
--- src/lib.rt:79:5
 put-number-requires : tie.Need-put-number-requires
 put-number-requires c κs = search needs
 
--- src/lib.rt:72:1
 returns-2 : tie.Need-returns-2
-returns-2 c = ?
+returns-2 c = rw (ne-eqb (c .before .before .before .before .args .k) 255 (c .before .before .before .if1 .left)) (c .put-number .ensures)
 
 pub put-type-spec : {M : Type 1} → statement M
 put-type-spec =
