@@ -98,7 +98,7 @@ pub walk-is : {a : List ℕ} {at : ℕ} {b : List ℕ} {p : ℕ} {c : List ℕ} 
 unfolding walkLine
 walk-is variadic u general vector z g v w x y n =
     rw (ne-eqb variadic 0 z)
-    (wrote-join (wrote-same w (ap (numbered (walk ++ gp)) g)) (wrote-join (wrote-same x (ap (λ (k : ℕ). numbered fp (48 + k)) v)) (wrote-join y n)))
+    (wrote-join (wrote-join (wrote-join (wrote-same w (ap (numbered (walk ++ gp)) g)) (wrote-same x (ap (λ (k : ℕ). numbered fp (48 + k)) v))) y) n)
 
 -- the lines of an accepted description, and that of a refusal
 pub laid-is : {a : List ℕ} {at : ℕ} {b : List ℕ} {p : ℕ} {c : List ℕ} {q : ℕ} {e : List ℕ} {r : ℕ} {f : List ℕ} {s : ℕ} (d : List ℕ) (l : Layout) {all first k variadic : ℕ}
@@ -107,8 +107,9 @@ pub laid-is : {a : List ℕ} {at : ℕ} {b : List ℕ} {p : ℕ} {c : List ℕ} 
     → Wrote 3452 a at (laidText d l) f s
 unfolding laidText
 laid-is d l all first k variadic v w x y =
-    wrote-join (wrote-same v (ap₂ (λ (m n : ℕ). headLine m n l) all first))
-    (wrote-join w (wrote-join (wrote-same x (ap (λ (n : ℕ). returnLine n (l .returns)) k)) (wrote-same y (ap (λ (n : ℕ). walkLine n (l .named)) variadic))))
+    wrote-join
+    (wrote-join (wrote-join (wrote-same v (ap₂ (λ (m n : ℕ). headLine m n l) all first)) w) (wrote-same x (ap (λ (n : ℕ). returnLine n (l .returns)) k)))
+    (wrote-same y (ap (λ (n : ℕ). walkLine n (l .named)) variadic))
 
 pub refused-is : {a : List ℕ} {at : ℕ} {b : List ℕ} {p : ℕ} {c : List ℕ} {q : ℕ} (d : List ℕ) (r : Refusal)
     → Wrote 13 a at (numbered refused (r .number)) b p → Wrote 1 b p newline c q → Wrote 3452 a at (textOf d (Refused r)) c q

@@ -129,6 +129,7 @@ pub fn write_listing(d: &[u8], out: &mut [u8; 4096]) -> usize
     ensures { λ r. ⌜ (r ≡ length (listing (now (d .entry)))) × (r ≤ 3452)
         × (now (out .exit) ≡ listing (now (d .entry)) ++ drop (length (listing (now (d .entry)))) (now (out .entry))) ⌝ }
 {
+    text::room(out);
     let answer = layout::layout_of(d);
     match answer {
         LayoutAnswer::Laid(layout) => put_laid(d, out, layout),

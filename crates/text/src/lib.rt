@@ -6,6 +6,14 @@ ghost use lib.ListN.{length};
 ghost use Rattle.text.specs.Decimal.{digit, decimal};
 ghost use Rattle.text.specs.Written.{Wrote};
 
+// The length of the buffer, which its type says: as a slice it has it as a fact.
+pub fn room(out: &[u8; 4096]) -> usize
+    ensures { λ r. ⌜ (r ≡ 4096) × (r ≡ length (now (out .entry))) ⌝ }
+{
+    let whole: &[u8] = out;
+    whole.len()
+}
+
 // A word.
 pub fn put(out: &mut [u8; 4096], at: usize, word: &[u8]) -> usize
     requires { ⌜ at + length (now word) ≤ 4096 ⌝ }

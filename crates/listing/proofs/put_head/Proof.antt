@@ -44,7 +44,8 @@ put-requires c κs = search needs
 
 returns : tie.Need-returns
 unfolding headLine
-returns c = wrote-join (c .before .before .before .before .before .before .before .before .before .before .before .before .before .before .before .put-number .ensures) (wrote-join (c .before .before .before .before .before .before .before .before .before .before .before .before .put-number2 .ensures) (wrote-join (c .before .before .before .before .before .before .before .before .before .put-number3 .ensures) (wrote-join (c .before .before .before .before .before .before .put-number4 .ensures) (wrote-join (c .before .before .before .put-number5 .ensures) (c .put .ensures)))))
+returns c =
+    wrote-join (wrote-join (wrote-join (wrote-join (wrote-join (c .before .before .before .before .before .before .before .before .before .before .before .before .before .before .before .put-number .ensures) (c .before .before .before .before .before .before .before .before .before .before .before .before .put-number2 .ensures)) (c .before .before .before .before .before .before .before .before .before .put-number3 .ensures)) (c .before .before .before .before .before .before .put-number4 .ensures)) (c .before .before .before .put-number5 .ensures)) (c .put .ensures)
 
 pub put-head-spec : {M : Type 1} → statement M
 put-head-spec =

@@ -26,7 +26,8 @@ put-requires-2 c κs = search needs
 
 returns : tie.Need-returns
 unfolding returnLine
-returns c = wrote-join (c .before .before .before .before .before .before .before .put .ensures) (wrote-join (c .before .before .before .before .before .put-type .ensures) (wrote-join (c .before .before .before .put-return-place .ensures) (c .put2 .ensures)))
+returns c =
+    wrote-join (wrote-join (wrote-join (c .before .before .before .before .before .before .before .put .ensures) (c .before .before .before .before .before .put-type .ensures)) (c .before .before .before .put-return-place .ensures)) (c .put2 .ensures)
 
 pub put-return-spec : {M : Type 1} → statement M
 put-return-spec =
