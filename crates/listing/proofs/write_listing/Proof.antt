@@ -1,0 +1,73 @@
+-- What was stored at the start is the listing. Assumes nothing.
+-- Assumes nothing.
+use mathlib.Core.Path.{_≡_, sym, _∙_}
+use native.Mathlib.Omega.{arith}
+use borrow.Author.Needs.{needs}
+use lib.ListN.{length}
+use denote.Ref.{now}
+use Rattle.listing.proofs.Lines.{refused-is, accepted-laid, listing-length, listing-short, listing-bytes}
+use Rattle.layout.specs.declared.LayoutAnswer.the-variants.{Laid, Refused}
+use Rattle.listing.proofs.write_listing.Statement.{statement}
+use Rattle.listing.proofs.write_listing.Tie as tie
+
+room-requires : tie.Need-room-requires
+room-requires c κs = search needs
+
+layout-of-requires : tie.Need-layout-of-requires
+layout-of-requires c κs = search needs
+
+enum-known-answer : tie.Need-enum-known-answer
+enum-known-answer c = search needs
+
+put-laid-requires : tie.Need-put-laid-requires
+put-laid-requires c κs = accepted-laid (now (c .before .before .before .before .before .before .before .before .args .d)) (c .before .before .answer .given .0 .0) (sym (c .before .before .before .before .layout-of .ensures) ∙ c .before .before .answer .given .1)
+
+enum-known-answer-2 : tie.Need-enum-known-answer-2
+enum-known-answer-2 c = search needs
+
+slice-aggregate-put-number : tie.Need-slice-aggregate-put-number
+slice-aggregate-put-number c = search needs
+
+cast-put-number : tie.Need-cast-put-number
+cast-put-number c = search needs
+
+put-number-requires : tie.Need-put-number-requires
+put-number-requires c κs = search needs
+
+slice-aggregate-put : tie.Need-slice-aggregate-put
+slice-aggregate-put c = search needs
+
+put-requires : tie.Need-put-requires
+put-requires c κs = search needs
+
+returns : tie.Need-returns
+returns c =
+    let room : 4096 ≡ length (now (c .before .before .before .before .before .before .before .before .before .args .out)) = omega (arith, c .before .before .before .before .before .before .room .ensures .0, c .before .before .before .before .before .before .room .ensures .1) in
+    let w = c .put-laid .ensures in
+    let e = sym (c .before .before .before .answer .given .1) ∙ c .before .before .before .before .before .layout-of .ensures in
+    (listing-length (now (c .before .before .before .before .before .before .before .before .before .args .d)) (now (c .before .before .before .before .before .before .before .before .before .args .out)) (Laid (c .before .before .before .answer .given .0 .0)) e room w, listing-short (now (c .before .before .before .before .before .before .before .before .before .args .d)) (now (c .before .before .before .before .before .before .before .before .before .args .out)) (Laid (c .before .before .before .answer .given .0 .0)) e room w, listing-bytes (now (c .before .before .before .before .before .before .before .before .before .args .d)) (now (c .before .before .before .before .before .before .before .before .before .args .out)) (Laid (c .before .before .before .answer .given .0 .0)) e room w)
+
+returns-2 : tie.Need-returns-2
+returns-2 c =
+    let room : 4096 ≡ length (now (c .before .before .before .before .before .before .before .before .before .before .before .before .before .before .args .out)) = omega (arith, c .before .before .before .before .before .before .before .before .before .before .before .room .ensures .0, c .before .before .before .before .before .before .before .before .before .before .before .room .ensures .1) in
+    let r = c .before .before .before .before .before .before .before .before .answer2 .given .0 .0 in
+    let w = refused-is (now (c .before .before .before .before .before .before .before .before .before .before .before .before .before .before .args .d)) r (c .before .before .before .put-number .ensures) (c .put .ensures) in
+    let e = sym (c .before .before .before .before .before .before .before .before .answer2 .given .1) ∙ c .before .before .before .before .before .before .before .before .before .before .layout-of .ensures in
+    (listing-length (now (c .before .before .before .before .before .before .before .before .before .before .before .before .before .before .args .d)) (now (c .before .before .before .before .before .before .before .before .before .before .before .before .before .before .args .out)) (Refused r) e room w, listing-short (now (c .before .before .before .before .before .before .before .before .before .before .before .before .before .before .args .d)) (now (c .before .before .before .before .before .before .before .before .before .before .before .before .before .before .args .out)) (Refused r) e room w, listing-bytes (now (c .before .before .before .before .before .before .before .before .before .before .before .before .before .before .args .d)) (now (c .before .before .before .before .before .before .before .before .before .before .before .before .before .before .args .out)) (Refused r) e room w)
+
+pub write-listing-spec : {M : Type 1} → statement M
+write-listing-spec =
+    tie.close
+    (tie.spec
+    room-requires
+    layout-of-requires
+    enum-known-answer
+    put-laid-requires
+    enum-known-answer-2
+    slice-aggregate-put-number
+    cast-put-number
+    put-number-requires
+    slice-aggregate-put
+    put-requires
+    returns
+    returns-2)

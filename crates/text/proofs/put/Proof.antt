@@ -1,0 +1,25 @@
+-- A word is copied. Assumes nothing.
+use borrow.Author.Needs.{needs}
+use denote.Ref.{now}
+use Rattle.text.proofs.Written.{wrote-copy}
+use Rattle.text.proofs.put.Statement.{statement}
+use Rattle.text.proofs.put.Tie as tie
+use Rattle.text.proofs.put.Reads as reads
+use Rattle.text.proofs.put.Lts as lts
+use Rattle.addresses.proofs.copy.Reads as copy-reads
+
+-- src/lib.rt:14:5
+copy-requires : tie.Need-copy-requires
+copy-requires c κs = search needs
+
+-- src/lib.rt:15:5
+add-result : tie.Need-add-result
+add-result c = search needs
+
+-- src/lib.rt:10:1
+returns : tie.Need-returns
+returns c =
+    wrote-copy (now (c .before .before .before .args .out)) (c .before .before .before .args .at) (now (c .before .before .before .args .word)) (c .copy .last .0) (c .copy .ensures)
+
+pub put-spec : {M : Type 1} → statement M
+put-spec = tie.close (tie.spec copy-requires add-result returns)
