@@ -22,4 +22,6 @@ pub mod cases;
 pub mod generator;
 pub mod damage;
 pub mod history;
+pub mod mixture;
+pub mod lister;
 pub mod vectors;

@@ -1,6 +1,7 @@
 //! Commands over the independent layout; `independent help` lists them.
 
 use independent::cases;
+use independent::lister;
 use independent::listing::listing;
 use independent::vectors::all_pairs;
 use independent::visits::visits;
@@ -12,6 +13,8 @@ const HELP: &str = "\
 independent list                    description on standard input, the lister's text
 independent visits                  description on standard input, visits of plain recursion
 independent cases                   the lister's case and P1 to P11, as document 01 prints them
+independent lister PROGRAM [--count N] [--seed N] [--towers]
+                                    runs PROGRAM on the cases, on each refusal and on N random inputs
 independent vectors write DIRECTORY [--seed N] [--towers]
 independent vectors check DIRECTORY [--seed N] [--towers]
 ";
@@ -26,6 +29,7 @@ fn main() -> ExitCode {
         ["list"] => print_and_succeed(&listing(&standard_input())),
         ["visits"] => print_and_succeed(&format!("{}\n", visits(&standard_input()))),
         ["cases"] => print_cases(),
+        ["lister", program, options @ ..] => compare_lister(program, options),
         ["vectors", "write", directory, options @ ..] => write_vectors(directory, options),
         ["vectors", "check", directory, options @ ..] => check_vectors(directory, options),
         ["help"] | ["--help"] => print_and_succeed(HELP),
@@ -59,11 +63,30 @@ fn print_cases() -> ExitCode {
     }
 }
 
+/// The number behind a word such as `--seed`, or `default`.
+fn number_of(options: &[&str], word: &str, default: u64) -> u64 {
+    let position = options.iter().position(|&option| option == word);
+    position.map_or(default, |at| options[at + 1].parse().expect("a number"))
+}
+
 /// The seed, and whether towers of unions are let in.
 fn options_of(options: &[&str]) -> (u64, bool) {
-    let position = options.iter().position(|&option| option == "--seed");
-    let seed = position.map_or(SEED, |at| options[at + 1].parse().expect("a number"));
-    (seed, options.contains(&"--towers"))
+    (number_of(options, "--seed", SEED), options.contains(&"--towers"))
+}
+
+fn compare_lister(program: &str, options: &[&str]) -> ExitCode {
+    let (seed, towers) = options_of(options);
+    let count = number_of(options, "--count", 1000) as usize;
+    let outcome = lister::compare(program, count, seed, towers);
+    println!(
+        "lister: seed {seed}, {} inputs, {} of them refused, {} left out for plain recursion, {} different",
+        outcome.compared, outcome.refused, outcome.left_out, outcome.different
+    );
+    if outcome.different == 0 {
+        ExitCode::SUCCESS
+    } else {
+        ExitCode::FAILURE
+    }
 }
 
 fn write_vectors(directory: &str, options: &[&str]) -> ExitCode {
