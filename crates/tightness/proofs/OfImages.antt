@@ -1,0 +1,40 @@
+-- The contracts of `images` are tight, one theorem for each public function. Assumes nothing.
+use mathlib.Core.Path.{_≡_, refl, sym, _∙_}
+use mathlib.Core.Logic.{∥∥₁-prop, ∥∥₁-elim, ∥∥₁-map}
+use lib.ListN.{length}
+use denote.Ref.{now}
+use denote.Triple.Clauses.{Lasts}
+use Rattle.tightness.specs.Tight.{Admits, Tight}
+use Rattle.tightness.proofs.Laws.{bytes, equal, result, settle, settle-parts}
+use Rattle.images.proofs.address_in
+use Rattle.images.proofs.address_of
+use Rattle.images.proofs.gather_one
+use Rattle.images.proofs.place_one
+use Rattle.images.proofs.put_address
+
+pub tight-images-address-of : Tight address_of.ended (λ M. address_of.clauses {M = M})
+tight-images-address-of c r q w v a b = (settle (result address_of.ended c) (a .ensured) (b .ensured) (λ e f i. record { 0 = (e ∙ sym f) i }), refl)
+
+pub tight-images-gather-one : Tight gather_one.ended (λ M. gather_one.clauses {M = M})
+tight-images-gather-one c r q w v a b = (refl, λ i. (tt, (tt, (tt, (tt, (values i, (tt, tt)))))))
+  where
+    values : w .1 .1 .1 .1 .0 ≡ v .1 .1 .1 .1 .0
+    values = equal bytes (a .ensured) (b .ensured)
+
+pub tight-images-put-address : Tight put_address.ended (λ M. put_address.clauses {M = M})
+tight-images-put-address c r q w v a b = (refl, λ i. (registers i, (tt, tt)))
+  where
+    registers : w .0 ≡ v .0
+    registers = equal bytes (a .ensured) (b .ensured)
+
+pub tight-images-address-in : Tight address_in.ended (λ M. address_in.clauses {M = M})
+tight-images-address-in c r q w v a b = (equal (result address_in.ended c) (a .ensured) (b .ensured), refl)
+
+pub tight-images-place-one : Tight place_one.ended (λ M. place_one.clauses {M = M})
+tight-images-place-one c r q w v a b = (refl, λ i. (halves .0 i, (halves .1 i, (tt, (tt, (tt, (tt, tt)))))))
+  where
+    kept : (w : Lasts place_one.ended (c .lifetimes) (c .passed)) → Admits place_one.ended (λ M. place_one.clauses {M = M}) c r w → ∥ length (w .0) ≡ length (now (c .passed .0)) ∥₁
+    kept w a = ∥∥₁-elim (a .lent) ∥∥₁-prop (λ s. ∥∥₁-elim (s .3) ∥∥₁-prop (λ t. ∥∥₁-map (t .4) (λ u. u .0)))
+
+    halves : (w .0 ≡ v .0) × (w .1 .0 ≡ v .1 .0)
+    halves = settle-parts (a .ensured) (b .ensured) (kept w a) (kept v b)

@@ -1,0 +1,11 @@
+-- The contracts of `listing` are tight, one theorem for each public function. Assumes nothing.
+use mathlib.Core.Path.{_≡_, refl, sym, _∙_}
+use Rattle.tightness.specs.Tight.{Tight}
+use Rattle.tightness.proofs.Laws.{bytes, result, settle}
+use Rattle.listing.proofs.write_listing
+
+pub tight-listing-write-listing : Tight write_listing.ended (λ M. write_listing.clauses {M = M})
+tight-listing-write-listing c r q w v a b = (settle (result write_listing.ended c) (a .ensured) (b .ensured) (λ e f. e .0 ∙ sym (f .0)), λ i. (tt, (out i, tt)))
+  where
+    out : w .1 .0 ≡ v .1 .0
+    out = settle bytes (a .ensured) (b .ensured) (λ e f. e .2 ∙ sym (f .2))

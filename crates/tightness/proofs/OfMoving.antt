@@ -1,0 +1,21 @@
+-- The contracts of `moving` are tight, one theorem for each public function. Assumes nothing.
+use mathlib.Core.Path.{_≡_, refl, sym, _∙_}
+use Rattle.tightness.specs.Tight.{Tight}
+use Rattle.tightness.proofs.Laws.{bytes, result, settle}
+use Rattle.moving.proofs.gather_values
+use Rattle.moving.proofs.place_values
+
+pub tight-moving-place-values : Tight place_values.ended (λ M. place_values.clauses {M = M})
+tight-moving-place-values c r q w v a b = (settle (result place_values.ended c) (a .ensured) (b .ensured) (λ e f. e .0 ∙ sym (f .0)), λ i. (tt, (tt, (tt, (registers i, (stack i, tt))))))
+  where
+    registers : w .1 .1 .1 .0 ≡ v .1 .1 .1 .0
+    registers = settle bytes (a .ensured) (b .ensured) (λ e f. e .1 .0 ∙ sym (f .1 .0))
+
+    stack : w .1 .1 .1 .1 .0 ≡ v .1 .1 .1 .1 .0
+    stack = settle bytes (a .ensured) (b .ensured) (λ e f. e .1 .1 ∙ sym (f .1 .1))
+
+pub tight-moving-gather-values : Tight gather_values.ended (λ M. gather_values.clauses {M = M})
+tight-moving-gather-values c r q w v a b = (settle (result gather_values.ended c) (a .ensured) (b .ensured) (λ e f. e .0 ∙ sym (f .0)), λ i. (tt, (tt, (tt, (values i, tt)))))
+  where
+    values : w .1 .1 .1 .0 ≡ v .1 .1 .1 .0
+    values = settle bytes (a .ensured) (b .ensured) (λ e f. e .1 ∙ sym (f .1))
