@@ -1,0 +1,127 @@
+-- Demand 1 is met: each line cites a law. Assumes nothing.
+use mathlib.Core.Path.{_≡_, refl, sym, ap, _∙_}
+use mathlib.Core.Logic.{_≢_}
+use mathlib.Core.List.{List}
+use Prim.Native.Nat.{ℕ, _<_}
+use borrow.Author.Tests.{ne-eqb}
+use lib.ListN.{length}
+use Rattle.description.specs.Description.{typesIn}
+use Rattle.form.specs.Order.{formRefusal}
+use Rattle.form.specs.Reading.{refusalOf}
+use Rattle.types.specs.Basic.{lp64}
+use Rattle.types.specs.Size.{alignTy}
+use Rattle.types.specs.Decode.{tyAt}
+use Rattle.types.specs.Large.{typesRefusal}
+use Rattle.questions.specs.Questions.{questionRefusal}
+use Rattle.uses.specs.Uses.{usesRefusal}
+use Rattle.uses.proofs.Uses.{accepted-types}
+use Rattle.places.specs.Shapes.{shapeOf, Alignment}
+use Rattle.places.proofs.Guaranteed.{accepted-shaped}
+use Rattle.layout.specs.Verdict.{verdict}
+use Rattle.layout.specs.Placements.{placementAt, listRefusal, listCount, filled}
+use Rattle.layout.proofs.Verdict.{accepted-uses}
+use Rattle.layout.proofs.Records.{accepted-bounded}
+use Rattle.moving.specs.Orders.{placeRefusal, gatherRefusal}
+use Rattle.moving.specs.Answers.{registersAfter, stackAfter, valuesAfter}
+use Rattle.station.specs.Paper.{kcb}
+use Rattle.station.specs.Attachment.{attachRefusal, detachRefusal}
+use Rattle.station.proofs.Attachments.{attach-left, detach-left}
+use Rattle.walk.specs.Orders.{openRefusal, stepRefusal, showRefusal}
+use Rattle.step.proofs.Steps.{step-left}
+use Rattle.promises.specs.Demand1.{A1-Verdict, A2-Below, A2-Questions, A2-Layout, A2-Walk, A3-Frame, A6-Bounds, A7-Run, Demand1}
+use Rattle.promises.proofs.Answering.{answered, decided-number}
+use Rattle.promises.proofs.Numbers.{reading-means, extent-means, size-means, align-means, classes-means, run-means, layout-means, list-means, placing-means, gathering-means, opening-means, shown-means}
+use Rattle.promises.proofs.MemberRuns.{run-of, run-empty}
+
+-- ---- A1, A2
+
+a1 : A1-Verdict
+unfolding verdict refusalOf
+a1 d = answered refl refl
+
+a2-below : A2-Below
+unfolding formRefusal typesRefusal usesRefusal
+a2-below = record {
+  read-form = λ d. answered refl (reading-means d);
+  form-refusal = λ d. answered refl refl;
+  types-refusal = λ d. answered refl refl;
+  uses-refusal = λ d. answered refl refl;
+}
+
+a2-questions : A2-Questions
+unfolding questionRefusal
+a2-questions = record {
+  question-refusal = λ d t. answered refl refl;
+  type-extent = λ d t. answered refl (extent-means d t);
+  type-size = λ d t. answered refl (size-means d t);
+  type-align = λ d t. answered refl (align-means d t);
+  type-classes = λ d t. answered refl (classes-means d t);
+  run-at = λ d t. answered refl (run-means d t);
+}
+
+a2-layout : A2-Layout
+unfolding verdict listRefusal placeRefusal gatherRefusal
+a2-layout = record {
+  layout-of = λ d. answered refl (layout-means d);
+  lay-out = λ d room. answered refl (list-means d room);
+  place-values = λ d values registers stack. answered refl (placing-means d values registers stack);
+  gather-values = λ d r s values. answered refl (gathering-means d r s values);
+}
+
+a2-walk : A2-Walk
+unfolding kcb attachRefusal detachRefusal openRefusal stepRefusal showRefusal refusalOf
+a2-walk = record {
+  attach = λ s seat d. answered refl refl;
+  detach = λ s seat. answered refl refl;
+  open-walk = λ s seat. answered refl (opening-means s seat);
+  step = λ s seat w a. answered refl refl;
+  show-number = λ s seat w a. answered refl refl;
+  shown-at = λ s seat w a. answered refl (shown-means s seat w a);
+}
+
+-- ---- A3
+
+count-none : (d : List ℕ) (room : ℕ) → listRefusal d room ≢ 0 → listCount d room ≡ 0
+unfolding listCount
+count-none d room h = rw (ne-eqb (listRefusal d room) 0 h) refl
+
+a3 : A3-Frame
+unfolding filled registersAfter stackAfter valuesAfter
+a3 = record {
+  lay-out = λ d list h. ap (λ n. filled (placementAt d) n list) (count-none d (length list) (λ e. h (decided-number _ _ (list-means d (length list)) ∙ e)));
+  place-values = λ d h values r s n.
+      let e = ne-eqb (placeRefusal d values (length r) (length s)) 0 (λ e. n (decided-number _ _ (placing-means d values (length r) (length s)) ∙ e)) in
+      (rw e refl, rw e refl);
+  gather-values = λ d r s v n. rw (ne-eqb (gatherRefusal d (length v) (length r) (length s)) 0 (λ e. n (decided-number _ _ (gathering-means d r s (length v)) ∙ e))) refl;
+  attach = λ s seat d h. (sym (attach-left kcb s seat d h .0), sym (attach-left kcb s seat d h .1));
+  detach = λ s seat h. (sym (detach-left s seat h .0), sym (detach-left s seat h .1));
+  step = λ s seat w a h. (sym (step-left kcb s seat w a h .0), sym (step-left kcb s seat w a h .1));
+}
+
+-- ---- A6, A7
+
+aligned : (d : List ℕ) → verdict d ≡ 0 → (t : ℕ) → t < typesIn d → Alignment (alignTy lp64 (tyAt d t))
+unfolding shapeOf
+aligned d v t l = accepted-shaped d (accepted-types d (accepted-uses d v)) t l .aligned
+
+a6 : A6-Bounds
+a6 = record { bounded = accepted-bounded; aligned = aligned }
+
+a7 : A7-Run
+a7 = record {
+  group = run-of;
+  empty = run-empty;
+  number = λ d t. decided-number (questionRefusal d t) _ (run-means d t) ∙ sym (decided-number (questionRefusal d t) _ (size-means d t));
+}
+
+pub demand-1 : Demand1
+demand-1 = record {
+  verdict = a1;
+  below = a2-below;
+  questions = a2-questions;
+  layout = a2-layout;
+  walk = a2-walk;
+  frame = a3;
+  bounds = a6;
+  run = a7;
+}

@@ -1,0 +1,4 @@
+pub mod Answering
+pub mod Numbers
+pub mod MemberRuns
+pub mod Demand1

@@ -1,0 +1,3 @@
+pub mod Meaning
+pub mod Orders
+pub mod Demand1

@@ -1,0 +1,93 @@
+-- The orders of refusal of all calls, in one place: document 01, "Refusal numbers", the paragraph that begins "Order". Each condition is a definition
+-- of the crate that its sentence belongs to, of any bytes. Assumes nothing: these are definitions.
+use mathlib.Core.Bool.{Bool, not, _||_}
+use mathlib.Core.List.{List, [], _∷_, _++_}
+use Prim.Native.Nat.{ℕ}
+use lib.Dec.{leb}
+use lib.ListN.{length}
+use Rattle.form.specs.Conditions.{tooShort, wrongMark, wrongVersion, wrongCounts, wrongLength, wrongRecord}
+use Rattle.form.specs.Order.{Rule, rule, numbered}
+use Rattle.types.specs.Large.{tooLarge}
+use Rattle.questions.specs.Questions.{notBelow}
+use Rattle.uses.specs.Uses.{wrongUse, narrowUnnamed}
+use Rattle.layout.specs.Verdict.{wideArea}
+use Rattle.layout.specs.Layout.{layoutOf}
+use Rattle.layout.specs.Placements.{shortList}
+use Rattle.moving.specs.Orders.{wrongBool, wrongLength as wrongLengths}
+use Rattle.station.specs.declared.Station.{Station}
+use Rattle.station.specs.Paper.{kcb}
+use Rattle.station.specs.Attachment.{wrongSeat, described}
+use Rattle.walk.specs.declared.Walk.{Walk}
+use Rattle.walk.specs.Orders.{Ask, wrongRegisters, otherNumber, astray, atEnd, otherType, wrongStack, wrongOut}
+
+-- the conditions of the description alone, 1 to 6, 7, 8 and 9, 10
+abbrev pub six : List ℕ → List Bool
+six d = tooShort d ∷ wrongMark d ∷ wrongVersion d ∷ wrongCounts d ∷ wrongLength d ∷ wrongRecord d ∷ []
+
+abbrev pub seven : List ℕ → List Bool
+seven d = six d ++ tooLarge d ∷ []
+
+abbrev pub nine : List ℕ → List Bool
+nine d = seven d ++ wrongUse d ∷ narrowUnnamed d ∷ []
+
+abbrev pub ten : List ℕ → List Bool
+ten d = nine d ++ wideArea d ∷ []
+
+-- "Order: 1..10 as numbered, each over the whole description"
+abbrev pub checkOrder : List ℕ → List Rule
+checkOrder d = numbered 1 (ten d)
+
+-- what the calls below it look at: the form, sizes, uses
+abbrev pub formOrder : List ℕ → List Rule
+formOrder d = numbered 1 (six d)
+
+abbrev pub typesOrder : List ℕ → List Rule
+typesOrder d = numbered 1 (seven d)
+
+abbrev pub usesOrder : List ℕ → List Rule
+usesOrder d = numbered 1 (nine d)
+
+-- "A question about one type (size, alignment, classes, run): 1..7, then 8 for a type number not below T; arrays are answered"
+abbrev pub questionOrder : List ℕ → ℕ → List Rule
+questionOrder d t = numbered 1 (seven d) ++ rule 8 (notBelow d t) ∷ []
+
+-- "Layout: 1..10, 11", for a list of so many records
+abbrev pub layoutOrder : List ℕ → ℕ → List Rule
+layoutOrder d room = checkOrder d ++ rule 11 (shortList d room) ∷ []
+
+-- "Placing and gathering: 1..10, 11, then 12 (placing only)", by the lengths of values and images
+abbrev pub gatherOrder : List ℕ → ℕ → ℕ → ℕ → List Rule
+gatherOrder d values registers stack = checkOrder d ++ rule 11 (wrongLengths (layoutOf d) values registers stack) ∷ []
+
+abbrev pub placeOrder : List ℕ → List ℕ → ℕ → ℕ → List Rule
+placeOrder d values registers stack =
+    checkOrder d ++ rule 11 (wrongLengths (layoutOf d) (length values) registers stack) ∷ rule 12 (wrongBool d values) ∷ []
+
+-- "Attach: 11, 14, 15, 1..10"
+abbrev pub attachOrder : Station → List ℕ → List ℕ → List Rule
+attachOrder s seat d =
+    rule 11 (wrongSeat s seat) ∷ rule 14 (s .attached) ∷ rule 15 (leb 4294967295 (s .number)) ∷ checkOrder d
+
+-- "Detach: 11, 13"
+abbrev pub detachOrder : Station → List ℕ → List Rule
+detachOrder s seat = rule 11 (wrongSeat s seat) ∷ rule 13 (not (s .attached)) ∷ []
+
+-- "Open: 11, 13, 1..10, 16"; "Open and step read the description in the seat at the station's length"
+abbrev pub openOrder : Station → List ℕ → List Rule
+openOrder s seat =
+    rule 11 (wrongSeat s seat) ∷ rule 13 (not (s .attached)) ∷ checkOrder (described s seat) ++ rule 16 (not (kcb .variadic (described s seat))) ∷ []
+
+-- "Step: 11 for seat, station and register image, 13, 1..10, 17, 18, 19, 20, then 11 for" what comes late
+abbrev pub walkOrder : Station → List ℕ → Walk → Ask → Bool → List Rule
+walkOrder s seat w a late =
+    rule 11 (wrongSeat s seat || wrongRegisters a) ∷ rule 13 (not (s .attached)) ∷ checkOrder (described s seat)
+    ++ rule 17 (otherNumber s w) ∷ rule 18 (astray kcb (described s seat) w) ∷ rule 19 (atEnd kcb (described s seat) w)
+    ∷ rule 20 (otherType kcb (described s seat) w a) ∷ rule 11 late ∷ []
+
+-- ".. stack image and out buffer"
+abbrev pub stepOrder : Station → List ℕ → Walk → Ask → List Rule
+stepOrder s seat w a = walkOrder s seat w a (wrongStack kcb (described s seat) a || wrongOut kcb (described s seat) w a)
+
+-- "A second call makes the same checks but for the out buffer .. A third call gives the second's refusal number"
+abbrev pub showOrder : Station → List ℕ → Walk → Ask → List Rule
+showOrder s seat w a = walkOrder s seat w a (wrongStack kcb (described s seat) a)
