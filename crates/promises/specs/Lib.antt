@@ -1,3 +1,4 @@
 pub mod Meaning
 pub mod Orders
 pub mod Demand1
+pub mod Demand2

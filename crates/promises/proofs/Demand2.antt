@@ -1,0 +1,184 @@
+-- Demand 2 is met: each line cites a law. Assumes nothing.
+use mathlib.Core.Path.{_≡_, refl, sym, ap, _∙_}
+use mathlib.Core.Bool.{Bool, true, false}
+use mathlib.Core.List.{List, [], _∷_}
+use Prim.Native.Nat.{ℕ, _<_, _≤_}
+use native.Mathlib.Omega.{arith}
+use borrow.Author.Tests.{lt-ltb, eq-eqb}
+use lib.ListN.{length, getD}
+use Rattle.description.specs.Description.{argumentsIn}
+use Rattle.types.specs.Tree.{Ty, Tys, group}
+use Rattle.types.specs.Basic.{lp64, basicSize, basicAlign}
+use Rattle.types.specs.Size.{alignTy, alignTys, sizeTy, offsetAfter, endOf}
+use Rattle.types.proofs.Sizes.{aligns-low}
+use Rattle.types.proofs.Laws.{struct-end, union-end, align-divides}
+use Rattle.types.proofs.Trees.{at-basic, at-array, at-group}
+use Rattle.classes.specs.declared.Class.{Class}
+use Rattle.classes.specs.declared.Class.the-variants.{NoClass, Memory}
+use Rattle.classes.specs.CleanUp.{anyMemory, memoryOf, cleanUp}
+use Rattle.classes.proofs.Ups.{clean-follows}
+use Rattle.classify.specs.Classify.{isAggregate, classesOf}
+use Rattle.classify.proofs.Shaped.{second-none}
+use Rattle.questions.proofs.Questions.{answered-sized}
+use Rattle.questions.proofs.Runs.{answered-shaped}
+use Rattle.places.specs.Shapes.{shapeOf}
+use Rattle.places.specs.Statements.{RoundedUp}
+use Rattle.places.proofs.Fits.{after-bounds}
+use Rattle.places.proofs.Offsets.{rounded-up, area-rounded}
+use Rattle.places.proofs.Returning.{return-cases}
+use Rattle.layout.specs.declared.Placement.{Placement}
+use Rattle.layout.specs.Arguments.{shapeAt, shapes, usedFirst, usedAt, areaOf}
+use Rattle.layout.specs.Layout.{layoutOf}
+use Rattle.layout.specs.Placements.{placementAt, listRefusal, listCount}
+use Rattle.layout.proofs.Arguments.{used-none}
+use Rattle.layout.proofs.Layouts.{asks-at}
+use Rattle.layout.proofs.Lists.{list-room, filled-below, filled-past, length-filled}
+use Rattle.layout.proofs.Verdict.{accepted-uses}
+use Rattle.layout.specs.Verdict.{verdict}
+use Rattle.cases.proofs.Cases.{cases-hold}
+use Rattle.listing_cases.proofs.Listings.{listings-hold}
+use Rattle.moving.proofs.Theorems.{places-all, address-unseen, gathers-placed, places-gathered, unused-unseen, twelve-exactly}
+use Rattle.station.specs.Paper.{kcb}
+use Rattle.step.proofs.Steps.{step-done}
+use Rattle.walk.proofs.Agreement.{none-used}
+use Rattle.promises.specs.Demand2.{listAfter, B1-Sizes, B2-Classes, B3-Registers, B4-Stack, B5-Counts, B6-Returns, B7-Records, B8-B12-Moving, B13-Steps, B14-Cases, Demand2}
+use Rattle.promises.proofs.Merging.{merges}
+use Rattle.promises.proofs.Placements.{general-count, vector-count, generals-in-row, vectors-in-row, in-registers, lacks-exactly, takes-none, lowest, room, fetches, moves, hidden-is, hidden-memory}
+
+-- ---- B1
+
+size-rounded : (isUnion : Bool) (ts : Tys) → RoundedUp (alignTys lp64 ts) (endOf lp64 ts isUnion 0) (sizeTy lp64 (group isUnion ts))
+unfolding sizeTy
+size-rounded true ts = rounded-up (alignTys lp64 ts) (endOf lp64 ts true 0) (aligns-low lp64 ts)
+size-rounded false ts = rounded-up (alignTys lp64 ts) (endOf lp64 ts false 0) (aligns-low lp64 ts)
+
+b1 : B1-Sizes
+unfolding basicSize basicAlign alignTy sizeTy offsetAfter
+b1 = record {
+  table = refl;
+  is-basic = λ d t a. at-basic d t (answered-sized d t a);
+  is-array = λ d t a. at-array d t (answered-sized d t a);
+  is-group = λ d t a. at-group d t (answered-sized d t a);
+  array-size = λ t n. (refl, refl);
+  member = λ x a h. rounded-up a x h;
+  member-end = λ x a s h. struct-end x a h s;
+  union-member = λ x a. refl;
+  union-end = union-end lp64;
+  size = size-rounded;
+  whole = align-divides lp64;
+}
+
+-- ---- B2
+
+memory-whole : (cs : List Class) → anyMemory cs ≡ true → cleanUp cs ≡ memoryOf cs
+unfolding cleanUp
+memory-whole cs e = rw e refl
+
+large-memory : (t : Ty) → isAggregate t ≡ true → 16 < sizeTy lp64 t → classesOf t ≡ Memory ∷ NoClass ∷ []
+unfolding classesOf
+large-memory t a l = rw (a, lt-ltb 16 (sizeTy lp64 t) l) refl
+
+b2 : B2-Classes
+b2 = record {
+  merges = merges;
+  memory = memory-whole;
+  ups = clean-follows;
+  large = large-memory;
+  shaped = λ d t a. answered-shaped d t a;
+  second = λ d t a. second-none _ _ (answered-shaped d t a);
+}
+
+-- ---- B3, B4, B5, B6
+
+b3 : B3-Registers
+b3 = record {
+  generals = λ d v. generals-in-row d v;
+  vectors = λ d v. vectors-in-row d v;
+  each = λ d i v l. in-registers d v i l;
+  lacks = λ d i v l. lacks-exactly d v i l;
+  takes-none = λ d i o v l. takes-none d v i l o;
+}
+
+area-up : (d : List ℕ) → RoundedUp 16 (usedAt d (argumentsIn d) .stack .0) (areaOf d)
+unfolding usedAt areaOf
+area-up d = area-rounded (usedFirst d) (shapes d)
+
+b4 : B4-Stack
+b4 = record {
+  lowest = λ d i o v l. lowest d v i l o;
+  room = λ d i o v l. room d v i l o;
+  area = area-up;
+  first = λ d. ap (λ u. u .stack .0) (used-none d);
+}
+
+few : (d : List ℕ) → verdict d ≡ 0 → (usedAt d (argumentsIn d) .general .0 ≤ 6) × (usedAt d (argumentsIn d) .vector .0 ≤ 8)
+few d v =
+    let all = asks-at d (accepted-uses d v) (argumentsIn d) (argumentsIn d) (omega arith) (omega arith) in
+    (all .before .general, all .before .vector)
+
+b5 : B5-Counts
+unfolding layoutOf
+b5 = record { general = general-count; vector = vector-count; few = few }
+
+b6 : B6-Returns
+b6 = record { hidden-exactly = hidden-is; in-memory = hidden-memory; takes-rdi = λ d. refl; return-places = return-cases }
+
+-- ---- B7
+
+count-all : (d : List ℕ) (n : ℕ) → listRefusal d n ≡ 0 → listCount d n ≡ argumentsIn d
+unfolding listCount
+count-all d n e = rw (eq-eqb (listRefusal d n) 0 e) refl
+
+record-below : (d : List ℕ) (list : List Placement) (i : ℕ) (x : Placement) → listRefusal d (length list) ≡ 0 → i < argumentsIn d → getD (listAfter d list) i x ≡ placementAt d i
+record-below d list i x e l = rw (count-all d (length list) e) (filled-below (placementAt d) (argumentsIn d) list i x (list-room d (length list) e) l)
+
+record-past : (d : List ℕ) (list : List Placement) (i : ℕ) (x : Placement) → listRefusal d (length list) ≡ 0 → argumentsIn d ≤ i → getD (listAfter d list) i x ≡ getD list i x
+record-past d list i x e l = rw (count-all d (length list) e) (filled-past (placementAt d) (argumentsIn d) list i x l)
+
+b7 : B7-Records
+unfolding placementAt shapeAt shapeOf
+b7 = record {
+  below = record-below;
+  past = record-past;
+  long = λ d list. length-filled (placementAt d) (listCount d (length list)) list;
+  type = λ d i. refl;
+  size = λ d i. refl;
+  align = λ d i. refl;
+}
+
+-- ---- B8 to B14
+
+b8 : B8-B12-Moving
+b8 = record {
+  places-all = places-all;
+  address-unseen = address-unseen;
+  gathers-placed = gathers-placed;
+  places-gathered = places-gathered;
+  unused-unseen = unused-unseen;
+  twelve-exactly = twelve-exactly;
+}
+
+b13 : B13-Steps
+b13 = record {
+  walk = λ s seat w a. step-done kcb s seat w a;
+  starts = none-used;
+  fetches = λ d i v l. fetches d v i l;
+  moves = λ d i v l. moves d v i l;
+}
+
+b14 : B14-Cases
+b14 = record { layouts = cases-hold; texts = listings-hold }
+
+pub demand-2 : Demand2
+demand-2 = record {
+  sizes = b1;
+  classes = b2;
+  registers = b3;
+  stack = b4;
+  counts = b5;
+  returns-places = b6;
+  records = b7;
+  moving = b8;
+  steps = b13;
+  cases-hold = b14;
+}

@@ -1,0 +1,239 @@
+-- Demand 2, "Condition B, layout. Reason: modules are built by ordinary compilers, and both sides must agree without talking": "Sizes, classes,
+-- argument and return places and each walk step are those of the System V AMD64 supplement, LP64, as narrowed in document 01. Values placed and
+-- gathered back are the same bytes. Images gathered and placed again, with their own hidden address, are the same images exactly when their unused
+-- bytes are zero and each _Bool argument's byte is 0 or 1." Each statement is a type, under the label of docs/CONTRACTS.md; proofs/Demand2.antt
+-- proves `Demand2`. Assumes nothing: these are definitions.
+use mathlib.Core.Path.{_≡_}
+use mathlib.Core.Logic.{_↔_}
+use mathlib.Core.Bool.{Bool, true, false, cond, not, _&&_, _||_}
+use mathlib.Core.List.{List, [], _∷_, map}
+use Prim.Native.Nat.{ℕ, zero, suc, _+_, _*_, _%_, _≤_, _<_}
+use lib.Dec.{eqb}
+use lib.ListN.{length, getD}
+use Rattle.addresses.specs.Addresses.{run}
+use Rattle.description.specs.Description.{argumentsIn, kindAt, aAt, countAt, argumentAt}
+use Rattle.types.specs.Tree.{Ty, basic, array, Tys, group}
+use Rattle.types.specs.Basic.{lp64, basicSize, basicAlign}
+use Rattle.types.specs.Size.{alignTy, alignTys, sizeTy, offsetAfter, endAfter, endOf, widest}
+use Rattle.types.specs.Decode.{tysFrom, tyAt}
+use Rattle.classes.specs.declared.Class.{Class}
+use Rattle.classes.specs.declared.Class.the-variants.{NoClass, Integer, Sse, Memory}
+use Rattle.classes.specs.Classes.{same, isX87, mergeOf}
+use Rattle.classes.specs.CleanUp.{anyMemory, memoryOf, cleanUp}
+use Rattle.classes.specs.Ups.{UpsFollow, onStack as goesOnStack}
+use Rattle.classify.specs.Classify.{isAggregate, classesOf}
+use Rattle.classify.specs.Shaped.{Shaped}
+use Rattle.questions.specs.Questions.{questionRefusal}
+use Rattle.places.specs.declared.Register.{Register}
+use Rattle.places.specs.declared.ReturnPlace.the-variants.{Memory as InMemory}
+use Rattle.places.specs.Cases.{ReturnCase, returns, returnCases}
+use Rattle.places.specs.Returns.{returnOf, hiddenFor}
+use Rattle.places.specs.Places.{Place, inRegisters, onStack}
+use Rattle.places.specs.Recorded.{placeOf}
+use Rattle.places.specs.Statements.{LowestOffset, RoundedUp, Lacks, Fit, generalNumber, vectorNumber, numbersIn, kindIn}
+use Rattle.layout.specs.declared.Placement.{Placement}
+use Rattle.layout.specs.declared.LayoutAnswer.{LayoutAnswer}
+use Rattle.layout.specs.declared.LayoutAnswer.the-variants.{Laid}
+use Rattle.layout.specs.Arguments.{shapeAt, isVoid, returnClasses, returnPlace, hidden, usedFirst, usedAt, areaOf}
+use Rattle.layout.specs.Verdict.{verdict}
+use Rattle.layout.specs.Layout.{layoutOf, layoutAnswer}
+use Rattle.layout.specs.Placements.{placementAt, listRefusal, listCount, filled}
+use Rattle.cases.specs.Cases.{Case, cases}
+use Rattle.listing.specs.Listing.{listing}
+use Rattle.listing_cases.specs.Listings.{listings}
+use Rattle.moving.specs.Statements.{PlacesAll, AddressUnseen, GathersPlaced, PlacesGathered, UnusedUnseen, TwelveExactly}
+use Rattle.station.specs.declared.Station.{Station}
+use Rattle.station.specs.Paper.{kcb}
+use Rattle.station.specs.Attachment.{described}
+use Rattle.walk.specs.declared.Walk.{Walk}
+use Rattle.walk.specs.Offsets.{walkAt, sourceIn, readAt, step}
+use Rattle.walk.specs.Orders.{Ask, stepRefusal}
+use Rattle.walk.specs.Steps.{movedOn, bytesAt, stepWalk, stepOut}
+
+-- ---- B1: sizes and alignments, which `type_size`, `type_align` and every record give
+
+-- the table, code by code: size and alignment
+abbrev pub extents : List (ℕ × ℕ)
+extents =
+    (1, 1) ∷ (1, 1) ∷ (2, 2) ∷ (4, 4) ∷ (8, 8) ∷ (16, 16) ∷ (4, 4) ∷ (8, 8) ∷ (16, 16) ∷ (16, 16) ∷ (8, 8) ∷ (16, 16) ∷ (8, 4) ∷ (16, 8) ∷ (32, 16) ∷ (8, 8)
+    ∷ []
+
+pub record B1-Sizes : Type 0 where
+  pub table : map (λ code. (basicSize lp64 code, basicAlign lp64 code)) (run 0 16) ≡ extents
+  -- what a type number means, by its record's kind
+  pub is-basic : (d : List ℕ) (t : ℕ) → questionRefusal d t ≡ 0 → kindAt d t ≡ 0 → tyAt d t ≡ basic (aAt d t)
+  pub is-array : (d : List ℕ) (t : ℕ) → questionRefusal d t ≡ 0 → kindAt d t ≡ 1 → tyAt d t ≡ array (tyAt d (aAt d t)) (countAt d t)
+  pub is-group : (d : List ℕ) (t : ℕ) → questionRefusal d t ≡ 0 → 2 ≤ kindAt d t
+      → tyAt d t ≡ group (eqb (kindAt d t) 3) (tysFrom (tyAt d) d (aAt d t) (countAt d t))
+  -- "An array takes its element's alignment"
+  pub array-size : (t : Ty) (n : ℕ) → (sizeTy lp64 (array t n) ≡ sizeTy lp64 t * n) × (alignTy lp64 (array t n) ≡ alignTy lp64 t)
+  -- "A struct member has the lowest aligned offset after the one before": of the end so far and the member's alignment
+  pub member : (end align : ℕ) → 0 < align → RoundedUp align end (offsetAfter false end align)
+  pub member-end : (end align size : ℕ) → 0 < align → endAfter false end align size ≡ offsetAfter false end align + size
+  -- "A union's members are at 0"
+  pub union-member : (end align : ℕ) → offsetAfter true end align ≡ 0
+  pub union-end : (ts : Tys) → endOf lp64 ts true 0 ≡ widest lp64 ts
+  -- "size is rounded up to the alignment", of a union, or else of a struct
+  pub size : (isUnion : Bool) (ts : Tys) → RoundedUp (alignTys lp64 ts) (endOf lp64 ts isUnion 0) (sizeTy lp64 (group isUnion ts))
+  pub whole : (t : Ty) → sizeTy lp64 t % alignTy lp64 t ≡ 0
+
+-- ---- B2: classes, which `type_classes` gives
+
+-- "Merging, first rule that fits: equal; one NO_CLASS gives the other; one MEMORY gives MEMORY; one INTEGER gives INTEGER; one of X87, X87UP,
+-- COMPLEX_X87 gives MEMORY; else SSE": each rule where none before it fits
+abbrev pub ruled : Class → Bool
+ruled c = same c NoClass || (same c Memory || (same c Integer || isX87 c))
+
+pub record Merges (a b : Class) : Type 0 where
+  pub equal : same a b ≡ true → mergeOf a b ≡ a
+  pub none : same a NoClass ≡ true → mergeOf a b ≡ b
+  pub memory : same a Memory ≡ true → mergeOf a b ≡ Memory
+  pub integer : (same a Integer && not (same b Memory)) ≡ true → mergeOf a b ≡ Integer
+  pub x87 : (isX87 a && not (same a b || (same b NoClass || same b Integer))) ≡ true → mergeOf a b ≡ Memory
+  pub sse : not (same a b || (ruled a || ruled b)) ≡ true → mergeOf a b ≡ Sse
+  pub either-way : mergeOf a b ≡ mergeOf b a
+
+pub record B2-Classes : Type 0 where
+  pub merges : (a b : Class) → Merges a b
+  -- "any MEMORY makes the whole MEMORY", with NO_CLASS behind it
+  pub memory : (cs : List Class) → anyMemory cs ≡ true → cleanUp cs ≡ memoryOf cs
+  -- X87UP stands behind X87, SSEUP behind SSE or SSEUP
+  pub ups : (cs : List Class) → UpsFollow (cleanUp cs)
+  -- "Over 16 bytes: MEMORY"
+  pub large : (t : Ty) → isAggregate t ≡ true → 16 < sizeTy lp64 t → classesOf t ≡ Memory ∷ NoClass ∷ []
+  -- each byte of a value that goes in registers lies in an eightbyte that has a class, and there is no class behind it
+  pub shaped : (d : List ℕ) (t : ℕ) → questionRefusal d t ≡ 0 → Shaped (classesOf (tyAt d t)) (sizeTy lp64 (tyAt d t))
+  -- "A lone class .. with NO_CLASS second"
+  pub second : (d : List ℕ) (t : ℕ) → questionRefusal d t ≡ 0 → goesOnStack (classesOf (tyAt d t)) ≡ false
+      → (getD (classesOf (tyAt d t)) 1 NoClass ≡ NoClass) ↔ (sizeTy lp64 (tyAt d t) ≤ 8)
+
+-- ---- B3: "INTEGER takes the next of rdi .. r9; SSE the next of xmm0..xmm7 .. If any eightbyte finds no register, the whole argument goes on the
+-- stack and takes none"
+
+-- the place in the record of argument i, and the places in all records
+abbrev pub placeAt : List ℕ → ℕ → Place
+placeAt d i = placeOf (placementAt d i .place)
+
+unfoldable pub placesFrom : List ℕ → ℕ → ℕ → List Place
+placesFrom d i zero = []
+placesFrom d i (suc n) = placeAt d i ∷ placesFrom d (i + 1) n
+
+abbrev pub allPlaces : List ℕ → List Place
+allPlaces d = placesFrom d 0 (argumentsIn d)
+
+pub record B3-Registers : Type 0 where
+  -- the general registers in all records are the next ones, in order, from where the hidden address leaves off; and so are the vector registers
+  pub generals : (d : List ℕ) → verdict d ≡ 0 → numbersIn generalNumber (allPlaces d) ≡ run (cond (hidden d) 1 0) (length (numbersIn generalNumber (allPlaces d)))
+  pub vectors : (d : List ℕ) → verdict d ≡ 0 → numbersIn vectorNumber (allPlaces d) ≡ run 0 (length (numbersIn vectorNumber (allPlaces d)))
+  -- an argument in registers has one for each eightbyte, in eightbyte order, of the kind that its class asks for
+  pub each : (d : List ℕ) (i : ℕ) → verdict d ≡ 0 → i < argumentsIn d → (rs : List Register) → placeAt d i ≡ inRegisters rs
+      → (map kindIn rs ≡ shapeAt d i .kinds) × Fit (usedAt d i) (shapeAt d i .kinds)
+  -- it is on the stack exactly where its class sends it there, or where some eightbyte finds no register
+  pub lacks : (d : List ℕ) (i : ℕ) → verdict d ≡ 0 → i < argumentsIn d → ((o : ℕ) × (placeAt d i ≡ onStack o)) ↔ Lacks (usedAt d i) (shapeAt d i .kinds)
+  -- and then it takes no register
+  pub takes-none : (d : List ℕ) (i o : ℕ) → verdict d ≡ 0 → i < argumentsIn d → placeAt d i ≡ onStack o
+      → (usedAt d (i + 1) .general ≡ usedAt d i .general) × (usedAt d (i + 1) .vector ≡ usedAt d i .vector)
+
+-- ---- B4: stack offsets
+
+pub record B4-Stack : Type 0 where
+  -- "the lowest offset, after the one before, that is a multiple of 8 and of its alignment"
+  pub lowest : (d : List ℕ) (i o : ℕ) → verdict d ≡ 0 → i < argumentsIn d → placeAt d i ≡ onStack o
+      → LowestOffset (usedAt d i .stack .0) (placementAt d i .align .0) o
+  -- "the room it takes is rounded up to 8"
+  pub room : (d : List ℕ) (i o : ℕ) → verdict d ≡ 0 → i < argumentsIn d → placeAt d i ≡ onStack o
+      → RoundedUp 8 (o + placementAt d i .size .0) (usedAt d (i + 1) .stack .0)
+  -- "The area is rounded up to 16. Offset 0 is the lowest address"
+  pub area : (d : List ℕ) → RoundedUp 16 (usedAt d (argumentsIn d) .stack .0) (areaOf d)
+  pub first : (d : List ℕ) → usedAt d 0 .stack .0 ≡ 0
+
+-- ---- B5: "A made-up vector or register count: demand 2, where it equals the registers in the places"
+
+pub record B5-Counts : Type 0 where
+  pub general : (d : List ℕ) → verdict d ≡ 0 → layoutOf d .used .general .0 ≡ cond (hidden d) 1 0 + length (numbersIn generalNumber (allPlaces d))
+  pub vector : (d : List ℕ) → verdict d ≡ 0 → layoutOf d .used .vector .0 ≡ length (numbersIn vectorNumber (allPlaces d))
+  pub few : (d : List ℕ) → verdict d ≡ 0 → (layoutOf d .used .general .0 ≤ 6) × (layoutOf d .used .vector .0 ≤ 8)
+
+-- ---- B6: "If the return type's class is MEMORY, a hidden address takes rdi first", and the return places
+
+abbrev pub returned : ReturnCase → ReturnCase
+returned (returns a b h p) = returns a b (hiddenFor (a ∷ b ∷ [])) (returnOf (a ∷ b ∷ []))
+
+pub record B6-Returns : Type 0 where
+  pub hidden-exactly : (d : List ℕ) → (hidden d ≡ true) ↔ ((isVoid d ≡ false) × (same (getD (returnClasses d) 0 NoClass) Memory ≡ true))
+  pub in-memory : (d : List ℕ) → (hidden d ≡ true) ↔ (returnPlace d ≡ InMemory)
+  pub takes-rdi : (d : List ℕ) → usedFirst d .general .0 ≡ cond (hidden d) 1 0
+  -- "rax, rdx; xmm0, xmm1; xmm0 and its upper half; X87 st0; COMPLEX_X87 st0 and st1"
+  pub return-places : map returned returnCases ≡ returnCases
+
+-- ---- B7: "One placement record for each argument goes into the list the caller lends: type, size, alignment, and either its registers in
+-- eightbyte order or its stack offset. Entries past A stay": the list as it is at exit
+
+abbrev pub listAfter : List ℕ → List Placement → List Placement
+listAfter d list = filled (placementAt d) (listCount d (length list)) list
+
+pub record B7-Records : Type 0 where
+  pub below : (d : List ℕ) (list : List Placement) (i : ℕ) (x : Placement) → listRefusal d (length list) ≡ 0 → i < argumentsIn d
+      → getD (listAfter d list) i x ≡ placementAt d i
+  pub past : (d : List ℕ) (list : List Placement) (i : ℕ) (x : Placement) → listRefusal d (length list) ≡ 0 → argumentsIn d ≤ i
+      → getD (listAfter d list) i x ≡ getD list i x
+  pub long : (d : List ℕ) (list : List Placement) → length (listAfter d list) ≡ length list
+  pub type : (d : List ℕ) (i : ℕ) → placementAt d i .ty ≡ argumentAt d i
+  pub size : (d : List ℕ) (i : ℕ) → placementAt d i .size .0 ≡ sizeTy lp64 (tyAt d (argumentAt d i))
+  pub align : (d : List ℕ) (i : ℕ) → placementAt d i .align .0 ≡ alignTy lp64 (tyAt d (argumentAt d i))
+
+-- ---- B8 to B12: placing and gathering, which moving/specs/Statements.antt states of what the two calls answer and leave
+
+pub record B8-B12-Moving : Type 0 where
+  -- B8: each value byte is at its place, the hidden address in rdi where it is used, and every other byte is zero, whatever stood there
+  pub places-all : PlacesAll
+  -- "and is otherwise not looked at"
+  pub address-unseen : AddressUnseen
+  -- B9: "Values placed and gathered back are the same bytes"
+  pub gathers-placed : GathersPlaced
+  -- B10: "Images gathered and placed again, with their own hidden address, are the same images exactly when their unused bytes are zero and each
+  -- _Bool argument's byte is 0 or 1"
+  pub places-gathered : PlacesGathered
+  -- B11: "looks at no unused byte"
+  pub unused-unseen : UnusedUnseen
+  -- B12: "A _Bool argument's byte must be 0 or 1; one inside an aggregate may be anything"
+  pub twelve-exactly : TwelveExactly
+
+-- ---- B13: each walk step is that of 3.5.7, and fetches where the layout places
+
+pub record B13-Steps : Type 0 where
+  -- an accepted step leaves the record with the offsets that 3.5.7 moves on to, and the bytes that lie where 3.5.7 fetches
+  pub walk : (s : Station) (seat : List ℕ) (w : Walk) (a : Ask) → stepRefusal kcb s seat w a ≡ 0
+      → (stepWalk kcb s seat w a ≡ movedOn kcb (described s seat) w) × (stepOut kcb s seat w a ≡ bytesAt kcb (described s seat) w a)
+  -- "With none used they are 0, 48 and 0"
+  pub starts : walkAt (record { general = record { 0 = 0 }; vector = record { 0 = 0 }; stack = record { 0 = 0 } }) ≡ record { general = 0; vector = 48; overflow = 0 }
+  -- before argument i, 3.5.7 reads where the record of argument i says that it lies, and moves on to where the layout goes on
+  pub fetches : (d : List ℕ) (i : ℕ) → verdict d ≡ 0 → i < argumentsIn d → readAt (walkAt (usedAt d i)) (shapeAt d i) ≡ sourceIn (placeAt d i)
+  pub moves : (d : List ℕ) (i : ℕ) → verdict d ≡ 0 → i < argumentsIn d → step (walkAt (usedAt d i)) (shapeAt d i) ≡ walkAt (usedAt d (i + 1))
+
+-- ---- B14: "The cases above are proved of the definitions by a single theorem over a list of them"
+
+-- what the definitions say of a case's bytes, the layout and all records, and what the paper says
+abbrev pub derived : Case → LayoutAnswer × List Placement
+derived c = (layoutAnswer (c .bytes), map (placementAt (c .bytes)) (run 0 (argumentsIn (c .bytes))))
+
+abbrev pub stated : Case → LayoutAnswer × List Placement
+stated c = (Laid (c .laid), c .records)
+
+pub record B14-Cases : Type 0 where
+  -- the lister's case and P1 to P11, from description bytes
+  pub layouts : map derived cases ≡ map stated cases
+  -- the same as the lister prints them, byte for byte
+  pub texts : map (λ (c : Case). listing (c .bytes)) cases ≡ listings
+
+pub record Demand2 : Type 0 where
+  pub sizes : B1-Sizes
+  pub classes : B2-Classes
+  pub registers : B3-Registers
+  pub stack : B4-Stack
+  pub counts : B5-Counts
+  pub returns-places : B6-Returns
+  pub records : B7-Records
+  pub moving : B8-B12-Moving
+  pub steps : B13-Steps
+  pub cases-hold : B14-Cases
