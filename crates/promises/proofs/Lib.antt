@@ -5,3 +5,6 @@ pub mod Demand1
 pub mod Merging
 pub mod Placements
 pub mod Demand2
+pub mod PlacedFor
+pub mod ValueBytes
+pub mod Demand3

@@ -41,7 +41,7 @@ module _ (d : List ℕ) (t : ℕ) where
   unfolding memberAt
   part-lower e k i h =
       let byte : getD (take (countAt d t) (drop (memberStart d + aAt d t) d)) i 0 ≡ memberAt d (aAt d t + i) =
-          getD-take (countAt d t) (drop (memberStart d + aAt d t) d) i 0 h ∙ getD-drop (memberStart d + aAt d t) d i 0 ∙ ap (λ n. getD d n 0) (add-assoc (memberStart d) (aAt d t) i) in
+      getD-take (countAt d t) (drop (memberStart d + aAt d t) d) i 0 h ∙ getD-drop (memberStart d + aAt d t) d i 0 ∙ ap (λ n. getD d n 0) (add-assoc (memberStart d) (aAt d t) i) in
       subst (λ n. n < t) (sym byte) (run-lower d t e k (aAt d t + i) (omega arith) (omega (arith, h)))
 
   pub run-of : questionRefusal d t ≡ 0 → 2 ≤ kindAt d t → RunOf d t (runIn (runAnswer d t) d)

@@ -1,0 +1,98 @@
+-- Demand 3 is met: each line cites a law. Assumes nothing.
+use mathlib.Core.Path.{_≡_, refl, sym, ap, _∙_, subst}
+use mathlib.Core.List.{List, _++_}
+use Prim.Native.Nat.{ℕ}
+use Rattle.addresses.specs.Addresses.{All}
+use Rattle.images.specs.Words.{littleEndian}
+use Rattle.moving.proofs.Theorems.{no-shared-image}
+use Rattle.station.specs.Paper.{kcb}
+use Rattle.station.specs.Attachment.{seatOf}
+use Rattle.station.proofs.Attachments.{attach-done}
+use Rattle.histories.specs.Calls.{Until, Served, Serves, calls}
+use Rattle.histories.specs.Outcomes.{opened, Ended}
+use Rattle.histories.specs.Values.{imagesFor}
+use Rattle.histories.proofs.Kcb.{condition-c}
+use Rattle.promises.specs.Demand3.{C1-C2-Places, C3-Alignment, C5-Starts, C6-Reached, C7-Stale, placedImages, HandsBackPlaced, NeverAnotherPlaced, C8-HandsBack, C9-Shows, C10-Number, Demand3}
+use Rattle.promises.proofs.Placements.{lowest}
+use Rattle.promises.proofs.PlacedFor.{placed-for, placed-cares}
+use Rattle.promises.proofs.ValueBytes.{each, inside, once, past, recorded, stack-there}
+
+c1-c2 : C1-C2-Places
+c1-c2 = record {
+  each = each;
+  recorded = λ d i j v l. recorded d v i l j;
+  inside = λ d k v. inside d v k;
+  once = λ d k l v. once d v k l;
+  past = λ d k v h. past d v h k;
+}
+
+c3 : C3-Alignment
+c3 = record {
+  aligned = λ d i o v l e. (lowest d v i l o e .aligned, lowest d v i l o e .eights);
+  there = λ d i o v l. stack-there d v i l o;
+}
+
+c5 : C5-Starts
+unfolding seatOf
+c5 = record { attached = λ s seat d. attach-done kcb s seat d; starts = condition-c .starts }
+
+c6 : C6-Reached
+c6 = record {
+  reached = condition-c .reached;
+  open-reached = condition-c .open-reached;
+  step-reached = condition-c .step-reached;
+  show-reached = condition-c .show-reached;
+}
+
+c7 : C7-Stale
+c7 = record {
+  stale = condition-c .stale;
+  stale-record = condition-c .stale-record;
+  number-counts = condition-c .number-counts;
+  number-bounded = condition-c .number-bounded;
+  either = condition-c .either;
+}
+
+hands-back : HandsBackPlaced
+hands-back k d b h values r s i between cs p connects variadic spares serves stays questions =
+    let e : placedImages d h values r s ≡ imagesFor kcb d (littleEndian 8 h) values = placed-for d h values r s p in
+    let w = condition-c .hands-back k d b (littleEndian 8 h) values i between cs connects variadic (placed-cares d h values r s p i cs spares)
+    (subst (λ (images : List ℕ). All (Serves i images) cs) e serves) stays questions in
+    (w .0, subst (Ended kcb i (calls kcb (opened kcb k d b between i) cs)) (sym e) (w .1))
+
+never-another : NeverAnotherPlaced
+never-another k d b h values r s i between cs p connects variadic spares serves =
+    condition-c .never-another k d b (littleEndian 8 h) values i between cs connects variadic (placed-cares d h values r s p i cs spares)
+    (subst (λ (images : List ℕ). Until kcb (Served kcb i images) (opened kcb k d b between i) cs) (placed-for d h values r s p) serves)
+
+c8 : C8-HandsBack
+c8 = record {
+  placed-for = placed-for;
+  hands-back = hands-back;
+  never-another = never-another;
+  goes-on = condition-c .goes-on;
+  hands-back-so-far = condition-c .hands-back-so-far;
+  any-record = condition-c .any-record;
+  cuts = condition-c .cuts;
+  refused = condition-c .refused;
+}
+
+c9 : C9-Shows
+c9 = record { checks = condition-c .show-checks; shows = condition-c .shows; shows-none = condition-c .shows-none }
+
+c10 : C10-Number
+c10 = record { passes = condition-c .number-passes; last = condition-c .number-last }
+
+pub demand-3 : Demand3
+demand-3 = record {
+  places = c1-c2;
+  alignment = c3;
+  no-shared-image = no-shared-image;
+  starts = c5;
+  reached = c6;
+  stale = c7;
+  hands-back = c8;
+  shows = c9;
+  number = c10;
+  detaches = condition-c .detaches;
+}

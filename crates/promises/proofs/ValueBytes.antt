@@ -1,0 +1,99 @@
+-- Where each value byte of an accepted description lies. Assumes nothing.
+use mathlib.Core.Path.{_≡_, refl, sym, ap, ap₂, _∙_, subst}
+use mathlib.Core.Bool.{Bool, true, cond}
+use mathlib.Core.List.{List, [], _∷_, _++_}
+use Prim.Native.Nat.{ℕ, zero, suc, _+_, _-_, _%_, _≤_, _<_}
+use native.Mathlib.Omega.{arith}
+use lib.ListN.{length, getD, take}
+use lib.Seq.{take-append-seam}
+use Rattle.addresses.specs.Addresses.{run, All, NoDup, Below}
+use Rattle.addresses.proofs.Lists.{all-at, nodup-inj}
+use Rattle.description.specs.Description.{argumentsIn}
+use Rattle.uses.specs.Uses.{usesRefusal}
+use Rattle.places.specs.declared.Used.{Used}
+use Rattle.places.specs.Shapes.{Shape, Shaped}
+use Rattle.places.specs.Places.{Place, onStack, place, after, area}
+use Rattle.places.specs.Images.{bytesOf, addresses, total, valueOffset}
+use Rattle.places.specs.Statements.{Apart}
+use Rattle.places.proofs.Apart.{apart, address-at}
+use Rattle.layout.specs.Arguments.{shapeAt, shapesFrom, shapes, hidden, usedFirst, usedAt, areaOf}
+use Rattle.layout.specs.Layout.{valuesOf}
+use Rattle.layout.specs.Placements.{placementAt}
+use Rattle.layout.specs.Verdict.{verdict}
+use Rattle.layout.proofs.Arguments.{length-shapes, shapes-split}
+use Rattle.layout.proofs.Bounds.{all-shaped}
+use Rattle.layout.proofs.Verdict.{accepted-uses}
+use Rattle.moving.specs.Images.{addressesOf, valueStart}
+use Rattle.moving.proofs.Turns.{value-some}
+use Rattle.station.specs.Paper.{kcb, shapeAt as paperShape, usedAt as paperUsed}
+use Rattle.station.proofs.Kcb.{kcb-shape, kcb-used}
+use Rattle.promises.specs.Demand2.{placeAt}
+use Rattle.promises.specs.Demand3.{lies}
+use Rattle.promises.proofs.Placements.{place-said, lowest}
+
+-- the first i shapes
+first-shapes : (d : List ℕ) (i : ℕ) → i ≤ argumentsIn d → take i (shapes d) ≡ shapesFrom d 0 i
+first-shapes d i l =
+    ap (take i) (shapes-split d i (argumentsIn d) l)
+    ∙ ap (λ (n : ℕ). take n (shapesFrom d 0 i ++ shapesFrom d i (argumentsIn d - i))) (sym (length-shapes d i 0))
+    ∙ take-append-seam (shapesFrom d 0 i) (shapesFrom d i (argumentsIn d - i))
+
+module _ (d : List ℕ) (accepted : verdict d ≡ 0) where
+  shaped : All Shaped (shapes d)
+  shaped = all-shaped d (accepted-uses d accepted)
+
+  laid : Apart (usedFirst d) (shapes d)
+  laid = apart (shapes d) (usedFirst d) shaped
+
+  pub each : length (addressesOf d) ≡ valuesOf d
+  unfolding addressesOf valuesOf
+  each = laid .each
+
+  pub inside : (k : ℕ) → k < valuesOf d → lies d k < 176 + areaOf d
+  unfolding addressesOf valuesOf areaOf
+  inside k l = all-at (λ n. n < 176 + area (usedFirst d) (shapes d)) (addresses (usedFirst d) (shapes d)) (laid .inside) k (subst (λ n. k < n) (sym (laid .each)) l)
+
+  pub once : (k l : ℕ) → k < valuesOf d → l < valuesOf d → lies d k ≡ lies d l → k ≡ l
+  unfolding addressesOf valuesOf
+  once k l p q e =
+      nodup-inj (addresses (usedFirst d) (shapes d)) (laid .once) k l (subst (λ n. k < n) (sym (laid .each)) p) (subst (λ n. l < n) (sym (laid .each)) q) e
+
+  pub past : hidden d ≡ true → (k : ℕ) → k < valuesOf d → 8 ≤ lies d k
+  unfolding addressesOf valuesOf
+  past h k l =
+      let one : _≡_ {A = ℕ} (cond (hidden d) 1 0) 1 = rw h refl in
+      all-at (λ n. 8 ≤ n) (addresses (usedFirst d) (shapes d)) (laid .past (omega (arith, one))) k (subst (λ n. k < n) (sym (laid .each)) l)
+
+  module _ (i : ℕ) (there : i < argumentsIn d) where
+    used-here : after (usedFirst d) (take i (shapes d)) ≡ usedAt d i
+    unfolding kcb paperUsed
+    used-here = kcb-used d i (omega arith)
+
+    shape-here : getD (shapes d) i (record { kinds = []; size = 0; align = 1 }) ≡ shapeAt d i
+    unfolding kcb paperShape
+    shape-here = kcb-shape d i there
+
+    start-here : valueOffset (shapes d) i ≡ valueStart d i
+    unfolding valueOffset valueStart
+    start-here = ap total (first-shapes d i (omega arith))
+
+    within : i < length (shapes d)
+    within = let l = length-shapes d (argumentsIn d) 0 in omega (arith, l)
+
+    pub recorded : (j : ℕ) → j < placementAt d i .size .0 → lies d (valueStart d i + j) ≡ getD (bytesOf (placeAt d i) (placementAt d i .size .0)) j 0
+    unfolding addressesOf placementAt
+    recorded j l =
+        ap (λ n. getD (addresses (usedFirst d) (shapes d)) (n + j) 0) (sym start-here)
+        ∙ address-at (shapes d) (usedFirst d) (record { kinds = []; size = 0; align = 1 }) shaped i j within (subst (λ (s : Shape). j < s .size) (sym shape-here) l)
+        ∙ ap₂ (λ (u : Used) (s : Shape). getD (bytesOf (place u s) (s .size)) j 0) used-here shape-here
+        ∙ ap (λ (p : Place). getD (bytesOf p (shapeAt d i .size)) j 0) (sym (place-said d accepted i there))
+
+    first-run : (p n : ℕ) → 1 ≤ n → getD (run p n) 0 0 ≡ p
+    first-run p zero h = absurd (omega arith)
+    first-run p (suc n) h = refl
+
+    pub stack-there : (o : ℕ) → placeAt d i ≡ onStack o → lies d (valueStart d i) ≡ 176 + o
+    unfolding placementAt
+    stack-there o e =
+        let some : 1 ≤ shapeAt d i .size = value-some d accepted i there in
+        ap (lies d) (omega arith) ∙ recorded 0 (omega (arith, some)) ∙ ap (λ (p : Place). getD (bytesOf p (shapeAt d i .size)) 0 0) e ∙ first-run (176 + o) (shapeAt d i .size) some
