@@ -16,7 +16,7 @@ ghost use Rattle.images.specs.Words.{withAddress, addressIn};
 ghost use Rattle.images.specs.Asks.{Known, AskMove};
 
 // Where a register's eightbyte begins in the register image.
-pub fn address_of(register: Register) -> Bytes
+fn address_of(register: Register) -> Bytes
     requires { ⌜ Known register ⌝ }
     ensures { λ r. ⌜ r .0 ≡ addressOf register ⌝ }
 {

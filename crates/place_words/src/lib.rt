@@ -42,7 +42,7 @@ fn put_vector(out: &mut [u8; 4096], at: usize, n: usize) -> usize
 }
 
 // A register of a returned value, or of an argument.
-pub fn put_register(out: &mut [u8; 4096], at: usize, back: bool, register: Register) -> usize
+fn put_register(out: &mut [u8; 4096], at: usize, back: bool, register: Register) -> usize
     requires { ⌜ at + 6 ≤ 4096 ⌝ }
     ensures { λ r. ⌜ Wrote 6 (now (out .entry)) at (registerWord back register) (now (out .exit)) r ⌝ }
 {

@@ -8,3 +8,4 @@ pub mod Demand2
 pub mod PlacedFor
 pub mod ValueBytes
 pub mod Demand3
+pub mod Calls

@@ -32,9 +32,12 @@ result T c = typeAt (T .signature .result) (c .lifetimes) .coded
 abbrev pub bytes : Coded (List ℕ)
 bytes = codedList codedℕ
 
--- two facts that contracts state, which make two such values equal
+-- what a contract states makes two such values equal: one fact, or two
+pub told : {X : Type 0} (c : Coded X) {x y : X} {φ : Type 0} {A : Type 1} → ∥ φ × A ∥₁ → (φ → x ≡ y) → x ≡ y
+told c {x} {y} p f = ∥∥₁-elim p (coded-set c x y) (λ s. f (s .0))
+
 pub settle : {X : Type 0} (c : Coded X) {x y : X} {φ ψ : Type 0} {A B : Type 1} → ∥ φ × A ∥₁ → ∥ ψ × B ∥₁ → (φ → ψ → x ≡ y) → x ≡ y
-settle c {x} {y} p q f = ∥∥₁-elim p (coded-set c x y) (λ s. ∥∥₁-elim q (coded-set c x y) (λ t. f (s .0) (t .0)))
+settle c p q f = told c p (λ s. told c q (f s))
 
 -- where they are equations with one and the same right-hand side
 pub equal : {X : Type 0} (c : Coded X) {x y z : X} {A B : Type 1} → ∥ (x ≡ z) × A ∥₁ → ∥ (y ≡ z) × B ∥₁ → x ≡ y

@@ -19,3 +19,4 @@ pub mod OfShow
 pub mod OfText
 pub mod OfPlaceWords
 pub mod OfListing
+pub mod HostCalls

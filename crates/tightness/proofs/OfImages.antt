@@ -7,13 +7,9 @@ use denote.Triple.Clauses.{Lasts}
 use Rattle.tightness.specs.Tight.{Admits, Tight}
 use Rattle.tightness.proofs.Laws.{bytes, equal, result, settle, settle-parts}
 use Rattle.images.proofs.address_in
-use Rattle.images.proofs.address_of
 use Rattle.images.proofs.gather_one
 use Rattle.images.proofs.place_one
 use Rattle.images.proofs.put_address
-
-pub tight-images-address-of : Tight address_of.ended (λ M. address_of.clauses {M = M})
-tight-images-address-of c r q w v a b = (settle (result address_of.ended c) (a .ensured) (b .ensured) (λ e f i. record { 0 = (e ∙ sym f) i }), refl)
 
 pub tight-images-gather-one : Tight gather_one.ended (λ M. gather_one.clauses {M = M})
 tight-images-gather-one c r q w v a b = (refl, λ i. (tt, (tt, (tt, (tt, (values i, (tt, tt)))))))
