@@ -1,9 +1,16 @@
--- The contracts of `moving` are tight, one theorem for each public function. Assumes nothing.
-use mathlib.Core.Path.{_≡_, refl, sym, _∙_}
-use Rattle.tightness.specs.Tight.{Tight}
+-- Each public function of `moving` meets its contract, and the contract is tight. Assumes nothing.
+use mathlib.Core.Path.{_≡_, sym, _∙_}
+use Rattle.tightness.specs.Tight.{Meets, Tight}
 use Rattle.tightness.proofs.Laws.{bytes, result, settle}
 use Rattle.moving.proofs.gather_values
+use Rattle.moving.proofs.gather_values.Met as gather-values-met
+use Rattle.moving.proofs.gather_values.Symbol as gather-values-symbol
 use Rattle.moving.proofs.place_values
+use Rattle.moving.proofs.place_values.Met as place-values-met
+use Rattle.moving.proofs.place_values.Symbol as place-values-symbol
+
+pub meets-moving-place-values : Meets place_values.ended (λ M. place_values.clauses {M = M}) place-values-symbol.routine
+meets-moving-place-values M = place-values-met.met
 
 pub tight-moving-place-values : Tight place_values.ended (λ M. place_values.clauses {M = M})
 tight-moving-place-values c r q w v a b = (settle (result place_values.ended c) (a .ensured) (b .ensured) (λ e f. e .0 ∙ sym (f .0)), λ i. (tt, (tt, (tt, (registers i, (stack i, tt))))))
@@ -13,6 +20,9 @@ tight-moving-place-values c r q w v a b = (settle (result place_values.ended c) 
 
     stack : w .1 .1 .1 .1 .0 ≡ v .1 .1 .1 .1 .0
     stack = settle bytes (a .ensured) (b .ensured) (λ e f. e .1 .1 ∙ sym (f .1 .1))
+
+pub meets-moving-gather-values : Meets gather_values.ended (λ M. gather_values.clauses {M = M}) gather-values-symbol.routine
+meets-moving-gather-values M = gather-values-met.met
 
 pub tight-moving-gather-values : Tight gather_values.ended (λ M. gather_values.clauses {M = M})
 tight-moving-gather-values c r q w v a b = (settle (result gather_values.ended c) (a .ensured) (b .ensured) (λ e f. e .0 ∙ sym (f .0)), λ i. (tt, (tt, (tt, (values i, tt)))))

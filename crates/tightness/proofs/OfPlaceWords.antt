@@ -1,15 +1,25 @@
--- The contracts of `place_words` are tight, one theorem for each public function. Assumes nothing.
-use mathlib.Core.Path.{_≡_, refl, sym, _∙_}
-use Rattle.tightness.specs.Tight.{Tight}
+-- Each public function of `place_words` meets its contract, and the contract is tight. Assumes nothing.
+use mathlib.Core.Path.{_≡_, sym, _∙_}
+use Rattle.tightness.specs.Tight.{Meets, Tight}
 use Rattle.tightness.proofs.Laws.{bytes, result, settle}
 use Rattle.place_words.proofs.put_place
+use Rattle.place_words.proofs.put_place.Met as put-place-met
+use Rattle.place_words.proofs.put_place.Symbol as put-place-symbol
 use Rattle.place_words.proofs.put_return_place
+use Rattle.place_words.proofs.put_return_place.Met as put-return-place-met
+use Rattle.place_words.proofs.put_return_place.Symbol as put-return-place-symbol
+
+pub meets-place-words-put-place : Meets put_place.ended (λ M. put_place.clauses {M = M}) put-place-symbol.routine
+meets-place-words-put-place M = put-place-met.met
 
 pub tight-place-words-put-place : Tight put_place.ended (λ M. put_place.clauses {M = M})
 tight-place-words-put-place c r q w v a b = (settle (result put_place.ended c) (a .ensured) (b .ensured) (λ e f. e .behind ∙ sym (f .behind)), λ i. (out i, (tt, (tt, tt))))
   where
     out : w .0 ≡ v .0
     out = settle bytes (a .ensured) (b .ensured) (λ e f. e .bytes ∙ sym (f .bytes))
+
+pub meets-place-words-put-return-place : Meets put_return_place.ended (λ M. put_return_place.clauses {M = M}) put-return-place-symbol.routine
+meets-place-words-put-return-place M = put-return-place-met.met
 
 pub tight-place-words-put-return-place : Tight put_return_place.ended (λ M. put_return_place.clauses {M = M})
 tight-place-words-put-return-place c r q w v a b = (settle (result put_return_place.ended c) (a .ensured) (b .ensured) (λ e f. e .behind ∙ sym (f .behind)), λ i. (out i, (tt, (tt, tt))))

@@ -1,25 +1,50 @@
--- The contracts of `places` are tight, one theorem for each public function. Assumes nothing.
-use mathlib.Core.Path.{_≡_, refl, sym, _∙_}
-use Rattle.tightness.specs.Tight.{Tight}
+-- Each public function of `places` meets its contract, and the contract is tight. Assumes nothing.
+use mathlib.Core.Path.{refl, sym, _∙_}
+use Rattle.tightness.specs.Tight.{Meets, Tight}
 use Rattle.tightness.proofs.Laws.{equal, result, settle}
 use Rattle.places.proofs.Records.{asked-same, placed-same}
 use Rattle.places.proofs.fresh
+use Rattle.places.proofs.fresh.Met as fresh-met
+use Rattle.places.proofs.fresh.Symbol as fresh-symbol
 use Rattle.places.proofs.hidden_for
+use Rattle.places.proofs.hidden_for.Met as hidden-for-met
+use Rattle.places.proofs.hidden_for.Symbol as hidden-for-symbol
 use Rattle.places.proofs.place_next
+use Rattle.places.proofs.place_next.Met as place-next-met
+use Rattle.places.proofs.place_next.Symbol as place-next-symbol
 use Rattle.places.proofs.return_place
+use Rattle.places.proofs.return_place.Met as return-place-met
+use Rattle.places.proofs.return_place.Symbol as return-place-symbol
 use Rattle.places.proofs.shape_of
+use Rattle.places.proofs.shape_of.Met as shape-of-met
+use Rattle.places.proofs.shape_of.Symbol as shape-of-symbol
+
+pub meets-places-shape-of : Meets shape_of.ended (λ M. shape_of.clauses {M = M}) shape-of-symbol.routine
+meets-places-shape-of M = shape-of-met.met
 
 pub tight-places-shape-of : Tight shape_of.ended (λ M. shape_of.clauses {M = M})
 tight-places-shape-of c r q w v a b = (settle (result shape_of.ended c) (a .ensured) (b .ensured) (λ e f. asked-same r q (e ∙ sym f)), refl)
 
+pub meets-places-fresh : Meets fresh.ended (λ M. fresh.clauses {M = M}) fresh-symbol.routine
+meets-places-fresh M = fresh-met.met
+
 pub tight-places-fresh : Tight fresh.ended (λ M. fresh.clauses {M = M})
 tight-places-fresh c r q w v a b = (equal (result fresh.ended c) (a .ensured) (b .ensured), refl)
+
+pub meets-places-place-next : Meets place_next.ended (λ M. place_next.clauses {M = M}) place-next-symbol.routine
+meets-places-place-next M = place-next-met.met
 
 pub tight-places-place-next : Tight place_next.ended (λ M. place_next.clauses {M = M})
 tight-places-place-next c r q w v a b = (settle (result place_next.ended c) (a .ensured) (b .ensured) (placed-same _ _ r q), refl)
 
+pub meets-places-return-place : Meets return_place.ended (λ M. return_place.clauses {M = M}) return-place-symbol.routine
+meets-places-return-place M = return-place-met.met
+
 pub tight-places-return-place : Tight return_place.ended (λ M. return_place.clauses {M = M})
 tight-places-return-place c r q w v a b = (equal (result return_place.ended c) (a .ensured) (b .ensured), refl)
+
+pub meets-places-hidden-for : Meets hidden_for.ended (λ M. hidden_for.clauses {M = M}) hidden-for-symbol.routine
+meets-places-hidden-for M = hidden-for-met.met
 
 pub tight-places-hidden-for : Tight hidden_for.ended (λ M. hidden_for.clauses {M = M})
 tight-places-hidden-for c r q w v a b = (equal (result hidden_for.ended c) (a .ensured) (b .ensured), refl)
