@@ -1,0 +1,348 @@
+/* callbridge.h: the call bridge for C and C++ hosts (System V AMD64, LP64; C99 or later).
+
+   The library reads a description (KCB) of one call of a module's function, says which register or stack slot holds each argument,
+   moves the argument bytes into a register image and a stack image and out again, and walks the unnamed arguments as va_arg does.
+
+   Every call that can be refused answers a cb_refusal. Its number is 0 (CB_ACCEPTED) where the call did its work; otherwise nothing
+   was written: each struct and each buffer that was lent holds what it held before. Any bytes may be given as a description, and any
+   numbers in a station or a walk: a wrong one is refused, never followed.
+
+   What a host must keep to:
+   - a buffer is a pointer and its own length in bytes (for a list: in records), and no two that are lent to one call overlap, where
+     one of them is written to;
+   - no pointer is NULL, also where the length is 0;
+   - each pointer to a struct is aligned for it; what a struct held that a call fills does not matter;
+   - the field `attached` of a station is 0 or 1.
+
+   The library allocates nothing and has no state of its own, neither global nor per thread: all that it knows lies in what it is
+   lent. Every function may be called from any thread and from a signal handler, as long as nobody else has what is lent to it. */
+#ifndef CALLBRIDGE_H
+#define CALLBRIDGE_H
+
+#include <stddef.h>
+#include <stdint.h>
+
+#ifdef __cplusplus
+extern "C" {
+#endif
+
+/* The version of this interface. It counts up where a program must be built anew; compare it with cb_version(). */
+#define CB_VERSION 1
+
+/* Sizes that the description's rules fix. */
+#define CB_MAX_ARGUMENTS 64      /* arguments of one call: a list of so many placements is always long enough */
+#define CB_MAX_DESCRIPTION 586   /* bytes of an accepted description */
+#define CB_MAX_TYPE 4096         /* bytes of one type */
+#define CB_MAX_AREA 16384        /* bytes of the stack image */
+#define CB_SEAT_LENGTH 586       /* bytes of a seat, exactly */
+#define CB_REGISTER_IMAGE 176    /* bytes of the register image, exactly: rdi, rsi, rdx, rcx, r8, r9 at 8 bytes, xmm0 to xmm7 at 16 */
+#define CB_LISTING_ROOM 4096     /* bytes of the buffer of cb_write_listing, exactly */
+
+/* ---- refusals */
+
+enum cb_refusal_number {
+    CB_ACCEPTED = 0,
+    CB_TOO_SHORT = 1,
+    CB_WRONG_MARK = 2,
+    CB_WRONG_VERSION = 3,
+    CB_WRONG_COUNTS = 4,
+    CB_WRONG_LENGTH = 5,
+    CB_WRONG_TYPE_RECORD = 6,
+    CB_TYPE_TOO_LARGE = 7,
+    CB_WRONG_TYPE_NUMBER = 8,
+    CB_UNPROMOTED_ARGUMENT = 9,
+    CB_AREA_TOO_LARGE = 10,
+    CB_WRONG_BUFFER = 11,
+    CB_WRONG_BOOL = 12,
+    CB_NOT_ATTACHED = 13,
+    CB_ALREADY_ATTACHED = 14,
+    CB_NO_MORE_ATTACHMENTS = 15,
+    CB_NOT_VARIADIC = 16,
+    CB_OTHER_ATTACHMENT = 17,
+    CB_WALK_ASTRAY = 18,
+    CB_WALK_AT_END = 19,
+    CB_OTHER_TYPE = 20
+};
+
+/* Why a call was refused: a number of enum cb_refusal_number, 0 for none. */
+typedef struct cb_refusal {
+    uint8_t number;
+} cb_refusal;
+
+/* ---- types */
+
+/* What cb_type_extent gives, in bytes. */
+typedef struct cb_extent {
+    size_t size;
+    size_t align;
+} cb_extent;
+
+/* The classes of the AMD64 supplement, section 3.2.3. */
+enum cb_class {
+    CB_NO_CLASS = 0,
+    CB_INTEGER = 1,
+    CB_SSE = 2,
+    CB_SSEUP = 3,
+    CB_X87 = 4,
+    CB_X87UP = 5,
+    CB_COMPLEX_X87 = 6,
+    CB_MEMORY = 7
+};
+
+/* What cb_type_classes gives: an enum cb_class for each of two eightbytes. A lone class, CB_MEMORY and CB_COMPLEX_X87 stand first
+   with CB_NO_CLASS second. */
+typedef struct cb_classes {
+    uint8_t first;
+    uint8_t second;
+} cb_classes;
+
+/* What a part is a part of. */
+enum cb_image {
+    CB_NOWHERE = 0,     /* no part: offset and length are 0 */
+    CB_DESCRIPTION = 1,
+    CB_REGISTERS = 2,
+    CB_STACK = 3
+};
+
+/* So many bytes of the description or of an image (an enum cb_image), from an offset on. */
+typedef struct cb_part {
+    size_t offset;
+    size_t length;
+    uint8_t image;
+} cb_part;
+
+/* ---- layout */
+
+/* Registers as numbers. CB_RAX, CB_ST0 and CB_ST1 hold returned values only. */
+enum cb_register {
+    CB_RDI = 0,
+    CB_RSI = 1,
+    CB_RDX = 2,
+    CB_RCX = 3,
+    CB_R8 = 4,
+    CB_R9 = 5,
+    CB_RAX = 6,
+    CB_ST0 = 8,
+    CB_ST1 = 9,
+    CB_XMM0 = 16,       /* CB_XMM0 + k is xmm of number k, 0 to 7 */
+    CB_XMM1 = 17,
+    CB_XMM2 = 18,
+    CB_XMM3 = 19,
+    CB_XMM4 = 20,
+    CB_XMM5 = 21,
+    CB_XMM6 = 22,
+    CB_XMM7 = 23,
+    CB_XMM0H = 32,      /* CB_XMM0H + k is its upper half */
+    CB_XMM1H = 33,
+    CB_XMM2H = 34,
+    CB_XMM3H = 35,
+    CB_XMM4H = 36,
+    CB_XMM5H = 37,
+    CB_XMM6H = 38,
+    CB_XMM7H = 39,
+    CB_NONE = 255
+};
+
+/* One argument: its size and alignment in bytes, its type's number, and its place.
+   In registers: first and second are an enum cb_register for each eightbyte, second is CB_NONE where there is one eightbyte, offset is 0.
+   On the stack: first and second are CB_NONE, and offset is its first byte in the stack image. */
+typedef struct cb_placement {
+    size_t size;
+    size_t align;
+    size_t offset;
+    uint8_t type;
+    uint8_t first;
+    uint8_t second;
+} cb_placement;
+
+/* A call as a whole.
+   Return place: two registers of enum cb_register, return_second CB_NONE for a value in one register; CB_ST0 for a long double, CB_ST0
+   and CB_ST1 for a complex one. Both are CB_NONE for void, hidden 0, and for a value in memory, hidden 1: then the host passes the
+   value's address (in rdi), and it comes back in rax. */
+typedef struct cb_layout {
+    size_t general_registers;        /* used, 0 to 6, the hidden address included */
+    size_t vector_registers;         /* used, 0 to 8 */
+    size_t stack_end;                /* where the last stack argument's room ends, a multiple of 8 */
+    size_t area;                     /* bytes of the stack image: stack_end rounded up to 16 */
+    size_t values;                   /* bytes of all values, packed */
+    size_t named_general_registers;  /* the same three after the named arguments alone: where a walk starts */
+    size_t named_vector_registers;
+    size_t named_stack_end;
+    size_t arguments;                /* how many, 0 to 64 */
+    uint8_t return_first;
+    uint8_t return_second;
+    uint8_t hidden;                  /* 1 where a hidden address is passed, else 0 */
+} cb_layout;
+
+/* ---- moving */
+
+/* What placing gives: the vector registers used, 0 to 8, which a variadic function wants in al. */
+typedef struct cb_placed {
+    size_t vector_registers;
+} cb_placed;
+
+/* What gathering gives: the hidden address, 0 where none is passed. */
+typedef struct cb_gathered {
+    uint64_t hidden;
+} cb_gathered;
+
+/* ---- station and walk */
+
+/* What the host keeps of a seat. A new one comes from cb_new_station; after that cb_attach and cb_detach alone change it. */
+typedef struct cb_station {
+    uint8_t attached;   /* 0 or 1 */
+    size_t length;      /* bytes of the description in the seat */
+    uint32_t number;    /* of the last attachment */
+} cb_station;
+
+/* Where a walk over unnamed arguments stands. It comes from cb_open_walk; after that cb_step alone changes it. */
+typedef struct cb_walk {
+    uint32_t number;    /* of the attachment that it was opened under */
+    size_t position;    /* the next argument */
+    size_t general;     /* gp_offset, 0 to 48 */
+    size_t vector;      /* fp_offset, 48 to 176 */
+    size_t overflow;    /* offset in the stack image */
+} cb_walk;
+
+/* ---- calls: the description */
+
+/* CB_VERSION of the library. */
+uint32_t cb_version(void);
+
+/* Accepted where the description is right in every respect. Refused 1 to 10. */
+cb_refusal cb_check(const uint8_t *description, size_t description_length);
+
+/* Size and alignment of the type with this number. Refused 1 to 7, then 8 for a number that is not below the count of types. */
+cb_refusal cb_type_extent(const uint8_t *description, size_t description_length, uint8_t type, cb_extent *extent);
+
+/* The classes of the type's eightbytes. Refused 1 to 8, as cb_type_extent. */
+cb_refusal cb_type_classes(const uint8_t *description, size_t description_length, uint8_t type, cb_classes *classes);
+
+/* The part of the description that holds the type numbers of a struct's or union's members; CB_NOWHERE for another kind of type.
+   Refused 1 to 8, as cb_type_extent. */
+cb_refusal cb_member_run(const uint8_t *description, size_t description_length, uint8_t type, cb_part *run);
+
+/* The layout of the call. Refused 1 to 10. */
+cb_refusal cb_layout_of(const uint8_t *description, size_t description_length, cb_layout *layout);
+
+/* The same, and one placement for each argument, in order, into the first entries of a list of so many records; the entries behind
+   them stay. Refused 1 to 10, then 11 for a list that is shorter than the arguments. */
+cb_refusal cb_lay_out(const uint8_t *description, size_t description_length, cb_layout *layout, cb_placement *list, size_t list_length);
+
+/* The layout as text, without a final 0, at the start of a buffer of CB_LISTING_ROOM bytes; the bytes behind it stay. Answers the
+   text's length. A description that is refused gives the line `refused n`. */
+size_t cb_write_listing(const uint8_t *description, size_t description_length, uint8_t *out);
+
+/* ---- calls: moving bytes */
+
+/* Places the values, packed argument after argument, into both images, and zeros everywhere else in them. The hidden address goes
+   into rdi where one is passed, and is not looked at otherwise. The lengths are the layout's `values`, CB_REGISTER_IMAGE and the
+   layout's `area`. Refused 1 to 10, then 11 for another length, then 12 for a _Bool argument's byte that is not 0 or 1. */
+cb_refusal cb_place_values(const uint8_t *description, size_t description_length, uint64_t hidden,
+                           const uint8_t *values, size_t values_length,
+                           uint8_t *registers, size_t registers_length,
+                           uint8_t *stack, size_t stack_length, cb_placed *placed);
+
+/* The reverse: gathers the values again, packed, and the hidden address. Refused 1 to 10, then 11 as cb_place_values. */
+cb_refusal cb_gather_values(const uint8_t *description, size_t description_length,
+                            const uint8_t *registers, size_t registers_length,
+                            const uint8_t *stack, size_t stack_length,
+                            uint8_t *values, size_t values_length, cb_gathered *gathered);
+
+/* ---- calls: station and walk. A seat has CB_SEAT_LENGTH bytes, and belongs to one station. */
+
+/* A station that nothing was ever attached to: all fields 0. */
+cb_station cb_new_station(void);
+
+/* Attaches: copies the description into the seat, zeros behind it, and counts the station's number up. Refused 11 for the seat's or
+   the station's length, 14 where something is attached, 15 where the number can count no further, then 1 to 10. */
+cb_refusal cb_attach(cb_station *station, uint8_t *seat, size_t seat_length,
+                     const uint8_t *description, size_t description_length);
+
+/* Detaches: zeros the seat and the station's length, and keeps the number, so that walks of this attachment end. Refused 11 as
+   cb_attach, then 13 where nothing is attached. */
+cb_refusal cb_detach(cb_station *station, uint8_t *seat, size_t seat_length);
+
+/* Opens a walk before the first unnamed argument. Refused 11 and 13 as cb_detach, then 1 to 10, then 16 for a function that is not
+   variadic. */
+cb_refusal cb_open_walk(const cb_station *station, const uint8_t *seat, size_t seat_length, cb_walk *walk);
+
+/* Copies the argument that the walk stands before, of the type with this number, into `out`, of exactly the type's size, and moves
+   the walk on. Refused 11 for seat, station and register image, 13, 1 to 10, then 17 for a walk of another attachment, 18 for a walk
+   record that this description does not give, 19 at the end, 20 for another type, then 11 for stack image and out buffer. */
+cb_refusal cb_step(const cb_station *station, const uint8_t *seat, size_t seat_length, cb_walk *walk,
+                   const uint8_t *registers, size_t registers_length,
+                   const uint8_t *stack, size_t stack_length, uint8_t type, uint8_t *out, size_t out_length);
+
+/* Shows where that argument lies, and moves no walk: a part of the register image or of the stack image, or CB_NOWHERE where it lies
+   in two vector registers, or in a general and a vector one. Refused as cb_step, but for the out buffer. */
+cb_refusal cb_show(const cb_station *station, const uint8_t *seat, size_t seat_length, const cb_walk *walk,
+                   const uint8_t *registers, size_t registers_length,
+                   const uint8_t *stack, size_t stack_length, uint8_t type, cb_part *part);
+
+/* ---- helpers of this header: no part of the library */
+
+#define CB_NO_OFFSET ((size_t)-1)
+
+/* Where a register stands in the register image; CB_NO_OFFSET for one that is not there. */
+static inline size_t cb_register_offset(uint8_t number)
+{
+    if (number <= CB_R9) {
+        return 8 * (size_t)number;
+    }
+    if (CB_XMM0 <= number && number <= CB_XMM7) {
+        return 48 + 16 * (size_t)(number - CB_XMM0);
+    }
+    if (CB_XMM0H <= number && number <= CB_XMM7H) {
+        return 48 + 16 * (size_t)(number - CB_XMM0H) + 8;
+    }
+    return CB_NO_OFFSET;
+}
+
+/* A register's name, as the listing has it; "" for CB_NONE and for numbers that are no register. */
+static inline const char *cb_register_name(uint8_t number)
+{
+    static const char *const names[40] = {
+        "rdi",   "rsi",   "rdx",   "rcx",   "r8",    "r9",    "rax",   "",
+        "st0",   "st1",   "",      "",      "",      "",      "",      "",
+        "xmm0",  "xmm1",  "xmm2",  "xmm3",  "xmm4",  "xmm5",  "xmm6",  "xmm7",
+        "",      "",      "",      "",      "",      "",      "",      "",
+        "xmm0h", "xmm1h", "xmm2h", "xmm3h", "xmm4h", "xmm5h", "xmm6h", "xmm7h"
+    };
+    return number < 40 ? names[number] : "";
+}
+
+/* What a refusal means, in a line. */
+static inline const char *cb_refusal_text(cb_refusal refusal)
+{
+    static const char *const texts[21] = {
+        "accepted",
+        "the description has under 11 bytes",
+        "the description does not begin with KCB",
+        "the description's version is not 1",
+        "the description's counts of types or arguments, or its variadic byte, are against the rules",
+        "the description has not the length that its counts ask for",
+        "a type record is against the rules",
+        "a type has over 4096 bytes",
+        "a type number names no type, or an array where a value is passed or returned",
+        "an unnamed argument is a _Bool, char, short or float",
+        "the stack area is over 16384 bytes",
+        "a buffer has the wrong length, the list is too short, or the station's length is over 586",
+        "the byte of a _Bool argument is not 0 or 1",
+        "nothing is attached",
+        "something is attached already",
+        "the station's number can count no further",
+        "the function is not variadic",
+        "the walk is of another attachment",
+        "the walk's position or offsets are not those of this description",
+        "the walk has passed the last argument",
+        "the argument is of another type"
+    };
+    return refusal.number < 21 ? texts[refusal.number] : "no refusal of this library";
+}
+
+#ifdef __cplusplus
+}
+#endif
+
+#endif
