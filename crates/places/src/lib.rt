@@ -50,6 +50,7 @@ pub enum Place {
 }
 
 // What is used so far.
+#[repr(C)]
 pub struct Used {
     pub general: Registers,
     pub vector: Registers,

@@ -9,6 +9,7 @@ ghost use Rattle.station.specs.Paper.{kcb};
 ghost use Rattle.station.specs.Attachment.{newStation, wrongSeat, seatOf, detachRefusal, detachStation, detachSeat, attachRefusal, attachStation, attachSeat};
 
 // What the host keeps of a seat: whether a description is attached there, how long it is, and the number of the last attachment.
+#[repr(C)]
 pub struct Station {
     pub attached: bool,
     pub length: Bytes,

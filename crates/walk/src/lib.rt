@@ -28,6 +28,7 @@ ghost use Rattle.walk.specs.Steps.{openedIf, openAnswer};
 ghost use Rattle.walk.specs.Asks.{Reached, IsCounted, readFor, IsStanding, refusalIn};
 
 // Where a walk stands: the attachment it was opened under, the next argument, gp_offset, fp_offset and the overflow offset.
+#[repr(C)]
 pub struct Walk {
     pub number: u32,
     pub position: usize,
