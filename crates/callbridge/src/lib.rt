@@ -1,0 +1,219 @@
+// The C interface (include/callbridge.h): every call of a host, thin over the by-value functions of the crates below. A slice is a
+// pointer and a count, `&mut S` and `&S` are pointers to a struct.
+use flat::Classes;
+use flat::Layout;
+use flat::Part;
+use form::Refusal;
+use given::Gathered;
+use given::Placed;
+use station::Station;
+use types::Extent;
+use walk::Walk;
+ghost use mathlib.Core.Path.{_≡_};
+ghost use mathlib.Core.List.{[], _++_};
+ghost use Prim.Native.Nat.{_≤_};
+ghost use lib.ListN.{length, drop};
+ghost use Rattle.description.specs.Description.{argumentsIn};
+ghost use Rattle.form.specs.Reading.{refusalOf};
+ghost use Rattle.questions.specs.Questions.{extentAnswer};
+ghost use Rattle.questions.specs.Runs.{classesAnswer, runAnswer};
+ghost use Rattle.layout.specs.Layout.{layoutAnswer};
+ghost use Rattle.layout.specs.Verdict.{verdict};
+ghost use Rattle.moving.specs.Answers.{placeAnswer, registersAfter, stackAfter, gatherAnswer, valuesAfter};
+ghost use Rattle.station.specs.Paper.{kcb};
+ghost use Rattle.station.specs.Attachment.{newStation, attachRefusal, attachStation, attachSeat, detachRefusal, detachStation, detachSeat};
+ghost use Rattle.walk.specs.Orders.{asking, stepRefusal};
+ghost use Rattle.walk.specs.Steps.{openAnswer, stepWalk, stepOut};
+ghost use Rattle.show.specs.Show.{shownAnswer};
+ghost use Rattle.listing.specs.Listing.{listing};
+ghost use Rattle.given.specs.Outcome.{refusalIn, leftIn};
+ghost use Rattle.given.specs.Given.{extentGiven, classesGiven, runGiven, layoutGiven, placedGiven, gatheredGiven, openGiven, shownGiven};
+
+// CB_VERSION.
+#[no_mangle]
+pub extern "C" fn cb_version() -> u32
+    ensures { λ r. ⌜ r ≡ 1 ⌝ }
+{
+    1
+}
+
+// The verdict on a description.
+#[no_mangle]
+pub extern "C" fn cb_check(d: &[u8]) -> Refusal
+    ensures { λ r. ⌜ r ≡ refusalOf (verdict (now (d .entry))) ⌝ }
+{
+    layout::check(d)
+}
+
+// Size and alignment of a type.
+#[no_mangle]
+pub extern "C" fn cb_type_extent(d: &[u8], asked: u8, extent: &mut Extent) -> Refusal
+    ensures { λ r. ⌜ (r ≡ refusalIn (extentGiven (extentAnswer (now (d .entry)) asked)))
+        × (now (extent .exit) ≡ leftIn (extentGiven (extentAnswer (now (d .entry)) asked)) (now (extent .entry))) ⌝ }
+{
+    let given = given::give_extent(d, asked, *extent);
+    *extent = given.extent;
+    given.refusal
+}
+
+// The classes of a type.
+#[no_mangle]
+pub extern "C" fn cb_type_classes(d: &[u8], asked: u8, classes: &mut Classes) -> Refusal
+    ensures { λ r. ⌜ (r ≡ refusalIn (classesGiven (classesAnswer (now (d .entry)) asked)))
+        × (now (classes .exit) ≡ leftIn (classesGiven (classesAnswer (now (d .entry)) asked)) (now (classes .entry))) ⌝ }
+{
+    let given = given::give_classes(d, asked, *classes);
+    *classes = given.classes;
+    given.refusal
+}
+
+// The members of a type, as a part of the description.
+#[no_mangle]
+pub extern "C" fn cb_member_run(d: &[u8], asked: u8, part: &mut Part) -> Refusal
+    ensures { λ r. ⌜ (r ≡ refusalIn (runGiven (runAnswer (now (d .entry)) asked)))
+        × (now (part .exit) ≡ leftIn (runGiven (runAnswer (now (d .entry)) asked)) (now (part .entry))) ⌝ }
+{
+    let given = given::give_run(d, asked, *part);
+    *part = given.part;
+    given.refusal
+}
+
+// The call as a whole.
+#[no_mangle]
+pub extern "C" fn cb_layout_of(d: &[u8], layout: &mut Layout) -> Refusal
+    ensures { λ r. ⌜ (r ≡ refusalIn (layoutGiven (argumentsIn (now (d .entry))) (layoutAnswer (now (d .entry)))))
+        × (now (layout .exit) ≡ leftIn (layoutGiven (argumentsIn (now (d .entry))) (layoutAnswer (now (d .entry)))) (now (layout .entry))) ⌝ }
+{
+    let given = given::give_layout(d, *layout);
+    *layout = given.layout;
+    given.refusal
+}
+
+// The layout as text; the answer is its length.
+#[no_mangle]
+pub extern "C" fn cb_write_listing(d: &[u8], out: &mut [u8; 4096]) -> usize
+    ensures { λ r. ⌜ (r ≡ length (listing (now (d .entry)))) × (r ≤ 3452)
+        × (now (out .exit) ≡ listing (now (d .entry)) ++ drop (length (listing (now (d .entry)))) (now (out .entry))) ⌝ }
+{
+    listing::write_listing(d, out)
+}
+
+// Values into both images.
+#[no_mangle]
+pub extern "C" fn cb_place_values(
+    d: &[u8],
+    hidden: u64,
+    values: &[u8],
+    registers: &mut [u8],
+    stack: &mut [u8],
+    placed: &mut Placed,
+) -> Refusal
+    ensures { λ r. ⌜ (r ≡ refusalIn (placedGiven (placeAnswer (now (d .entry)) (now (values .entry)) (length (now (registers .entry))) (length (now (stack .entry))))))
+        × ((now (placed .exit) ≡ leftIn (placedGiven (placeAnswer (now (d .entry)) (now (values .entry)) (length (now (registers .entry))) (length (now (stack .entry))))) (now (placed .entry)))
+        × ((now (registers .exit) ≡ registersAfter (now (d .entry)) hidden (now (values .entry)) (now (registers .entry)) (now (stack .entry)))
+        × (now (stack .exit) ≡ stackAfter (now (d .entry)) hidden (now (values .entry)) (now (registers .entry)) (now (stack .entry))))) ⌝ }
+{
+    let given = given::give_placed(d, hidden, values, registers, stack, *placed);
+    *placed = given.placed;
+    given.refusal
+}
+
+// Values out of both images.
+#[no_mangle]
+pub extern "C" fn cb_gather_values(
+    d: &[u8],
+    registers: &[u8],
+    stack: &[u8],
+    values: &mut [u8],
+    gathered: &mut Gathered,
+) -> Refusal
+    ensures { λ r. ⌜ (r ≡ refusalIn (gatheredGiven (gatherAnswer (now (d .entry)) (now (registers .entry)) (now (stack .entry)) (length (now (values .entry))))))
+        × ((now (gathered .exit) ≡ leftIn (gatheredGiven (gatherAnswer (now (d .entry)) (now (registers .entry)) (now (stack .entry)) (length (now (values .entry))))) (now (gathered .entry)))
+        × (now (values .exit) ≡ valuesAfter (now (d .entry)) (now (registers .entry)) (now (stack .entry)) (now (values .entry)))) ⌝ }
+{
+    let given = given::give_gathered(d, registers, stack, values, *gathered);
+    *gathered = given.gathered;
+    given.refusal
+}
+
+// A station that nothing was ever attached to.
+#[no_mangle]
+pub extern "C" fn cb_new_station() -> Station
+    ensures { λ r. ⌜ r ≡ newStation ⌝ }
+{
+    station::new_station()
+}
+
+// The description into the seat.
+#[no_mangle]
+pub extern "C" fn cb_attach(station: &mut Station, seat: &mut [u8], d: &[u8]) -> Refusal
+    ensures { λ r. ⌜ (r ≡ refusalOf (attachRefusal kcb (now (station .entry)) (now (seat .entry)) (now (d .entry))))
+        × (now (station .exit) ≡ attachStation kcb (now (station .entry)) (now (seat .entry)) (now (d .entry)))
+        × (now (seat .exit) ≡ attachSeat kcb (now (station .entry)) (now (seat .entry)) (now (d .entry))) ⌝ }
+{
+    let after = station::attaching(*station, seat, d);
+    *station = after.station;
+    after.refusal
+}
+
+// The seat emptied.
+#[no_mangle]
+pub extern "C" fn cb_detach(station: &mut Station, seat: &mut [u8]) -> Refusal
+    ensures { λ r. ⌜ (r ≡ refusalOf (detachRefusal (now (station .entry)) (now (seat .entry))))
+        × (now (station .exit) ≡ detachStation (now (station .entry)) (now (seat .entry)))
+        × (now (seat .exit) ≡ detachSeat (now (station .entry)) (now (seat .entry))) ⌝ }
+{
+    let after = station::detaching(*station, seat);
+    *station = after.station;
+    after.refusal
+}
+
+// A walk before the first unnamed argument.
+#[no_mangle]
+pub extern "C" fn cb_open_walk(station: &Station, seat: &[u8], walk: &mut Walk) -> Refusal
+    ensures { λ r. ⌜ (r ≡ refusalIn (openGiven (openAnswer kcb (now (station .entry)) (now (seat .entry)))))
+        × (now (walk .exit) ≡ leftIn (openGiven (openAnswer kcb (now (station .entry)) (now (seat .entry)))) (now (walk .entry))) ⌝ }
+{
+    let given = given::give_walk(*station, seat, *walk);
+    *walk = given.walk;
+    given.refusal
+}
+
+// The next argument's bytes, and the walk behind it.
+#[no_mangle]
+pub extern "C" fn cb_step(
+    station: &Station,
+    seat: &[u8],
+    walk: &mut Walk,
+    registers: &[u8],
+    stack: &[u8],
+    asked: u8,
+    out: &mut [u8],
+) -> Refusal
+    ensures { λ r. ⌜ (r ≡ refusalOf (stepRefusal kcb (now (station .entry)) (now (seat .entry)) (now (walk .entry)) (asking (now (registers .entry)) (now (stack .entry)) asked (now (out .entry)))))
+        × (now (walk .exit) ≡ stepWalk kcb (now (station .entry)) (now (seat .entry)) (now (walk .entry)) (asking (now (registers .entry)) (now (stack .entry)) asked (now (out .entry))))
+        × (now (out .exit) ≡ stepOut kcb (now (station .entry)) (now (seat .entry)) (now (walk .entry)) (asking (now (registers .entry)) (now (stack .entry)) asked (now (out .entry)))) ⌝ }
+{
+    let after = step::stepping(*station, seat, *walk, registers, stack, asked, out);
+    *walk = after.walk;
+    after.refusal
+}
+
+// Where the next argument lies.
+#[no_mangle]
+pub extern "C" fn cb_show(
+    station: &Station,
+    seat: &[u8],
+    walk: &Walk,
+    registers: &[u8],
+    stack: &[u8],
+    asked: u8,
+    part: &mut Part,
+) -> Refusal
+    ensures { λ r. ⌜ (r ≡ refusalIn (shownGiven (shownAnswer kcb (now (station .entry)) (now (seat .entry)) (now (walk .entry)) (asking (now (registers .entry)) (now (stack .entry)) asked []))))
+        × (now (part .exit) ≡ leftIn (shownGiven (shownAnswer kcb (now (station .entry)) (now (seat .entry)) (now (walk .entry)) (asking (now (registers .entry)) (now (stack .entry)) asked []))) (now (part .entry))) ⌝ }
+{
+    let given = given::give_shown(*station, seat, *walk, registers, stack, asked, *part);
+    *part = given.part;
+    given.refusal
+}
