@@ -3,6 +3,7 @@
 use flat::Classes;
 use flat::Layout;
 use flat::Part;
+use flat::Placement;
 use form::Refusal;
 use given::Gathered;
 use given::Placed;
@@ -18,6 +19,7 @@ ghost use Rattle.form.specs.Reading.{refusalOf};
 ghost use Rattle.questions.specs.Questions.{extentAnswer};
 ghost use Rattle.questions.specs.Runs.{classesAnswer, runAnswer};
 ghost use Rattle.layout.specs.Layout.{layoutAnswer};
+ghost use Rattle.layout.specs.Placements.{listCount, filled};
 ghost use Rattle.layout.specs.Verdict.{verdict};
 ghost use Rattle.moving.specs.Answers.{placeAnswer, registersAfter, stackAfter, gatherAnswer, valuesAfter};
 ghost use Rattle.station.specs.Paper.{kcb};
@@ -28,6 +30,7 @@ ghost use Rattle.show.specs.Show.{shownAnswer};
 ghost use Rattle.listing.specs.Listing.{listing};
 ghost use Rattle.given.specs.Outcome.{refusalIn, leftIn};
 ghost use Rattle.given.specs.Given.{extentGiven, classesGiven, runGiven, layoutGiven, placedGiven, gatheredGiven, openGiven, shownGiven};
+ghost use Rattle.given.specs.Lists.{listGiven, flatAt};
 
 // CB_VERSION.
 #[no_mangle]
@@ -87,6 +90,27 @@ pub extern "C" fn cb_layout_of(d: &[u8], layout: &mut Layout) -> Refusal
     let given = given::give_layout(d, *layout);
     *layout = given.layout;
     given.refusal
+}
+
+// The call as a whole, and one record for each argument into the list; entries past them stay.
+#[no_mangle]
+pub extern "C" fn cb_lay_out(d: &[u8], layout: &mut Layout, list: &mut [Placement]) -> Refusal
+    ensures { λ r. ⌜ (r ≡ refusalIn (listGiven (now (d .entry)) (length (now (list .entry)))))
+        × ((now (layout .exit) ≡ leftIn (listGiven (now (d .entry)) (length (now (list .entry)))) (now (layout .entry)))
+        × (now (list .exit) ≡ filled (flatAt (now (d .entry))) (listCount (now (d .entry)) (length (now (list .entry)))) (now (list .entry)))) ⌝ }
+{
+    let head = given::begin_list(d, *layout, list.len());
+    *layout = head.layout;
+    let n = head.count;
+    let mut used = head.used;
+    let mut i = 0;
+    while i < n {
+        let step = given::place_flat(d, used, i);
+        list[i] = step.placement;
+        used = step.used;
+        i += 1;
+    }
+    head.refusal
 }
 
 // The layout as text; the answer is its length.
