@@ -5,6 +5,8 @@ use mathlib.Core.List.{List}
 use Prim.Native.Nat.{ℕ, _<_}
 use lib.Dec.{eqb}
 use Rattle.description.specs.Description.{argumentsIn}
+use Rattle.classes.specs.declared.Class.{Class}
+use Rattle.classes.specs.Classes.{codeOf}
 use Rattle.places.specs.declared.Place.{Place}
 use Rattle.places.specs.declared.Place.the-variants.{One, Two, Stack}
 use Rattle.places.specs.declared.ReturnPlace.{ReturnPlace}
@@ -16,7 +18,7 @@ use Rattle.layout.specs.Placements.{placementAt}
 use Rattle.layout.specs.Verdict.{verdict}
 use Rattle.flat.specs.declared.Placement.{Placement}
 use Rattle.flat.specs.declared.Layout.{Layout}
-use Rattle.flat.specs.Numbers.{registerMeant, returnMeant}
+use Rattle.flat.specs.Numbers.{registerMeant, returnMeant, classMeant}
 use Rattle.flat.specs.Records.{placementOf, layoutOf}
 
 -- CB_NONE first: on the stack; CB_NONE second: one eightbyte
@@ -51,3 +53,6 @@ PlacementsMean = (d : List ℕ) → verdict d ≡ 0 → (i : ℕ) → i < argume
 
 abbrev pub LayoutMeans : Type 0
 LayoutMeans = (d : List ℕ) → verdict d ≡ 0 → (n : ℕ) → layoutMeant (layoutOf (wholeOf d) n) ≡ wholeOf d
+
+abbrev pub ClassesMean : Type 0
+ClassesMean = (c : Class) → classMeant (codeOf c) ≡ c

@@ -1,7 +1,11 @@
--- Registers as numbers: include/callbridge.h, enum cb_register. 255, CB_NONE, is no register. Assumes nothing: these are definitions.
+-- Registers and classes as numbers: include/callbridge.h, enum cb_register and enum cb_class. 255, CB_NONE, is no register. Assumes nothing: these are definitions.
 use mathlib.Core.Bool.{cond}
+use mathlib.Core.List.{[], _∷_}
 use Prim.Native.Nat.{ℕ, _+_, _-_}
 use lib.Dec.{ltb, eqb}
+use lib.ListN.{getD}
+use Rattle.classes.specs.declared.Class.{Class}
+use Rattle.classes.specs.declared.Class.the-variants.{NoClass, Integer, Sse, SseUp, X87, X87Up, ComplexX87, Memory}
 use Rattle.places.specs.declared.Register.{Register}
 use Rattle.places.specs.declared.Register.the-variants.{General, Vector, Upper}
 
@@ -41,3 +45,7 @@ registerMeant n = cond (ltb n 16) (General (record { 0 = n })) (vectorMeant n)
 -- of a returned value, rax stands first and rdx second
 unfoldable pub returnMeant : ℕ → Register
 returnMeant n = cond (ltb n 16) (General (record { 0 = cond (eqb n 6) 0 1 })) (vectorMeant n)
+
+-- enum cb_class: the classes in the paper's order
+unfoldable pub classMeant : ℕ → Class
+classMeant n = getD (NoClass ∷ Integer ∷ Sse ∷ SseUp ∷ X87 ∷ X87Up ∷ ComplexX87 ∷ Memory ∷ []) n NoClass

@@ -1,0 +1,189 @@
+-- Nothing is lost in the flat records of an accepted description: what they mean is what the layout says. Assumes nothing.
+use mathlib.Core.Path.{_≡_, refl, sym, ap, ap₂, _∙_}
+use mathlib.Core.Bool.{Bool, true, false, cond, not, _&&_}
+use mathlib.Core.List.{List, [], _∷_, _++_}
+use Prim.Native.Nat.{ℕ, suc, _+_, _-_, _≤_, _<_}
+use native.Mathlib.Omega.{arith}
+use borrow.Author.Tests.{eq-eqb, ne-eqb}
+use lib.Dec.{eqb}
+use lib.ListN.{length, getD, length-append}
+use Rattle.units.specs.declared.Bytes.{Bytes}
+use Rattle.description.specs.Description.{argumentsIn, returnIn}
+use Rattle.types.specs.Decode.{tyAt}
+use Rattle.classes.specs.declared.Class.{Class}
+use Rattle.classes.specs.declared.Class.the-variants.{NoClass, Integer, Sse, SseUp, X87, X87Up, ComplexX87, Memory}
+use Rattle.classes.specs.Classes.{same}
+use Rattle.classes.specs.Ups.{onStack}
+use Rattle.classify.specs.Classify.{classesOf}
+use Rattle.places.specs.declared.Kind.{Kind}
+use Rattle.places.specs.declared.Kind.the-variants.{General as general, Vector as vector, Upper as upper}
+use Rattle.places.specs.declared.Place.{Place}
+use Rattle.places.specs.declared.Place.the-variants.{One, Two, Stack}
+use Rattle.places.specs.declared.ReturnPlace.{ReturnPlace}
+use Rattle.places.specs.declared.ReturnPlace.the-variants.{Void, Memory as InMemory, One as InOne, Two as InTwo, St0, St0St1}
+use Rattle.places.specs.Shapes.{kindOf, kindsIn, kindsOf}
+use Rattle.places.specs.Places.{registerFor, place, next, generalFor, vectorFor}
+use Rattle.places.specs.Recorded.{recorded}
+use Rattle.places.specs.Returns.{outside, returnBy, returnOf, hiddenBy, hiddenFor}
+use Rattle.places.proofs.Guaranteed.{length-classes}
+use Rattle.images.specs.Asks.{Known, Inside}
+use Rattle.images.proofs.Inside.{place-inside}
+use Rattle.layout.specs.declared.Placement.{Placement as Record}
+use Rattle.layout.specs.declared.Layout.{Layout as Whole}
+use Rattle.layout.specs.Arguments.{shapeAt, usedAt, isVoid, returnClasses, returnPlace, hidden}
+use Rattle.layout.specs.Layout.{layoutOf as wholeOf}
+use Rattle.layout.specs.Placements.{placementAt}
+use Rattle.layout.specs.Verdict.{verdict}
+use Rattle.layout.proofs.Verdict.{accepted-uses}
+use Rattle.layout.proofs.Bounds.{argument-shaped}
+use Rattle.flat.specs.declared.Placement.{Placement}
+use Rattle.flat.specs.declared.Layout.{Layout}
+use Rattle.flat.specs.Numbers.{registerNumber, returnNumber, registerMeant, returnMeant}
+use Rattle.flat.specs.Records.{slotOf, placementOf, pairOf, layoutOf}
+use Rattle.flat.specs.Meanings.{placeMeant, placementMeant, returnPlaceMeant, layoutMeant, PlacementsMean, LayoutMeans}
+use Rattle.flat.proofs.Meant.{Back, register-meant, register-low, return-meant, return-not, return-low}
+
+-- ---- one argument
+
+place-meant : (size align : Bytes) (ty n : ℕ) (p : Place) → Inside p (size .0) n
+    → placeMeant (record { size = size; align = align; offset = slotOf p .offset; ty = ty; first = slotOf p .first; second = slotOf p .second }) ≡ p
+unfolding placeMeant Inside
+place-meant size align ty n (One a) h = rw (ne-eqb (registerNumber a) 255 (λ e. omega (arith, register-low a (h .0)))) (ap One (register-meant a (h .0)))
+place-meant size align ty n (Two a b) h =
+    rw (ne-eqb (registerNumber a) 255 (λ e. omega (arith, register-low a (h .0))), ne-eqb (registerNumber b) 255 (λ e. omega (arith, register-low b (h .1 .0))))
+    (ap₂ Two (register-meant a (h .0)) (register-meant b (h .1 .0)))
+place-meant size align ty n (Stack o) h = refl
+
+placement-meant : (p : Record) (n : ℕ) → Inside (p .place) (p .size .0) n → placementMeant (placementOf p) ≡ p
+unfolding placementMeant placementOf
+placement-meant p n h =
+    ap (λ (q : Place). record { ty = p .ty; size = p .size; align = p .align; place = q }) (place-meant (p .size) (p .align) (p .ty) n (p .place) h)
+
+pub placements-mean : PlacementsMean
+unfolding placementAt
+placements-mean d v i h =
+    placement-meant (placementAt d i) (next (usedAt d i) (shapeAt d i) .stack .0)
+    (place-inside (usedAt d i) (shapeAt d i) (next (usedAt d i) (shapeAt d i) .stack .0) (argument-shaped d (accepted-uses d v) i h) (omega arith) .1)
+
+-- ---- the call as a whole
+
+-- a return place that a description can ask for, and whether a hidden address is passed with it
+abbrev Sound : ReturnPlace → Bool → Type 0
+Sound Void b = b ≡ false
+Sound InMemory b = b ≡ true
+Sound (InOne a) b = Back a
+Sound (InTwo a c) b = Back a × Back c
+Sound St0 b = Unit {0}
+Sound St0St1 b = Unit {0}
+
+-- no value has more than two eightbytes
+kind-short : (c : Class) → length (kindOf c) ≤ 1
+kind-short NoClass = omega arith
+kind-short Integer = omega arith
+kind-short Sse = omega arith
+kind-short SseUp = omega arith
+kind-short X87 = omega arith
+kind-short X87Up = omega arith
+kind-short ComplexX87 = omega arith
+kind-short Memory = omega arith
+
+kinds-short : (cs : List Class) → length (kindsIn cs) ≤ length cs
+kinds-short [] = omega arith
+kinds-short (c ∷ cs) = omega (arith, length-append (kindOf c) (kindsIn cs), kind-short c, kinds-short cs)
+
+few-kinds : (cs : List Class) → length (kindsOf cs) ≤ length cs
+unfolding kindsOf
+few-kinds cs = by (onStack cs)
+  where
+    by : (b : Bool) → length (cond b [] (kindsIn cs)) ≤ length cs
+    by true = omega arith
+    by false = kinds-short cs
+
+outside-sound : (c : Class) → Sound (outside c) (hiddenBy c)
+unfolding hiddenBy same
+outside-sound NoClass = refl
+outside-sound Integer = refl
+outside-sound Sse = refl
+outside-sound SseUp = refl
+outside-sound X87 = tt
+outside-sound X87Up = refl
+outside-sound ComplexX87 = tt
+outside-sound Memory = refl
+
+back-for : (g f : ℕ) (k : Kind) → g ≤ 1 → f ≤ 1 → Back (registerFor g f k)
+back-for g f general h m = omega arith
+back-for g f vector h m = omega arith
+back-for g f upper h m = omega arith
+
+one-more : (k : Kind) → (generalFor k ≤ 1) × (vectorFor k ≤ 1)
+one-more general = (omega arith, omega arith)
+one-more vector = (omega arith, omega arith)
+one-more upper = (omega arith, omega arith)
+
+return-by : (ks : List Kind) (c : Class) → length ks ≤ 2 → Sound (returnBy ks c) (hiddenBy c)
+return-by [] c h = outside-sound c
+return-by (k ∷ []) c h = back-for 0 0 k (omega arith) (omega arith)
+return-by (k ∷ j ∷ []) c h =
+    (back-for 0 0 k (omega arith) (omega arith), back-for (0 + generalFor k) (0 + vectorFor k) j (omega (arith, one-more k .0)) (omega (arith, one-more k .1)))
+return-by (k ∷ j ∷ i ∷ ks) c h = absurd (omega arith)
+
+return-sound : (cs : List Class) → length cs ≡ 2 → Sound (returnOf cs) (hiddenFor cs)
+unfolding returnOf
+return-sound cs two = return-by (kindsOf cs) (getD cs 0 NoClass) (omega (arith, few-kinds cs))
+
+described-sound : (d : List ℕ) → Sound (returnPlace d) (hidden d)
+unfolding returnPlace hidden
+described-sound d = by (isVoid d)
+  where
+    by : (b : Bool) → Sound (cond b Void (returnOf (returnClasses d))) (not b && hiddenFor (returnClasses d))
+    by true = refl
+    by false = return-sound (returnClasses d) (length-classes (tyAt d (returnIn d)))
+
+hidden-meant : (b : Bool) → eqb (cond b 1 0) 1 ≡ b
+hidden-meant true = refl
+hidden-meant false = refl
+
+module _ (l : Whole) (n : ℕ) where
+  -- a flat layout with another return place
+  abbrev with : ReturnPlace → Bool → Layout
+  with p b = record {
+    used = l .used;
+    area = l .area;
+    values = l .values;
+    named = l .named;
+    arguments = n;
+    first = pairOf p .first;
+    second = pairOf p .second;
+    hidden = cond b 1 0;
+  }
+
+  return-place-meant : (p : ReturnPlace) (b : Bool) → Sound p b → returnPlaceMeant (with p b) ≡ p
+  unfolding returnPlaceMeant
+  return-place-meant Void b h = rw h
+  return-place-meant InMemory b h = rw h
+  return-place-meant (InOne a) b h =
+      rw (ne-eqb (returnNumber a) 255 (λ e. omega (arith, return-low a h)), ne-eqb (returnNumber a) 8 (return-not a h)) (ap InOne (return-meant a h))
+  return-place-meant (InTwo a c) b h =
+      rw (
+        ne-eqb (returnNumber a) 255 (λ e. omega (arith, return-low a (h .0))),
+        ne-eqb (returnNumber a) 8 (return-not a (h .0)),
+        ne-eqb (returnNumber c) 255 (λ e. omega (arith, return-low c (h .1))),
+      )
+      (ap₂ InTwo (return-meant a (h .0)) (return-meant c (h .1)))
+  return-place-meant St0 b h = refl
+  return-place-meant St0St1 b h = refl
+
+  layout-meant : Sound (l .returns) (l .hidden) → layoutMeant (layoutOf l n) ≡ l
+  unfolding layoutMeant layoutOf
+  layout-meant h j = record {
+    used = l .used;
+    area = l .area;
+    values = l .values;
+    returns = return-place-meant (l .returns) (l .hidden) h j;
+    hidden = hidden-meant (l .hidden) j;
+    named = l .named;
+  }
+
+pub layout-means : LayoutMeans
+unfolding wholeOf
+layout-means d v n = layout-meant (wholeOf d) n (described-sound d)

@@ -1,0 +1,185 @@
+/* A host of the call bridge. It reads the description of a call from standard input, lays the call out, places made-up values, walks
+   the unnamed arguments as the called function would, and gathers the values again.
+
+       rt staticlib callbridge
+       gcc -std=c11 -Wall -Wextra -Werror -pedantic -I include examples/host.c target/staticlib/libcallbridge.a -o target/host
+       target/host < examples/mixed.kcb
+
+   examples/host.out is what it prints for that description, document 01's example. */
+#include "callbridge.h"
+
+#include <stdio.h>
+#include <string.h>
+
+/* One call: its description and layout, the values, and the images that the jump would load. */
+typedef struct call {
+    uint8_t description[CB_MAX_DESCRIPTION + 1]; /* one byte more, so that a longer input is seen and refused */
+    size_t length;
+    cb_layout layout;
+    cb_placement arguments[CB_MAX_ARGUMENTS];
+    uint8_t values[CB_MAX_ARGUMENTS * CB_MAX_TYPE];
+    uint8_t registers[CB_REGISTER_IMAGE];
+    uint8_t stack[CB_MAX_AREA];
+} call;
+
+/* Says what was refused; 1 where it was. */
+static int refused(const char *what, cb_refusal refusal)
+{
+    if (refusal.number != CB_ACCEPTED) {
+        printf("%s: refusal %u, %s\n", what, refusal.number, cb_refusal_text(refusal));
+    }
+    return refusal.number != CB_ACCEPTED;
+}
+
+static void print_bytes(const uint8_t *bytes, size_t count)
+{
+    for (size_t i = 0; i < count; i++) {
+        printf(" %02x", bytes[i]);
+    }
+    printf("\n");
+}
+
+static void print_registers(uint8_t first, uint8_t second)
+{
+    printf(" %s", cb_register_name(first));
+    if (second != CB_NONE) {
+        printf(" %s", cb_register_name(second));
+    }
+    printf("\n");
+}
+
+static void print_layout(const call *c)
+{
+    printf("%zu arguments, %zu general and %zu vector registers, %zu bytes of stack, %zu bytes of values\n", c->layout.arguments,
+           c->layout.general_registers, c->layout.vector_registers, c->layout.area, c->layout.values);
+    for (size_t i = 0; i < c->layout.arguments; i++) {
+        printf("argument %zu: type %u, %zu bytes:", i, c->arguments[i].type, c->arguments[i].size);
+        if (c->arguments[i].first == CB_NONE) {
+            printf(" stack %zu\n", c->arguments[i].offset);
+        } else {
+            print_registers(c->arguments[i].first, c->arguments[i].second);
+        }
+    }
+    if (c->layout.hidden == 1) {
+        printf("returns in memory, whose address is passed in rdi\n");
+    } else if (c->layout.return_first == CB_NONE) {
+        printf("returns nothing\n");
+    } else {
+        printf("returns in");
+        print_registers(c->layout.return_first, c->layout.return_second);
+    }
+}
+
+/* Every byte of argument i is 16 * i, plus its place among the argument's bytes up to 15; a lone byte is 1, which is right for _Bool. */
+static void make_values(call *c)
+{
+    size_t at = 0;
+    for (size_t i = 0; i < c->layout.arguments; i++) {
+        for (size_t k = 0; k < c->arguments[i].size; k++) {
+            c->values[at] = c->arguments[i].size == 1 ? 1 : (uint8_t)(16 * i + k % 16);
+            at++;
+        }
+    }
+}
+
+static int place(call *c)
+{
+    cb_placed placed;
+    cb_refusal refusal = cb_place_values(c->description, c->length, 0x1000, c->values, c->layout.values, c->registers,
+                                         sizeof c->registers, c->stack, c->layout.area, &placed);
+    if (refused("place", refusal)) {
+        return 1;
+    }
+    printf("placed, al = %zu\n", placed.vector_registers);
+    for (size_t i = 0; i < c->layout.arguments; i++) {
+        if (c->arguments[i].first != CB_NONE) {
+            printf("  %s:", cb_register_name(c->arguments[i].first));
+            print_bytes(c->registers + cb_register_offset(c->arguments[i].first), 8);
+        }
+    }
+    return 0;
+}
+
+static const char *image_name(uint8_t image)
+{
+    return image == CB_REGISTERS ? "the register image" : image == CB_STACK ? "the stack image" : "no one part";
+}
+
+/* What a variadic function does with the images: one step for each unnamed argument. */
+static int walk(const call *c, const cb_station *station, const uint8_t *seat)
+{
+    cb_walk at;
+    if (refused("open", cb_open_walk(station, seat, CB_SEAT_LENGTH, &at))) {
+        return 1;
+    }
+    printf("opened before argument %zu: gp_offset %zu, fp_offset %zu, overflow %zu\n", at.position, at.general, at.vector, at.overflow);
+    while (at.position < c->layout.arguments) {
+        const cb_placement *next = &c->arguments[at.position];
+        uint8_t out[CB_MAX_TYPE];
+        cb_part part;
+        cb_refusal refusal = cb_show(station, seat, CB_SEAT_LENGTH, &at, c->registers, sizeof c->registers, c->stack, c->layout.area,
+                                     next->type, &part);
+        if (refused("show", refusal)) {
+            return 1;
+        }
+        printf("argument %zu is shown in %s, from %zu on\n", at.position, image_name(part.image), part.offset);
+        refusal = cb_step(station, seat, CB_SEAT_LENGTH, &at, c->registers, sizeof c->registers, c->stack, c->layout.area, next->type,
+                          out, next->size);
+        if (refused("step", refusal)) {
+            return 1;
+        }
+        printf("  stepped over it:");
+        print_bytes(out, next->size);
+    }
+    return 0;
+}
+
+/* The same with a module that comes and goes: attach, walk, detach. */
+static int visit(const call *c)
+{
+    uint8_t seat[CB_SEAT_LENGTH];
+    cb_station station = cb_new_station();
+    cb_walk late = {0};
+    memset(seat, 0, sizeof seat);
+    if (refused("attach", cb_attach(&station, seat, sizeof seat, c->description, c->length))) {
+        return 1;
+    }
+    printf("attached: number %lu, %zu bytes\n", (unsigned long)station.number, station.length);
+    walk(c, &station, seat);
+    if (refused("detach", cb_detach(&station, seat, sizeof seat))) {
+        return 1;
+    }
+    printf("detached\n");
+    refused("open", cb_open_walk(&station, seat, sizeof seat, &late));
+    return 0;
+}
+
+static int gather(const call *c)
+{
+    static uint8_t values[sizeof c->values];
+    cb_gathered gathered;
+    cb_refusal refusal = cb_gather_values(c->description, c->length, c->registers, sizeof c->registers, c->stack, c->layout.area,
+                                          values, c->layout.values, &gathered);
+    if (refused("gather", refusal)) {
+        return 1;
+    }
+    printf("gathered: hidden address %#lx, values %s\n", (unsigned long)gathered.hidden,
+           memcmp(values, c->values, c->layout.values) == 0 ? "as placed" : "CHANGED");
+    return 0;
+}
+
+int main(void)
+{
+    static call c;
+    if (cb_version() != CB_VERSION) {
+        printf("the library is of version %lu, the header of %d\n", (unsigned long)cb_version(), CB_VERSION);
+        return 1;
+    }
+    c.length = fread(c.description, 1, sizeof c.description, stdin);
+    if (refused("description", cb_lay_out(c.description, c.length, &c.layout, c.arguments, CB_MAX_ARGUMENTS))) {
+        return 1;
+    }
+    print_layout(&c);
+    make_values(&c);
+    return place(&c) || visit(&c) || gather(&c);
+}
