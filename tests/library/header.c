@@ -1,0 +1,231 @@
+/* Whether the structs of include/callbridge.h are those of the library. Each struct is lent with guard bytes behind it, the library fills it,
+   and each field is read back by its name: a field that stood elsewhere would hold another number, a struct that was longer would have
+   its guard overwritten. No function of the library tells its own sizes; it is looked at as a host looks at it.
+   Prints each struct's size and offsets; the last line is `ok` where everything agrees. */
+#include "callbridge.h"
+
+#include <stdio.h>
+#include <string.h>
+
+static int wrong;
+
+/* document 01's example */
+static const uint8_t mixed[] = {0x4B, 0x43, 0x42, 1, 0, 6, 1, 3, 5, 1, 2, 0, 3, 0, 0, 0, 7, 0, 0, 0, 4, 0, 0, 2,
+                                0,    2,    0,    0, 8, 0, 0, 0, 5, 0, 0, 1, 2, 0, 3, 4, 1, 5};
+
+/* returns a complex long double, takes a long double, a long, six doubles and, unnamed, two long doubles, a struct of 24 bytes and a long */
+static const uint8_t wide[] = {0x4B, 0x43, 0x42, 1, 0, 6, 1, 8, 12, 4, 3, 0, 8, 0, 0, 0, 4, 0, 0, 0, 7, 0, 0, 2, 0, 3, 0,
+                               0,    14,   0,    0, 0, 3, 0, 0, 1,  1, 1, 0, 1, 2, 2, 2, 2, 2, 2, 0, 0, 3, 1};
+
+/* returns that struct, in memory, and takes a long */
+static const uint8_t memory[] = {0x4B, 0x43, 0x42, 1, 0, 2, 0, 1, 1, 1, 3, 0, 4, 0, 0, 2, 0, 3, 0, 0, 0, 0, 0};
+
+static void expect(const char *what, size_t is, size_t should)
+{
+    if (is != should) {
+        printf("%s is %zu, should be %zu\n", what, is, should);
+        wrong = 1;
+    }
+}
+
+#define GUARD 64
+
+/* a struct and guard bytes behind it, all of one value at first */
+#define LENT(type)            \
+    struct {                  \
+        type value;           \
+        uint8_t guard[GUARD]; \
+    }
+
+#define FRESH(lent) memset(&(lent), 0xA5, sizeof(lent))
+
+static void guarded(const char *what, const uint8_t *guard, size_t size)
+{
+    for (size_t i = 0; i < size; i++) {
+        if (guard[i] != 0xA5) {
+            printf("something is written behind %s\n", what);
+            wrong = 1;
+            return;
+        }
+    }
+}
+
+#define GUARDED(lent) guarded(#lent, (lent).guard, GUARD)
+
+static void answered(const char *what, cb_refusal refusal)
+{
+    expect(what, refusal.number, 0);
+}
+
+static void questions(void)
+{
+    LENT(cb_extent) extent;
+    LENT(cb_classes) classes;
+    LENT(cb_part) part;
+    FRESH(extent);
+    FRESH(classes);
+    FRESH(part);
+    answered("cb_type_extent", cb_type_extent(mixed, sizeof mixed, 3, &extent.value));
+    answered("cb_type_classes", cb_type_classes(mixed, sizeof mixed, 3, &classes.value));
+    answered("cb_member_run", cb_member_run(mixed, sizeof mixed, 3, &part.value));
+    GUARDED(extent);
+    GUARDED(classes);
+    GUARDED(part);
+    expect("extent.size", extent.value.size, 16);
+    expect("extent.align", extent.value.align, 8);
+    expect("classes.first", classes.value.first, CB_SSE);
+    expect("classes.second", classes.value.second, CB_INTEGER);
+    expect("part.offset", part.value.offset, 35);
+    expect("part.length", part.value.length, 2);
+    expect("part.image", part.value.image, CB_DESCRIPTION);
+    printf("cb_extent %zu: size %zu align %zu\n", sizeof(cb_extent), offsetof(cb_extent, size), offsetof(cb_extent, align));
+    printf("cb_classes %zu: first %zu second %zu\n", sizeof(cb_classes), offsetof(cb_classes, first), offsetof(cb_classes, second));
+    printf("cb_part %zu: offset %zu length %zu image %zu\n", sizeof(cb_part), offsetof(cb_part, offset), offsetof(cb_part, length),
+           offsetof(cb_part, image));
+}
+
+/* The fields of a layout, in the header's order, as numbers that tell each from the others over three descriptions. */
+static void layout(const uint8_t *description, size_t length, const size_t should[12])
+{
+    LENT(cb_layout) whole;
+    FRESH(whole);
+    answered("cb_layout_of", cb_layout_of(description, length, &whole.value));
+    GUARDED(whole);
+    expect("general_registers", whole.value.general_registers, should[0]);
+    expect("vector_registers", whole.value.vector_registers, should[1]);
+    expect("stack_end", whole.value.stack_end, should[2]);
+    expect("area", whole.value.area, should[3]);
+    expect("values", whole.value.values, should[4]);
+    expect("named_general_registers", whole.value.named_general_registers, should[5]);
+    expect("named_vector_registers", whole.value.named_vector_registers, should[6]);
+    expect("named_stack_end", whole.value.named_stack_end, should[7]);
+    expect("arguments", whole.value.arguments, should[8]);
+    expect("return_first", whole.value.return_first, should[9]);
+    expect("return_second", whole.value.return_second, should[10]);
+    expect("hidden", whole.value.hidden, should[11]);
+}
+
+static void layouts(void)
+{
+    static const size_t of_mixed[12] = {4, 2, 16, 16, 60, 2, 1, 16, 5, CB_XMM0, CB_NONE, 0};
+    static const size_t of_wide[12] = {2, 6, 72, 80, 136, 1, 6, 16, 12, CB_ST0, CB_ST1, 0};
+    static const size_t of_memory[12] = {2, 0, 0, 0, 8, 2, 0, 0, 1, CB_NONE, CB_NONE, 1};
+    const size_t *const all[3] = {of_mixed, of_wide, of_memory};
+    layout(mixed, sizeof mixed, of_mixed);
+    layout(wide, sizeof wide, of_wide);
+    layout(memory, sizeof memory, of_memory);
+    for (size_t i = 0; i < 12; i++) {
+        for (size_t k = 0; k < i; k++) {
+            if (all[0][i] == all[0][k] && all[1][i] == all[1][k] && all[2][i] == all[2][k]) {
+                printf("fields %zu and %zu of cb_layout are not told apart\n", k, i);
+                wrong = 1;
+            }
+        }
+    }
+    printf("cb_layout %zu: %zu %zu %zu %zu %zu %zu %zu %zu %zu %zu %zu %zu\n", sizeof(cb_layout), offsetof(cb_layout, general_registers),
+           offsetof(cb_layout, vector_registers), offsetof(cb_layout, stack_end), offsetof(cb_layout, area), offsetof(cb_layout, values),
+           offsetof(cb_layout, named_general_registers), offsetof(cb_layout, named_vector_registers), offsetof(cb_layout, named_stack_end),
+           offsetof(cb_layout, arguments), offsetof(cb_layout, return_first), offsetof(cb_layout, return_second), offsetof(cb_layout, hidden));
+}
+
+static void record(const cb_placement *is, size_t size, size_t align, size_t offset, size_t type, size_t first, size_t second)
+{
+    expect("placement.size", is->size, size);
+    expect("placement.align", is->align, align);
+    expect("placement.offset", is->offset, offset);
+    expect("placement.type", is->type, type);
+    expect("placement.first", is->first, first);
+    expect("placement.second", is->second, second);
+}
+
+static void lists(void)
+{
+    cb_layout whole;
+    cb_placement records[14];
+    FRESH(records);
+    answered("cb_lay_out", cb_lay_out(wide, sizeof wide, &whole, records, 14));
+    guarded("the twelfth record", (const uint8_t *)&records[12], 2 * sizeof records[0]);
+    record(&records[0], 16, 16, 0, 0, CB_NONE, CB_NONE);
+    record(&records[1], 8, 8, 0, 1, CB_RDI, CB_NONE);
+    record(&records[7], 8, 8, 0, 2, CB_XMM5, CB_NONE);
+    record(&records[9], 16, 16, 32, 0, CB_NONE, CB_NONE);
+    record(&records[10], 24, 8, 48, 3, CB_NONE, CB_NONE);
+    record(&records[11], 8, 8, 0, 1, CB_RSI, CB_NONE);
+    printf("cb_placement %zu: size %zu align %zu offset %zu type %zu first %zu second %zu\n", sizeof(cb_placement), offsetof(cb_placement, size),
+           offsetof(cb_placement, align), offsetof(cb_placement, offset), offsetof(cb_placement, type), offsetof(cb_placement, first),
+           offsetof(cb_placement, second));
+}
+
+static void moves(void)
+{
+    LENT(cb_placed) placed;
+    LENT(cb_gathered) gathered;
+    static const uint8_t values[8] = {1, 2, 3, 4, 5, 6, 7, 8};
+    uint8_t registers[CB_REGISTER_IMAGE];
+    uint8_t stack[80];
+    uint8_t back[8];
+    static const uint8_t many[136];
+    FRESH(placed);
+    FRESH(gathered);
+    answered("cb_place_values", cb_place_values(wide, sizeof wide, 0, many, 136, registers, sizeof registers, stack, 80, &placed.value));
+    GUARDED(placed);
+    expect("placed.vector_registers", placed.value.vector_registers, 6);
+    answered("cb_place_values", cb_place_values(memory, sizeof memory, 0x0102030405060708u, values, 8, registers, sizeof registers, stack, 0, &placed.value));
+    answered("cb_gather_values", cb_gather_values(memory, sizeof memory, registers, sizeof registers, stack, 0, back, 8, &gathered.value));
+    GUARDED(gathered);
+    expect("gathered.hidden", gathered.value.hidden, 0x0102030405060708u);
+    expect("placed.vector_registers", placed.value.vector_registers, 0);
+    printf("cb_placed %zu: vector_registers %zu\n", sizeof(cb_placed), offsetof(cb_placed, vector_registers));
+    printf("cb_gathered %zu: hidden %zu\n", sizeof(cb_gathered), offsetof(cb_gathered, hidden));
+}
+
+static void walks(void)
+{
+    static uint8_t seat[CB_SEAT_LENGTH];
+    LENT(cb_station) station;
+    LENT(cb_walk) walk;
+    FRESH(station);
+    FRESH(walk);
+    station.value = cb_new_station();
+    for (int i = 0; i < 6; i++) {
+        answered("cb_attach", cb_attach(&station.value, seat, sizeof seat, mixed, sizeof mixed));
+        answered("cb_detach", cb_detach(&station.value, seat, sizeof seat));
+    }
+    answered("cb_attach", cb_attach(&station.value, seat, sizeof seat, wide, sizeof wide));
+    GUARDED(station);
+    expect("station.attached", station.value.attached, 1);
+    expect("station.length", station.value.length, sizeof wide);
+    expect("station.number", station.value.number, 7);
+    answered("cb_open_walk", cb_open_walk(&station.value, seat, sizeof seat, &walk.value));
+    GUARDED(walk);
+    expect("walk.number", walk.value.number, 7);
+    expect("walk.position", walk.value.position, 8);
+    expect("walk.general", walk.value.general, 8);
+    expect("walk.vector", walk.value.vector, 144);
+    expect("walk.overflow", walk.value.overflow, 16);
+    answered("cb_detach", cb_detach(&station.value, seat, sizeof seat));
+    answered("cb_attach", cb_attach(&station.value, seat, sizeof seat, mixed, sizeof mixed));
+    answered("cb_open_walk", cb_open_walk(&station.value, seat, sizeof seat, &walk.value));
+    expect("walk.position", walk.value.position, 3);
+    expect("walk.general", walk.value.general, 16);
+    printf("cb_station %zu: attached %zu length %zu number %zu\n", sizeof(cb_station), offsetof(cb_station, attached), offsetof(cb_station, length),
+           offsetof(cb_station, number));
+    printf("cb_walk %zu: number %zu position %zu general %zu vector %zu overflow %zu\n", sizeof(cb_walk), offsetof(cb_walk, number),
+           offsetof(cb_walk, position), offsetof(cb_walk, general), offsetof(cb_walk, vector), offsetof(cb_walk, overflow));
+}
+
+int main(void)
+{
+    expect("cb_version()", cb_version(), CB_VERSION);
+    expect("cb_check(nothing)", cb_check(mixed, 0).number, CB_TOO_SHORT);
+    printf("cb_refusal %zu: number %zu\n", sizeof(cb_refusal), offsetof(cb_refusal, number));
+    questions();
+    layouts();
+    lists();
+    moves();
+    walks();
+    if (!wrong) {
+        printf("ok\n");
+    }
+    return wrong;
+}
