@@ -10,7 +10,11 @@ use base.Stored.{codedList}
 use denote.Ref.{now}
 use Rattle.tightness.proofs.Laws.{result, bytes, told}
 use Rattle.addresses.specs.Addresses.{gather}
+use Rattle.description.specs.Description.{headerOf}
 use Rattle.form.specs.Reading.{refusalOf}
+use Rattle.types.specs.Basic.{lp64}
+use Rattle.types.specs.Size.{sizeTy, alignTy}
+use Rattle.types.specs.Decode.{tyAt}
 use Rattle.layout.specs.declared.Placement.{Placement}
 use Rattle.layout.specs.Arguments.{hidden}
 use Rattle.layout.specs.Verdict.{verdict}
@@ -29,6 +33,11 @@ use Rattle.walk.specs.Steps.{openWalk, openAnswer, stepWalk, stepOut}
 use Rattle.layout.proofs.Placement as placement
 use Rattle.station.proofs.Station as station
 use Rattle.walk.proofs.Walk as walk
+use Rattle.form.proofs.read_form
+use Rattle.questions.proofs.type_size
+use Rattle.questions.proofs.type_align
+use Rattle.questions.proofs.type_classes
+use Rattle.questions.proofs.run_at
 use Rattle.layout.proofs.check
 use Rattle.layout.proofs.layout_of
 use Rattle.layout.proofs.lay_out
@@ -39,8 +48,9 @@ use Rattle.station.proofs.detach
 use Rattle.walk.proofs.open_walk
 use Rattle.step.proofs.step
 use Rattle.show.proofs.show_number
-use Rattle.promises.specs.Meaning.{accepted, numberOf, ofRefusal, ofLayout, ofPlacing, ofGathering, ofOpening, Answered}
-use Rattle.promises.specs.Orders.{checkOrder, showOrder}
+use Rattle.promises.specs.Meaning.{numberOf, ofRefusal, ofReading, ofSize, ofAlign, ofClasses, ofRun, ofLayout, ofPlacing, ofGathering, ofOpening, Answered}
+use Rattle.promises.specs.Orders.{formOrder, questionOrder, checkOrder, showOrder}
+use Rattle.promises.specs.Demand1.{members, classPair}
 use Rattle.promises.specs.Demand2.{listAfter}
 use Rattle.promises.specs.Calls.{LaysOut, Places, Gathers, Attaches, DetachesAll, Opens, Steps, Calls, Back, GathersBack, NeverTheSame}
 use Rattle.promises.proofs.Answering.{decided-number}
@@ -125,6 +135,21 @@ along-three P {b = b} {x = x} e f g p = subst (λ z. P z b x) (sym e) (along (P 
 
 pub calls : Calls
 calls = record {
+  reads = λ c r w a.
+      subst (λ x. Answered (ofReading x) (formOrder (now (c .passed .0))) (headerOf (now (c .passed .0)))) (sym (told (result read_form.ended c) (a .ensured) (λ f. f)))
+      (demand-1 .below .read-form (now (c .passed .0)));
+  sizes = λ c r w a.
+      subst (λ x. Answered (ofSize x) (questionOrder (now (c .passed .0)) (c .passed .1 .0)) (sizeTy lp64 (tyAt (now (c .passed .0)) (c .passed .1 .0))))
+      (sym (told (result type_size.ended c) (a .ensured) (λ f. f))) (demand-1 .questions .type-size (now (c .passed .0)) (c .passed .1 .0));
+  aligns = λ c r w a.
+      subst (λ x. Answered (ofAlign x) (questionOrder (now (c .passed .0)) (c .passed .1 .0)) (alignTy lp64 (tyAt (now (c .passed .0)) (c .passed .1 .0))))
+      (sym (told (result type_align.ended c) (a .ensured) (λ f. f))) (demand-1 .questions .type-align (now (c .passed .0)) (c .passed .1 .0));
+  classes = λ c r w a.
+      subst (λ x. Answered (ofClasses x) (questionOrder (now (c .passed .0)) (c .passed .1 .0)) (classPair (now (c .passed .0)) (c .passed .1 .0)))
+      (sym (told (result type_classes.ended c) (a .ensured) (λ f. f))) (demand-1 .questions .type-classes (now (c .passed .0)) (c .passed .1 .0));
+  runs = λ c r w a.
+      subst (λ x. Answered (ofRun x) (questionOrder (now (c .passed .0)) (c .passed .1 .0)) (members (now (c .passed .0)) (c .passed .1 .0)))
+      (sym (told (result run_at.ended c) (a .ensured) (λ f. f .0))) (demand-1 .questions .run-at (now (c .passed .0)) (c .passed .1 .0));
   checks = λ c r w a.
       subst (λ x. Answered (ofRefusal x) (checkOrder (now (c .passed .0))) tt) (sym (told (result check.ended c) (a .ensured) (λ f. f))) (demand-1 .verdict (now (c .passed .0)));
   lays = λ c r w a.

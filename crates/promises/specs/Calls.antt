@@ -12,8 +12,11 @@ use denote.Triple.Entry.{Res}
 use denote.Triple.Clauses.{Ended, Lasts}
 use Rattle.tightness.specs.Tight.{Contract, Call, Admits}
 use Rattle.addresses.specs.Addresses.{gather}
-use Rattle.description.specs.Description.{argumentsIn}
+use Rattle.description.specs.Description.{argumentsIn, headerOf}
 use Rattle.form.specs.declared.Refusal.{Refusal}
+use Rattle.types.specs.Basic.{lp64}
+use Rattle.types.specs.Size.{sizeTy, alignTy}
+use Rattle.types.specs.Decode.{tyAt}
 use Rattle.layout.specs.declared.Placement.{Placement}
 use Rattle.layout.specs.declared.LayoutAnswer.{LayoutAnswer}
 use Rattle.layout.specs.Arguments.{hidden, usedAt}
@@ -31,6 +34,11 @@ use Rattle.walk.specs.declared.OpenAnswer.{OpenAnswer}
 use Rattle.walk.specs.Orders.{Ask, asking, standing}
 use Rattle.walk.specs.Steps.{movedOn, bytesAt}
 use Rattle.show.specs.declared.ShownAnswer.{ShownAnswer}
+use Rattle.form.proofs.read_form
+use Rattle.questions.proofs.type_size
+use Rattle.questions.proofs.type_align
+use Rattle.questions.proofs.type_classes
+use Rattle.questions.proofs.run_at
 use Rattle.layout.proofs.check
 use Rattle.layout.proofs.layout_of
 use Rattle.layout.proofs.lay_out
@@ -41,8 +49,9 @@ use Rattle.station.proofs.detach
 use Rattle.walk.proofs.open_walk
 use Rattle.step.proofs.step
 use Rattle.show.proofs.show_number
-use Rattle.promises.specs.Meaning.{accepted, numberOf, ofRefusal, ofLayout, ofPlacing, ofGathering, ofOpening, Answered}
-use Rattle.promises.specs.Orders.{checkOrder, layoutOrder, placeOrder, gatherOrder, attachOrder, detachOrder, openOrder, stepOrder, showOrder}
+use Rattle.promises.specs.Meaning.{accepted, numberOf, ofRefusal, ofReading, ofSize, ofAlign, ofClasses, ofRun, ofLayout, ofPlacing, ofGathering, ofOpening, Answered}
+use Rattle.promises.specs.Orders.{formOrder, questionOrder, checkOrder, layoutOrder, placeOrder, gatherOrder, attachOrder, detachOrder, openOrder, stepOrder, showOrder}
+use Rattle.promises.specs.Demand1.{members, classPair}
 
 -- ---- what each call does
 
@@ -94,6 +103,15 @@ abbrev pub Ensures : (T : Ended) → Contract T → ((c : Call T) → Res (T .si
 Ensures T C P = (c : Call T) (r : Res (T .signature) (c .lifetimes)) (w : Lasts T (c .lifetimes) (c .passed)) → Admits T C c r w → P c r w
 
 pub record Calls : Type 2 where
+  pub reads : Ensures read_form.ended (λ M. read_form.clauses {M = M}) (λ c r w. Answered (ofReading r) (formOrder (now (c .passed .0))) (headerOf (now (c .passed .0))))
+  pub sizes : Ensures type_size.ended (λ M. type_size.clauses {M = M})
+      (λ c r w. Answered (ofSize r) (questionOrder (now (c .passed .0)) (c .passed .1 .0)) (sizeTy lp64 (tyAt (now (c .passed .0)) (c .passed .1 .0))))
+  pub aligns : Ensures type_align.ended (λ M. type_align.clauses {M = M})
+      (λ c r w. Answered (ofAlign r) (questionOrder (now (c .passed .0)) (c .passed .1 .0)) (alignTy lp64 (tyAt (now (c .passed .0)) (c .passed .1 .0))))
+  pub classes : Ensures type_classes.ended (λ M. type_classes.clauses {M = M})
+      (λ c r w. Answered (ofClasses r) (questionOrder (now (c .passed .0)) (c .passed .1 .0)) (classPair (now (c .passed .0)) (c .passed .1 .0)))
+  pub runs : Ensures run_at.ended (λ M. run_at.clauses {M = M})
+      (λ c r w. Answered (ofRun r) (questionOrder (now (c .passed .0)) (c .passed .1 .0)) (members (now (c .passed .0)) (c .passed .1 .0)))
   pub checks : Ensures check.ended (λ M. check.clauses {M = M}) (λ c r w. Answered (ofRefusal r) (checkOrder (now (c .passed .0))) tt)
   pub lays : Ensures layout_of.ended (λ M. layout_of.clauses {M = M}) (λ c r w. Answered (ofLayout r) (checkOrder (now (c .passed .0))) (layoutOf (now (c .passed .0))))
   pub lays-out : Ensures lay_out.ended (λ M. lay_out.clauses {M = M}) (λ c r w. LaysOut (now (c .passed .0)) (now (c .passed .1 .0)) r (w .1 .0))

@@ -18,6 +18,7 @@ use Rattle.types.specs.Basic.{lp64}
 use Rattle.types.specs.Size.{sizeTy, alignTy}
 use Rattle.types.specs.Decode.{tyAt}
 use Rattle.types.specs.Large.{typesRefusal}
+use Rattle.classes.specs.declared.Class.{Class}
 use Rattle.classes.specs.declared.Class.the-variants.{NoClass}
 use Rattle.classify.specs.Classify.{classesOf}
 use Rattle.questions.specs.Questions.{questionRefusal, extentAnswer, sizeAnswer, alignAnswer}
@@ -62,13 +63,15 @@ pub record A2-Below : Type 0 where
 abbrev pub members : List ℕ → ℕ → Members
 members d t = cond (ltb (kindAt d t) 2) none (run (11 + 4 * typesIn d + aAt d t) (countAt d t))
 
+abbrev pub classPair : List ℕ → ℕ → Class × Class
+classPair d t = (getD (classesOf (tyAt d t)) 0 NoClass, getD (classesOf (tyAt d t)) 1 NoClass)
+
 pub record A2-Questions : Type 0 where
   pub question-refusal : (d : List ℕ) (t : ℕ) → Answered (ofNumber (questionRefusal d t)) (questionOrder d t) tt
   pub type-extent : (d : List ℕ) (t : ℕ) → Answered (ofExtent (extentAnswer d t)) (questionOrder d t) (sizeTy lp64 (tyAt d t), alignTy lp64 (tyAt d t))
   pub type-size : (d : List ℕ) (t : ℕ) → Answered (ofSize (sizeAnswer (extentAnswer d t))) (questionOrder d t) (sizeTy lp64 (tyAt d t))
   pub type-align : (d : List ℕ) (t : ℕ) → Answered (ofAlign (alignAnswer (extentAnswer d t))) (questionOrder d t) (alignTy lp64 (tyAt d t))
-  pub type-classes : (d : List ℕ) (t : ℕ)
-      → Answered (ofClasses (classesAnswer d t)) (questionOrder d t) (getD (classesOf (tyAt d t)) 0 NoClass, getD (classesOf (tyAt d t)) 1 NoClass)
+  pub type-classes : (d : List ℕ) (t : ℕ) → Answered (ofClasses (classesAnswer d t)) (questionOrder d t) (classPair d t)
   pub run-at : (d : List ℕ) (t : ℕ) → Answered (ofRun (runAnswer d t)) (questionOrder d t) (members d t)
 
 -- layout, placing and gathering. The vector count is that of the layout, and the hidden address that of rdi
