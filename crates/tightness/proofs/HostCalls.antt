@@ -37,6 +37,22 @@ use Rattle.places.proofs.fresh
 use Rattle.places.proofs.return_place
 use Rattle.places.proofs.hidden_for
 use Rattle.addresses.proofs.clear
+use Rattle.callbridge.proofs.cb_version
+use Rattle.callbridge.proofs.cb_check
+use Rattle.callbridge.proofs.cb_type_extent
+use Rattle.callbridge.proofs.cb_type_classes
+use Rattle.callbridge.proofs.cb_member_run
+use Rattle.callbridge.proofs.cb_layout_of
+use Rattle.callbridge.proofs.cb_lay_out
+use Rattle.callbridge.proofs.cb_write_listing
+use Rattle.callbridge.proofs.cb_place_values
+use Rattle.callbridge.proofs.cb_gather_values
+use Rattle.callbridge.proofs.cb_new_station
+use Rattle.callbridge.proofs.cb_attach
+use Rattle.callbridge.proofs.cb_detach
+use Rattle.callbridge.proofs.cb_open_walk
+use Rattle.callbridge.proofs.cb_step
+use Rattle.callbridge.proofs.cb_show
 
 pub total-form-read-form : Total read_form.ended (λ M. read_form.clauses {M = M})
 total-form-read-form c g = refl
@@ -145,3 +161,51 @@ total-places-hidden-for c g = refl
 
 pub total-addresses-clear : Total clear.ended (λ M. clear.clauses {M = M})
 total-addresses-clear c g = refl
+
+pub total-callbridge-cb-version : Total cb_version.ended (λ M. cb_version.clauses {M = M})
+total-callbridge-cb-version c g = refl
+
+pub total-callbridge-cb-check : Total cb_check.ended (λ M. cb_check.clauses {M = M})
+total-callbridge-cb-check c g = refl
+
+pub total-callbridge-cb-type-extent : Total cb_type_extent.ended (λ M. cb_type_extent.clauses {M = M})
+total-callbridge-cb-type-extent c g = refl
+
+pub total-callbridge-cb-type-classes : Total cb_type_classes.ended (λ M. cb_type_classes.clauses {M = M})
+total-callbridge-cb-type-classes c g = refl
+
+pub total-callbridge-cb-member-run : Total cb_member_run.ended (λ M. cb_member_run.clauses {M = M})
+total-callbridge-cb-member-run c g = refl
+
+pub total-callbridge-cb-layout-of : Total cb_layout_of.ended (λ M. cb_layout_of.clauses {M = M})
+total-callbridge-cb-layout-of c g = refl
+
+pub total-callbridge-cb-lay-out : Total cb_lay_out.ended (λ M. cb_lay_out.clauses {M = M})
+total-callbridge-cb-lay-out c g = refl
+
+pub total-callbridge-cb-write-listing : Total cb_write_listing.ended (λ M. cb_write_listing.clauses {M = M})
+total-callbridge-cb-write-listing c g = refl
+
+pub total-callbridge-cb-place-values : Total cb_place_values.ended (λ M. cb_place_values.clauses {M = M})
+total-callbridge-cb-place-values c g = refl
+
+pub total-callbridge-cb-gather-values : Total cb_gather_values.ended (λ M. cb_gather_values.clauses {M = M})
+total-callbridge-cb-gather-values c g = refl
+
+pub total-callbridge-cb-new-station : Total cb_new_station.ended (λ M. cb_new_station.clauses {M = M})
+total-callbridge-cb-new-station c g = refl
+
+pub total-callbridge-cb-attach : Total cb_attach.ended (λ M. cb_attach.clauses {M = M})
+total-callbridge-cb-attach c g = refl
+
+pub total-callbridge-cb-detach : Total cb_detach.ended (λ M. cb_detach.clauses {M = M})
+total-callbridge-cb-detach c g = refl
+
+pub total-callbridge-cb-open-walk : Total cb_open_walk.ended (λ M. cb_open_walk.clauses {M = M})
+total-callbridge-cb-open-walk c g = refl
+
+pub total-callbridge-cb-step : Total cb_step.ended (λ M. cb_step.clauses {M = M})
+total-callbridge-cb-step c g = refl
+
+pub total-callbridge-cb-show : Total cb_show.ended (λ M. cb_show.clauses {M = M})
+total-callbridge-cb-show c g = refl

@@ -19,4 +19,7 @@ pub mod OfShow
 pub mod OfText
 pub mod OfPlaceWords
 pub mod OfListing
+pub mod OfFlat
+pub mod OfGiven
+pub mod OfCallbridge
 pub mod HostCalls

@@ -1,0 +1,218 @@
+-- Each public function of `callbridge` meets its contract, and the contract is tight. Assumes nothing.
+use mathlib.Core.Path.{_≡_, refl, sym, _∙_}
+use Rattle.tightness.specs.Tight.{Meets, Tight}
+use Rattle.tightness.proofs.Laws.{bytes, equal, result, settle}
+use base.Stored.{codedList}
+use Rattle.types.proofs.Extent
+use Rattle.flat.proofs.Classes
+use Rattle.flat.proofs.Part
+use Rattle.flat.proofs.Layout
+use Rattle.flat.proofs.Placement
+use Rattle.given.proofs.Placed
+use Rattle.given.proofs.Gathered
+use Rattle.station.proofs.Station
+use Rattle.walk.proofs.Walk
+use Rattle.callbridge.proofs.cb_version
+use Rattle.callbridge.proofs.cb_version.Met as cb-version-met
+use Rattle.callbridge.proofs.cb_version.Symbol as cb-version-symbol
+use Rattle.callbridge.proofs.cb_check
+use Rattle.callbridge.proofs.cb_check.Met as cb-check-met
+use Rattle.callbridge.proofs.cb_check.Symbol as cb-check-symbol
+use Rattle.callbridge.proofs.cb_type_extent
+use Rattle.callbridge.proofs.cb_type_extent.Met as cb-type-extent-met
+use Rattle.callbridge.proofs.cb_type_extent.Symbol as cb-type-extent-symbol
+use Rattle.callbridge.proofs.cb_type_classes
+use Rattle.callbridge.proofs.cb_type_classes.Met as cb-type-classes-met
+use Rattle.callbridge.proofs.cb_type_classes.Symbol as cb-type-classes-symbol
+use Rattle.callbridge.proofs.cb_member_run
+use Rattle.callbridge.proofs.cb_member_run.Met as cb-member-run-met
+use Rattle.callbridge.proofs.cb_member_run.Symbol as cb-member-run-symbol
+use Rattle.callbridge.proofs.cb_layout_of
+use Rattle.callbridge.proofs.cb_layout_of.Met as cb-layout-of-met
+use Rattle.callbridge.proofs.cb_layout_of.Symbol as cb-layout-of-symbol
+use Rattle.callbridge.proofs.cb_lay_out
+use Rattle.callbridge.proofs.cb_lay_out.Met as cb-lay-out-met
+use Rattle.callbridge.proofs.cb_lay_out.Symbol as cb-lay-out-symbol
+use Rattle.callbridge.proofs.cb_write_listing
+use Rattle.callbridge.proofs.cb_write_listing.Met as cb-write-listing-met
+use Rattle.callbridge.proofs.cb_write_listing.Symbol as cb-write-listing-symbol
+use Rattle.callbridge.proofs.cb_place_values
+use Rattle.callbridge.proofs.cb_place_values.Met as cb-place-values-met
+use Rattle.callbridge.proofs.cb_place_values.Symbol as cb-place-values-symbol
+use Rattle.callbridge.proofs.cb_gather_values
+use Rattle.callbridge.proofs.cb_gather_values.Met as cb-gather-values-met
+use Rattle.callbridge.proofs.cb_gather_values.Symbol as cb-gather-values-symbol
+use Rattle.callbridge.proofs.cb_new_station
+use Rattle.callbridge.proofs.cb_new_station.Met as cb-new-station-met
+use Rattle.callbridge.proofs.cb_new_station.Symbol as cb-new-station-symbol
+use Rattle.callbridge.proofs.cb_attach
+use Rattle.callbridge.proofs.cb_attach.Met as cb-attach-met
+use Rattle.callbridge.proofs.cb_attach.Symbol as cb-attach-symbol
+use Rattle.callbridge.proofs.cb_detach
+use Rattle.callbridge.proofs.cb_detach.Met as cb-detach-met
+use Rattle.callbridge.proofs.cb_detach.Symbol as cb-detach-symbol
+use Rattle.callbridge.proofs.cb_open_walk
+use Rattle.callbridge.proofs.cb_open_walk.Met as cb-open-walk-met
+use Rattle.callbridge.proofs.cb_open_walk.Symbol as cb-open-walk-symbol
+use Rattle.callbridge.proofs.cb_step
+use Rattle.callbridge.proofs.cb_step.Met as cb-step-met
+use Rattle.callbridge.proofs.cb_step.Symbol as cb-step-symbol
+use Rattle.callbridge.proofs.cb_show
+use Rattle.callbridge.proofs.cb_show.Met as cb-show-met
+use Rattle.callbridge.proofs.cb_show.Symbol as cb-show-symbol
+
+pub meets-callbridge-cb-version : Meets cb_version.ended (λ M. cb_version.clauses {M = M}) cb-version-symbol.routine
+meets-callbridge-cb-version M = cb-version-met.met
+
+pub tight-callbridge-cb-version : Tight cb_version.ended (λ M. cb_version.clauses {M = M})
+tight-callbridge-cb-version c r q w v a b = (equal (result cb_version.ended c) (a .ensured) (b .ensured), refl)
+
+pub meets-callbridge-cb-check : Meets cb_check.ended (λ M. cb_check.clauses {M = M}) cb-check-symbol.routine
+meets-callbridge-cb-check M = cb-check-met.met
+
+pub tight-callbridge-cb-check : Tight cb_check.ended (λ M. cb_check.clauses {M = M})
+tight-callbridge-cb-check c r q w v a b = (equal (result cb_check.ended c) (a .ensured) (b .ensured), refl)
+
+pub meets-callbridge-cb-type-extent : Meets cb_type_extent.ended (λ M. cb_type_extent.clauses {M = M}) cb-type-extent-symbol.routine
+meets-callbridge-cb-type-extent M = cb-type-extent-met.met
+
+pub tight-callbridge-cb-type-extent : Tight cb_type_extent.ended (λ M. cb_type_extent.clauses {M = M})
+tight-callbridge-cb-type-extent c r q w v a b = (settle (result cb_type_extent.ended c) (a .ensured) (b .ensured) (λ e f. e .0 ∙ sym (f .0)), λ i. (tt, (tt, (extent i, tt))))
+  where
+    extent : w .1 .1 .0 ≡ v .1 .1 .0
+    extent = settle (Extent.the-row .coded) (a .ensured) (b .ensured) (λ e f. e .1 ∙ sym (f .1))
+
+pub meets-callbridge-cb-type-classes : Meets cb_type_classes.ended (λ M. cb_type_classes.clauses {M = M}) cb-type-classes-symbol.routine
+meets-callbridge-cb-type-classes M = cb-type-classes-met.met
+
+pub tight-callbridge-cb-type-classes : Tight cb_type_classes.ended (λ M. cb_type_classes.clauses {M = M})
+tight-callbridge-cb-type-classes c r q w v a b = (settle (result cb_type_classes.ended c) (a .ensured) (b .ensured) (λ e f. e .0 ∙ sym (f .0)), λ i. (tt, (tt, (classes i, tt))))
+  where
+    classes : w .1 .1 .0 ≡ v .1 .1 .0
+    classes = settle (Classes.the-row .coded) (a .ensured) (b .ensured) (λ e f. e .1 ∙ sym (f .1))
+
+pub meets-callbridge-cb-member-run : Meets cb_member_run.ended (λ M. cb_member_run.clauses {M = M}) cb-member-run-symbol.routine
+meets-callbridge-cb-member-run M = cb-member-run-met.met
+
+pub tight-callbridge-cb-member-run : Tight cb_member_run.ended (λ M. cb_member_run.clauses {M = M})
+tight-callbridge-cb-member-run c r q w v a b = (settle (result cb_member_run.ended c) (a .ensured) (b .ensured) (λ e f. e .0 ∙ sym (f .0)), λ i. (tt, (tt, (part i, tt))))
+  where
+    part : w .1 .1 .0 ≡ v .1 .1 .0
+    part = settle (Part.the-row .coded) (a .ensured) (b .ensured) (λ e f. e .1 ∙ sym (f .1))
+
+pub meets-callbridge-cb-layout-of : Meets cb_layout_of.ended (λ M. cb_layout_of.clauses {M = M}) cb-layout-of-symbol.routine
+meets-callbridge-cb-layout-of M = cb-layout-of-met.met
+
+pub tight-callbridge-cb-layout-of : Tight cb_layout_of.ended (λ M. cb_layout_of.clauses {M = M})
+tight-callbridge-cb-layout-of c r q w v a b = (settle (result cb_layout_of.ended c) (a .ensured) (b .ensured) (λ e f. e .0 ∙ sym (f .0)), λ i. (tt, (layout i, tt)))
+  where
+    layout : w .1 .0 ≡ v .1 .0
+    layout = settle (Layout.the-row .coded) (a .ensured) (b .ensured) (λ e f. e .1 ∙ sym (f .1))
+
+pub meets-callbridge-cb-lay-out : Meets cb_lay_out.ended (λ M. cb_lay_out.clauses {M = M}) cb-lay-out-symbol.routine
+meets-callbridge-cb-lay-out M = cb-lay-out-met.met
+
+pub tight-callbridge-cb-lay-out : Tight cb_lay_out.ended (λ M. cb_lay_out.clauses {M = M})
+tight-callbridge-cb-lay-out c r q w v a b = (settle (result cb_lay_out.ended c) (a .ensured) (b .ensured) (λ e f. e .0 ∙ sym (f .0)), λ i. (tt, (layout i, (list i, tt))))
+  where
+    layout : w .1 .0 ≡ v .1 .0
+    layout = settle (Layout.the-row .coded) (a .ensured) (b .ensured) (λ e f. e .1 .0 ∙ sym (f .1 .0))
+
+    list : w .1 .1 .0 ≡ v .1 .1 .0
+    list = settle (codedList (Placement.the-row .coded)) (a .ensured) (b .ensured) (λ e f. e .1 .1 ∙ sym (f .1 .1))
+
+pub meets-callbridge-cb-write-listing : Meets cb_write_listing.ended (λ M. cb_write_listing.clauses {M = M}) cb-write-listing-symbol.routine
+meets-callbridge-cb-write-listing M = cb-write-listing-met.met
+
+pub tight-callbridge-cb-write-listing : Tight cb_write_listing.ended (λ M. cb_write_listing.clauses {M = M})
+tight-callbridge-cb-write-listing c r q w v a b = (settle (result cb_write_listing.ended c) (a .ensured) (b .ensured) (λ e f. e .0 ∙ sym (f .0)), λ i. (tt, (out i, tt)))
+  where
+    out : w .1 .0 ≡ v .1 .0
+    out = settle bytes (a .ensured) (b .ensured) (λ e f. e .2 ∙ sym (f .2))
+
+pub meets-callbridge-cb-place-values : Meets cb_place_values.ended (λ M. cb_place_values.clauses {M = M}) cb-place-values-symbol.routine
+meets-callbridge-cb-place-values M = cb-place-values-met.met
+
+pub tight-callbridge-cb-place-values : Tight cb_place_values.ended (λ M. cb_place_values.clauses {M = M})
+tight-callbridge-cb-place-values c r q w v a b = (settle (result cb_place_values.ended c) (a .ensured) (b .ensured) (λ e f. e .0 ∙ sym (f .0)), λ i. (tt, (tt, (tt, (registers i, (stack i, (placed i, tt)))))))
+  where
+    registers : w .1 .1 .1 .0 ≡ v .1 .1 .1 .0
+    registers = settle bytes (a .ensured) (b .ensured) (λ e f. e .1 .1 .0 ∙ sym (f .1 .1 .0))
+
+    stack : w .1 .1 .1 .1 .0 ≡ v .1 .1 .1 .1 .0
+    stack = settle bytes (a .ensured) (b .ensured) (λ e f. e .1 .1 .1 ∙ sym (f .1 .1 .1))
+
+    placed : w .1 .1 .1 .1 .1 .0 ≡ v .1 .1 .1 .1 .1 .0
+    placed = settle (Placed.the-row .coded) (a .ensured) (b .ensured) (λ e f. e .1 .0 ∙ sym (f .1 .0))
+
+pub meets-callbridge-cb-gather-values : Meets cb_gather_values.ended (λ M. cb_gather_values.clauses {M = M}) cb-gather-values-symbol.routine
+meets-callbridge-cb-gather-values M = cb-gather-values-met.met
+
+pub tight-callbridge-cb-gather-values : Tight cb_gather_values.ended (λ M. cb_gather_values.clauses {M = M})
+tight-callbridge-cb-gather-values c r q w v a b = (settle (result cb_gather_values.ended c) (a .ensured) (b .ensured) (λ e f. e .0 ∙ sym (f .0)), λ i. (tt, (tt, (tt, (values i, (gathered i, tt))))))
+  where
+    values : w .1 .1 .1 .0 ≡ v .1 .1 .1 .0
+    values = settle bytes (a .ensured) (b .ensured) (λ e f. e .1 .1 ∙ sym (f .1 .1))
+
+    gathered : w .1 .1 .1 .1 .0 ≡ v .1 .1 .1 .1 .0
+    gathered = settle (Gathered.the-row .coded) (a .ensured) (b .ensured) (λ e f. e .1 .0 ∙ sym (f .1 .0))
+
+pub meets-callbridge-cb-new-station : Meets cb_new_station.ended (λ M. cb_new_station.clauses {M = M}) cb-new-station-symbol.routine
+meets-callbridge-cb-new-station M = cb-new-station-met.met
+
+pub tight-callbridge-cb-new-station : Tight cb_new_station.ended (λ M. cb_new_station.clauses {M = M})
+tight-callbridge-cb-new-station c r q w v a b = (equal (result cb_new_station.ended c) (a .ensured) (b .ensured), refl)
+
+pub meets-callbridge-cb-attach : Meets cb_attach.ended (λ M. cb_attach.clauses {M = M}) cb-attach-symbol.routine
+meets-callbridge-cb-attach M = cb-attach-met.met
+
+pub tight-callbridge-cb-attach : Tight cb_attach.ended (λ M. cb_attach.clauses {M = M})
+tight-callbridge-cb-attach c r q w v a b = (settle (result cb_attach.ended c) (a .ensured) (b .ensured) (λ e f. e .0 ∙ sym (f .0)), λ i. (station i, (seat i, (tt, tt))))
+  where
+    station : w .0 ≡ v .0
+    station = settle (Station.the-row .coded) (a .ensured) (b .ensured) (λ e f. e .1 ∙ sym (f .1))
+
+    seat : w .1 .0 ≡ v .1 .0
+    seat = settle bytes (a .ensured) (b .ensured) (λ e f. e .2 ∙ sym (f .2))
+
+pub meets-callbridge-cb-detach : Meets cb_detach.ended (λ M. cb_detach.clauses {M = M}) cb-detach-symbol.routine
+meets-callbridge-cb-detach M = cb-detach-met.met
+
+pub tight-callbridge-cb-detach : Tight cb_detach.ended (λ M. cb_detach.clauses {M = M})
+tight-callbridge-cb-detach c r q w v a b = (settle (result cb_detach.ended c) (a .ensured) (b .ensured) (λ e f. e .0 ∙ sym (f .0)), λ i. (station i, (seat i, tt)))
+  where
+    station : w .0 ≡ v .0
+    station = settle (Station.the-row .coded) (a .ensured) (b .ensured) (λ e f. e .1 ∙ sym (f .1))
+
+    seat : w .1 .0 ≡ v .1 .0
+    seat = settle bytes (a .ensured) (b .ensured) (λ e f. e .2 ∙ sym (f .2))
+
+pub meets-callbridge-cb-open-walk : Meets cb_open_walk.ended (λ M. cb_open_walk.clauses {M = M}) cb-open-walk-symbol.routine
+meets-callbridge-cb-open-walk M = cb-open-walk-met.met
+
+pub tight-callbridge-cb-open-walk : Tight cb_open_walk.ended (λ M. cb_open_walk.clauses {M = M})
+tight-callbridge-cb-open-walk c r q w v a b = (settle (result cb_open_walk.ended c) (a .ensured) (b .ensured) (λ e f. e .0 ∙ sym (f .0)), λ i. (tt, (tt, (walk i, tt))))
+  where
+    walk : w .1 .1 .0 ≡ v .1 .1 .0
+    walk = settle (Walk.the-row .coded) (a .ensured) (b .ensured) (λ e f. e .1 ∙ sym (f .1))
+
+pub meets-callbridge-cb-step : Meets cb_step.ended (λ M. cb_step.clauses {M = M}) cb-step-symbol.routine
+meets-callbridge-cb-step M = cb-step-met.met
+
+pub tight-callbridge-cb-step : Tight cb_step.ended (λ M. cb_step.clauses {M = M})
+tight-callbridge-cb-step c r q w v a b = (settle (result cb_step.ended c) (a .ensured) (b .ensured) (λ e f. e .0 ∙ sym (f .0)), λ i. (tt, (tt, (walk i, (tt, (tt, (tt, (out i, tt))))))))
+  where
+    walk : w .1 .1 .0 ≡ v .1 .1 .0
+    walk = settle (Walk.the-row .coded) (a .ensured) (b .ensured) (λ e f. e .1 ∙ sym (f .1))
+
+    out : w .1 .1 .1 .1 .1 .1 .0 ≡ v .1 .1 .1 .1 .1 .1 .0
+    out = settle bytes (a .ensured) (b .ensured) (λ e f. e .2 ∙ sym (f .2))
+
+pub meets-callbridge-cb-show : Meets cb_show.ended (λ M. cb_show.clauses {M = M}) cb-show-symbol.routine
+meets-callbridge-cb-show M = cb-show-met.met
+
+pub tight-callbridge-cb-show : Tight cb_show.ended (λ M. cb_show.clauses {M = M})
+tight-callbridge-cb-show c r q w v a b = (settle (result cb_show.ended c) (a .ensured) (b .ensured) (λ e f. e .0 ∙ sym (f .0)), λ i. (tt, (tt, (tt, (tt, (tt, (tt, (part i, tt))))))))
+  where
+    part : w .1 .1 .1 .1 .1 .1 .0 ≡ v .1 .1 .1 .1 .1 .1 .0
+    part = settle (Part.the-row .coded) (a .ensured) (b .ensured) (λ e f. e .1 ∙ sym (f .1))
