@@ -1,5 +1,5 @@
-/* A host of the call bridge. It reads the description of a call from standard input, lays the call out, places made-up values, walks
-   the unnamed arguments as the called function would, and gathers the values again.
+/* A host of the call bridge. It reads the description of a call from standard input, says what types it has, lays the call out, places
+   made-up values, walks the unnamed arguments as the called function would, and gathers the values again.
 
        rt staticlib callbridge
        gcc -std=c11 -Wall -Wextra -Werror -pedantic -I include examples/host.c target/staticlib/libcallbridge.a -o target/host
@@ -37,6 +37,43 @@ static void print_bytes(const uint8_t *bytes, size_t count)
         printf(" %02x", bytes[i]);
     }
     printf("\n");
+}
+
+static const char *class_name(uint8_t class_number)
+{
+    static const char *const names[8] = {"NO_CLASS", "INTEGER", "SSE", "SSEUP", "X87", "X87UP", "COMPLEX_X87", "MEMORY"};
+    return class_number < 8 ? names[class_number] : "?";
+}
+
+/* Asks about each type, up to the first number that no type has. */
+static void print_types(const call *c)
+{
+    for (uint8_t type = 0; type < 255; type++) {
+        cb_extent extent;
+        cb_classes classes;
+        cb_part members;
+        if (cb_type_extent(c->description, c->length, type, &extent).number != CB_ACCEPTED ||
+            cb_type_classes(c->description, c->length, type, &classes).number != CB_ACCEPTED ||
+            cb_member_run(c->description, c->length, type, &members).number != CB_ACCEPTED) {
+            return;
+        }
+        printf("type %u: %zu bytes, aligned to %zu, %s %s", type, extent.size, extent.align, class_name(classes.first),
+               class_name(classes.second));
+        if (members.image == CB_DESCRIPTION) {
+            printf(", members");
+            for (size_t i = 0; i < members.length; i++) {
+                printf(" %u", c->description[members.offset + i]);
+            }
+        }
+        printf("\n");
+    }
+}
+
+static void print_listing(const call *c)
+{
+    uint8_t text[CB_LISTING_ROOM];
+    size_t length = cb_write_listing(c->description, c->length, text);
+    fwrite(text, 1, length, stdout);
 }
 
 static void print_registers(uint8_t first, uint8_t second)
@@ -176,7 +213,12 @@ int main(void)
         return 1;
     }
     c.length = fread(c.description, 1, sizeof c.description, stdin);
-    if (refused("description", cb_lay_out(c.description, c.length, &c.layout, c.arguments, CB_MAX_ARGUMENTS))) {
+    if (refused("description", cb_check(c.description, c.length))) {
+        return 1;
+    }
+    print_listing(&c);
+    print_types(&c);
+    if (refused("layout", cb_lay_out(c.description, c.length, &c.layout, c.arguments, CB_MAX_ARGUMENTS))) {
         return 1;
     }
     print_layout(&c);

@@ -7,6 +7,13 @@
    was written: each struct and each buffer that was lent holds what it held before. Any bytes may be given as a description, and any
    numbers in a station or a walk: a wrong one is refused, never followed.
 
+       cb_layout layout;
+       cb_placement list[CB_MAX_ARGUMENTS];
+       cb_refusal refusal = cb_lay_out(bytes, length, &layout, list, CB_MAX_ARGUMENTS);
+       if (refusal.number != CB_ACCEPTED) {
+           puts(cb_refusal_text(refusal));
+       }
+
    What a host must keep to:
    - a buffer is a pointer and its own length in bytes (for a list: in records), and no two that are lent to one call overlap, where
      one of them is written to;
@@ -15,7 +22,8 @@
    - the field `attached` of a station is 0 or 1.
 
    The library allocates nothing and has no state of its own, neither global nor per thread: all that it knows lies in what it is
-   lent. Every function may be called from any thread and from a signal handler, as long as nobody else has what is lent to it. */
+   lent. Every function may be called from any thread and from a signal handler, as long as nobody else has what is lent to it.
+   Of other libraries it needs memset alone. examples/host.c is a host that uses every part of it. */
 #ifndef CALLBRIDGE_H
 #define CALLBRIDGE_H
 
