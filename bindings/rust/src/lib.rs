@@ -1,0 +1,44 @@
+//! Safe types over the call bridge (`callbridge.h`).
+//!
+//! A *description* (KCB) is a byte string that says which types a foreign function takes. This crate
+//! says where each argument of a call goes by the System V AMD64 rules, moves the bytes of all values
+//! into a register image and a stack image and back, and walks unnamed arguments as `va_arg` does.
+//! Descriptions may come from strangers: whatever breaks the rules is a [`Refusal`], and changes
+//! nothing.
+//!
+//! ```
+//! // An int and a double, returning nothing.
+//! let description = [b'K', b'C', b'B', 1, 0, 2, 0, 2, 2, 255, 0, 0, 3, 0, 0, 0, 7, 0, 0, 0, 1];
+//! let (layout, placements) = callbridge::lay_out(&description)?;
+//! assert_eq!(layout.area, 0);
+//! assert_eq!(placements[0].place.to_string(), "rdi");
+//! assert_eq!(placements[1].place.to_string(), "xmm0");
+//!
+//! let mut images = callbridge::Images::new(&layout);
+//! let mut values = 7i32.to_le_bytes().to_vec();
+//! values.extend(0.5f64.to_le_bytes());
+//! let vectors = callbridge::place(&description, 0, &values, &mut images)?;
+//! assert_eq!(vectors, 1);
+//! assert_eq!(images.registers[0], 7);
+//! # Ok::<(), callbridge::Refusal>(())
+//! ```
+
+pub mod raw;
+
+mod layout;
+mod moving;
+mod refusal;
+mod station;
+mod types;
+
+pub use layout::{lay_out, layout, Layout, Place, Placement, Register, Returned};
+pub use moving::{gather, place, Images, REGISTER_IMAGE};
+pub use refusal::Refusal;
+pub use station::{Station, Walk, SEAT};
+pub use types::{check, classes, extent, listing, members, Class, Extent};
+
+/// The version of the library that is linked.
+pub fn version() -> u32 {
+    // Safety: the call takes nothing.
+    unsafe { raw::cb_version() }
+}

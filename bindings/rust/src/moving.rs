@@ -1,0 +1,72 @@
+//! Values into the images and out again.
+
+use crate::layout::Layout;
+use crate::raw;
+use crate::Refusal;
+
+/// Bytes of the register image: rdi, rsi, rdx, rcx, r8, r9 at 8 bytes, then xmm0 to xmm7 at 16.
+pub const REGISTER_IMAGE: usize = 176;
+
+/// The register image and the stack image of one call.
+#[derive(Clone, Debug, PartialEq, Eq)]
+pub struct Images {
+    pub registers: [u8; REGISTER_IMAGE],
+    pub stack: Vec<u8>,
+}
+
+impl Images {
+    /// Zeros, of the lengths that a call of this layout has.
+    pub fn new(layout: &Layout) -> Images {
+        Images { registers: [0; REGISTER_IMAGE], stack: vec![0; layout.area] }
+    }
+}
+
+/// Places the values, packed argument after argument, and zeros everywhere else. Answers how many
+/// vector registers are used. Refused 1 to 10, 11 for a length, 12 for a `_Bool` that is not 0 or 1.
+pub fn place(
+    description: &[u8],
+    hidden: u64,
+    values: &[u8],
+    images: &mut Images,
+) -> Result<usize, Refusal> {
+    let mut placed = raw::Placed { vector_registers: 0 };
+    // Safety: each pointer and length are those of one slice, and the two that are written to are borrowed mutably.
+    let answer = unsafe {
+        raw::cb_place_values(
+            description.as_ptr(),
+            description.len(),
+            hidden,
+            values.as_ptr(),
+            values.len(),
+            images.registers.as_mut_ptr(),
+            images.registers.len(),
+            images.stack.as_mut_ptr(),
+            images.stack.len(),
+            &mut placed,
+        )
+    };
+    Refusal::of(answer)?;
+    Ok(placed.vector_registers)
+}
+
+/// Gathers the values again, packed, into a buffer of the layout's `values` bytes. Answers the hidden
+/// address, 0 where none is passed. Refused 1 to 10, 11 for a length.
+pub fn gather(description: &[u8], images: &Images, values: &mut [u8]) -> Result<u64, Refusal> {
+    let mut gathered = raw::Gathered { hidden: 0 };
+    // Safety: as in `place`.
+    let answer = unsafe {
+        raw::cb_gather_values(
+            description.as_ptr(),
+            description.len(),
+            images.registers.as_ptr(),
+            images.registers.len(),
+            images.stack.as_ptr(),
+            images.stack.len(),
+            values.as_mut_ptr(),
+            values.len(),
+            &mut gathered,
+        )
+    };
+    Refusal::of(answer)?;
+    Ok(gathered.hidden)
+}

@@ -1,0 +1,186 @@
+//! include/callbridge.h, word for word: the same structs, constants and functions.
+//!
+//! What a caller must keep to stands in the header: buffers with their own lengths, none of which
+//! overlap where one is written to, and no null pointer.
+
+/// Why a call was refused, number 0 for none.
+#[repr(C)]
+#[derive(Clone, Copy, Debug, PartialEq, Eq)]
+pub struct Refusal {
+    pub number: u8,
+}
+
+#[repr(C)]
+#[derive(Clone, Copy, Debug, PartialEq, Eq)]
+pub struct Extent {
+    pub size: usize,
+    pub align: usize,
+}
+
+#[repr(C)]
+#[derive(Clone, Copy, Debug, PartialEq, Eq)]
+pub struct Classes {
+    pub first: u8,
+    pub second: u8,
+}
+
+/// What a part is a part of.
+pub const NOWHERE: u8 = 0;
+pub const DESCRIPTION: u8 = 1;
+pub const REGISTERS: u8 = 2;
+pub const STACK: u8 = 3;
+
+#[repr(C)]
+#[derive(Clone, Copy, Debug, PartialEq, Eq)]
+pub struct Part {
+    pub offset: usize,
+    pub length: usize,
+    pub image: u8,
+}
+
+/// Registers as numbers: rdi to r9 from 0, and these.
+pub const RDX: u8 = 2;
+pub const RAX: u8 = 6;
+pub const ST0: u8 = 8;
+pub const ST1: u8 = 9;
+pub const XMM0: u8 = 16;
+pub const XMM0H: u8 = 32;
+pub const NONE: u8 = 255;
+
+#[repr(C)]
+#[derive(Clone, Copy, Debug, PartialEq, Eq)]
+pub struct Placement {
+    pub size: usize,
+    pub align: usize,
+    pub offset: usize,
+    pub type_number: u8,
+    pub first: u8,
+    pub second: u8,
+}
+
+#[repr(C)]
+#[derive(Clone, Copy, Debug, PartialEq, Eq)]
+pub struct Layout {
+    pub general_registers: usize,
+    pub vector_registers: usize,
+    pub stack_end: usize,
+    pub area: usize,
+    pub values: usize,
+    pub named_general_registers: usize,
+    pub named_vector_registers: usize,
+    pub named_stack_end: usize,
+    pub arguments: usize,
+    pub return_first: u8,
+    pub return_second: u8,
+    pub hidden: u8,
+}
+
+#[repr(C)]
+#[derive(Clone, Copy, Debug, PartialEq, Eq)]
+pub struct Placed {
+    pub vector_registers: usize,
+}
+
+#[repr(C)]
+#[derive(Clone, Copy, Debug, PartialEq, Eq)]
+pub struct Gathered {
+    pub hidden: u64,
+}
+
+#[repr(C)]
+#[derive(Clone, Copy, Debug, PartialEq, Eq)]
+pub struct Station {
+    pub attached: u8,
+    pub length: usize,
+    pub number: u32,
+}
+
+#[repr(C)]
+#[derive(Clone, Copy, Debug, Default, PartialEq, Eq)]
+pub struct Walk {
+    pub number: u32,
+    pub position: usize,
+    pub general: usize,
+    pub vector: usize,
+    pub overflow: usize,
+}
+
+extern "C" {
+    pub fn cb_version() -> u32;
+    pub fn cb_check(d: *const u8, n: usize) -> Refusal;
+    pub fn cb_type_extent(d: *const u8, n: usize, asked: u8, extent: *mut Extent) -> Refusal;
+    pub fn cb_type_classes(d: *const u8, n: usize, asked: u8, classes: *mut Classes) -> Refusal;
+    pub fn cb_member_run(d: *const u8, n: usize, asked: u8, run: *mut Part) -> Refusal;
+    pub fn cb_layout_of(d: *const u8, n: usize, layout: *mut Layout) -> Refusal;
+    pub fn cb_lay_out(
+        d: *const u8,
+        n: usize,
+        layout: *mut Layout,
+        list: *mut Placement,
+        room: usize,
+    ) -> Refusal;
+    pub fn cb_write_listing(d: *const u8, n: usize, out: *mut u8) -> usize;
+    pub fn cb_place_values(
+        d: *const u8,
+        n: usize,
+        hidden: u64,
+        values: *const u8,
+        values_length: usize,
+        registers: *mut u8,
+        registers_length: usize,
+        stack: *mut u8,
+        stack_length: usize,
+        placed: *mut Placed,
+    ) -> Refusal;
+    pub fn cb_gather_values(
+        d: *const u8,
+        n: usize,
+        registers: *const u8,
+        registers_length: usize,
+        stack: *const u8,
+        stack_length: usize,
+        values: *mut u8,
+        values_length: usize,
+        gathered: *mut Gathered,
+    ) -> Refusal;
+    pub fn cb_new_station() -> Station;
+    pub fn cb_attach(
+        station: *mut Station,
+        seat: *mut u8,
+        seat_length: usize,
+        d: *const u8,
+        n: usize,
+    ) -> Refusal;
+    pub fn cb_detach(station: *mut Station, seat: *mut u8, seat_length: usize) -> Refusal;
+    pub fn cb_open_walk(
+        station: *const Station,
+        seat: *const u8,
+        seat_length: usize,
+        walk: *mut Walk,
+    ) -> Refusal;
+    pub fn cb_step(
+        station: *const Station,
+        seat: *const u8,
+        seat_length: usize,
+        walk: *mut Walk,
+        registers: *const u8,
+        registers_length: usize,
+        stack: *const u8,
+        stack_length: usize,
+        asked: u8,
+        out: *mut u8,
+        out_length: usize,
+    ) -> Refusal;
+    pub fn cb_show(
+        station: *const Station,
+        seat: *const u8,
+        seat_length: usize,
+        walk: *const Walk,
+        registers: *const u8,
+        registers_length: usize,
+        stack: *const u8,
+        stack_length: usize,
+        asked: u8,
+        part: *mut Part,
+    ) -> Refusal;
+}

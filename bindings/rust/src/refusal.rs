@@ -1,0 +1,66 @@
+//! Why a call was refused.
+
+use crate::raw;
+use std::fmt;
+use std::num::NonZeroU8;
+
+/// The number of a refusal, 1 to 20.
+#[derive(Clone, Copy, PartialEq, Eq, Hash)]
+pub struct Refusal(NonZeroU8);
+
+/// In the order of their numbers.
+const TEXTS: [&str; 20] = [
+    "the description has under 11 bytes",
+    "the description does not begin with KCB",
+    "the description's version is not 1",
+    "the description's counts of types or arguments, or its variadic byte, are against the rules",
+    "the description has not the length that its counts ask for",
+    "a type record is against the rules",
+    "a type has over 4096 bytes",
+    "a type number names no type, or an array where a value is passed or returned",
+    "an unnamed argument is a _Bool, char, short or float",
+    "the stack area is over 16384 bytes",
+    "a buffer has the wrong length, the list is too short, or the station's length is over 586",
+    "the byte of a _Bool argument is not 0 or 1",
+    "nothing is attached",
+    "something is attached already",
+    "the station's number can count no further",
+    "the function is not variadic",
+    "the walk is of another attachment",
+    "the walk's position or offsets are not those of this description",
+    "the walk has passed the last argument",
+    "the argument is of another type",
+];
+
+impl Refusal {
+    pub fn number(self) -> u8 {
+        self.0.get()
+    }
+
+    /// What it means, in a line.
+    pub fn text(self) -> &'static str {
+        TEXTS.get(self.number() as usize - 1).copied().unwrap_or("no refusal of this library")
+    }
+
+    /// An answer of the library as a result.
+    pub(crate) fn of(answer: raw::Refusal) -> Result<(), Refusal> {
+        match NonZeroU8::new(answer.number) {
+            None => Ok(()),
+            Some(number) => Err(Refusal(number)),
+        }
+    }
+}
+
+impl fmt::Display for Refusal {
+    fn fmt(&self, formatter: &mut fmt::Formatter<'_>) -> fmt::Result {
+        write!(formatter, "refused {}: {}", self.number(), self.text())
+    }
+}
+
+impl fmt::Debug for Refusal {
+    fn fmt(&self, formatter: &mut fmt::Formatter<'_>) -> fmt::Result {
+        write!(formatter, "Refusal({})", self.number())
+    }
+}
+
+impl std::error::Error for Refusal {}

@@ -1,0 +1,86 @@
+//! A description as a whole, and its types.
+
+use crate::raw;
+use crate::Refusal;
+
+/// Whether a description is right in every respect: refused 1 to 10.
+pub fn check(description: &[u8]) -> Result<(), Refusal> {
+    // Safety: pointer and length are those of one slice.
+    Refusal::of(unsafe { raw::cb_check(description.as_ptr(), description.len()) })
+}
+
+/// Size and alignment of a type, in bytes.
+#[derive(Clone, Copy, Debug, PartialEq, Eq)]
+pub struct Extent {
+    pub size: usize,
+    pub align: usize,
+}
+
+/// Size and alignment of the type with this number: refused 1 to 8.
+pub fn extent(description: &[u8], type_number: u8) -> Result<Extent, Refusal> {
+    let mut extent = raw::Extent { size: 0, align: 0 };
+    // Safety: pointer and length are those of one slice; the struct is this function's own.
+    let answer = unsafe {
+        raw::cb_type_extent(description.as_ptr(), description.len(), type_number, &mut extent)
+    };
+    Refusal::of(answer)?;
+    Ok(Extent { size: extent.size, align: extent.align })
+}
+
+/// The classes of the supplement, section 3.2.3.
+#[derive(Clone, Copy, Debug, PartialEq, Eq)]
+pub enum Class {
+    NoClass,
+    Integer,
+    Sse,
+    SseUp,
+    X87,
+    X87Up,
+    ComplexX87,
+    Memory,
+}
+
+fn class_of(number: u8) -> Class {
+    match number {
+        1 => Class::Integer,
+        2 => Class::Sse,
+        3 => Class::SseUp,
+        4 => Class::X87,
+        5 => Class::X87Up,
+        6 => Class::ComplexX87,
+        7 => Class::Memory,
+        _ => Class::NoClass,
+    }
+}
+
+/// The classes of the type's two eightbytes: refused 1 to 8.
+pub fn classes(description: &[u8], type_number: u8) -> Result<[Class; 2], Refusal> {
+    let mut classes = raw::Classes { first: 0, second: 0 };
+    // Safety: as in `extent`.
+    let answer = unsafe {
+        raw::cb_type_classes(description.as_ptr(), description.len(), type_number, &mut classes)
+    };
+    Refusal::of(answer)?;
+    Ok([class_of(classes.first), class_of(classes.second)])
+}
+
+/// The type numbers of a struct's or union's members, as a part of the description; empty for
+/// another kind of type. Refused 1 to 8.
+pub fn members(description: &[u8], type_number: u8) -> Result<&[u8], Refusal> {
+    let mut run = raw::Part { offset: 0, length: 0, image: raw::NOWHERE };
+    // Safety: as in `extent`.
+    let answer = unsafe {
+        raw::cb_member_run(description.as_ptr(), description.len(), type_number, &mut run)
+    };
+    Refusal::of(answer)?;
+    Ok(&description[run.offset..run.offset + run.length])
+}
+
+/// The layout as text, or the line `refused n`.
+pub fn listing(description: &[u8]) -> String {
+    let mut out = [0u8; 4096];
+    // Safety: pointer and length are those of one slice; `out` has the 4096 bytes that the call wants.
+    let length =
+        unsafe { raw::cb_write_listing(description.as_ptr(), description.len(), out.as_mut_ptr()) };
+    String::from_utf8_lossy(&out[..length]).into_owned()
+}

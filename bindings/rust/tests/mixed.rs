@@ -1,0 +1,78 @@
+//! The example of the README, examples/mixed.kcb, through every call.
+
+use callbridge::{Class, Images, Place, Register, Returned, Station};
+
+const MIXED: &[u8] = include_bytes!("../../../examples/mixed.kcb");
+
+fn number(refusal: callbridge::Refusal) -> u8 {
+    refusal.number()
+}
+
+/// int 7, struct {1.5, 9}, a long double, 2.5, an __int128.
+fn values() -> Vec<u8> {
+    let mut values = 7i32.to_le_bytes().to_vec();
+    values.extend(1.5f64.to_le_bytes());
+    values.extend(9i64.to_le_bytes());
+    values.extend(0x3fff_8000_0000_0000_0000u128.to_le_bytes());
+    values.extend(2.5f64.to_le_bytes());
+    values.extend((1u128 << 100).to_le_bytes());
+    values
+}
+
+#[test]
+fn questions_about_types() {
+    assert_eq!(callbridge::check(MIXED), Ok(()));
+    let extent = callbridge::extent(MIXED, 3).unwrap();
+    assert_eq!((extent.size, extent.align), (16, 8));
+    assert_eq!(callbridge::classes(MIXED, 3), Ok([Class::Sse, Class::Integer]));
+    assert_eq!(callbridge::members(MIXED, 3), Ok(&[1u8, 2][..]));
+    assert_eq!(callbridge::members(MIXED, 0), Ok(&[][..]));
+    assert_eq!(callbridge::extent(MIXED, 6).map_err(number), Err(8));
+}
+
+#[test]
+fn places() {
+    let (layout, placements) = callbridge::lay_out(MIXED).unwrap();
+    assert_eq!(callbridge::layout(MIXED), Ok(layout));
+    assert_eq!((layout.area, layout.values, layout.arguments), (16, 60, 5));
+    assert_eq!(layout.returned, Returned::One(Register::Vector(0)));
+    let texts: Vec<String> = placements.iter().map(|one| one.place.to_string()).collect();
+    assert_eq!(texts, ["rdi", "xmm0 rsi", "stack 0", "xmm1", "rdx rcx"]);
+    assert_eq!(placements[2].place, Place::Stack(0));
+    assert!(callbridge::listing(MIXED).ends_with("walk gp 16 fp 64 over 16\n"));
+}
+
+#[test]
+fn values_come_back() {
+    let layout = callbridge::layout(MIXED).unwrap();
+    let mut images = Images::new(&layout);
+    assert_eq!(callbridge::place(MIXED, 0, &values(), &mut images), Ok(2));
+    let mut back = vec![0; layout.values];
+    assert_eq!(callbridge::gather(MIXED, &images, &mut back), Ok(0));
+    assert_eq!(back, values());
+    let refused = callbridge::place(MIXED, 0, &values()[1..], &mut images);
+    assert_eq!(refused.map_err(number), Err(11));
+}
+
+#[test]
+fn a_walk_ends_when_its_module_leaves() {
+    let layout = callbridge::layout(MIXED).unwrap();
+    let mut images = Images::new(&layout);
+    callbridge::place(MIXED, 0, &values(), &mut images).unwrap();
+    let mut station = Station::new();
+    assert_eq!(station.open().map_err(number), Err(13));
+    station.attach(MIXED).unwrap();
+    assert_eq!(station.attach(MIXED).map_err(number), Err(14));
+    let mut walk = station.open().unwrap();
+    assert_eq!(station.show(&walk, &images, 1), Ok(Some(&2.5f64.to_le_bytes()[..])));
+    let mut out = [0; 8];
+    station.step(&mut walk, &images, 1, &mut out).unwrap();
+    assert_eq!((f64::from_le_bytes(out), walk.position()), (2.5, 4));
+    assert_eq!(station.step(&mut walk, &images, 1, &mut out).map_err(number), Err(20));
+
+    station.detach().unwrap();
+    let mut out = [0; 16];
+    assert_eq!(station.step(&mut walk, &images, 5, &mut out).map_err(number), Err(13));
+    station.attach(MIXED).unwrap();
+    assert_eq!(station.step(&mut walk, &images, 5, &mut out).map_err(number), Err(17));
+}

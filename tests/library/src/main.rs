@@ -1,0 +1,96 @@
+//! The C library against the independent layout. `library help` lists the commands.
+
+mod comparison;
+mod descriptions;
+mod histories;
+
+use comparison::Comparison;
+use independent::mixture::Mixture;
+use independent::random::Random;
+use independent::visits::{visits, MOST_VISITS};
+use std::process::ExitCode;
+
+const HELP: &str = "\
+library descriptions COUNT [--seed N] [--towers]   every call about COUNT random descriptions
+library histories COUNT [--seed N]                 COUNT random histories of some 40 calls
+";
+
+fn main() -> ExitCode {
+    let arguments: Vec<String> = std::env::args().skip(1).collect();
+    let words: Vec<&str> = arguments.iter().map(String::as_str).collect();
+    match words.as_slice() {
+        ["descriptions", count, options @ ..] => run_descriptions(number(count), options),
+        ["histories", count, options @ ..] => run_histories(number(count), options),
+        ["help"] | ["--help"] => {
+            print!("{HELP}");
+            ExitCode::SUCCESS
+        }
+        _ => {
+            eprint!("{HELP}");
+            ExitCode::FAILURE
+        }
+    }
+}
+
+fn number(word: &str) -> u64 {
+    word.parse().expect("a number")
+}
+
+fn seed_of(options: &[&str]) -> u64 {
+    let position = options.iter().position(|&option| option == "--seed");
+    position.map_or(1, |at| number(options[at + 1]))
+}
+
+fn run_descriptions(count: u64, options: &[&str]) -> ExitCode {
+    let seed = seed_of(options);
+    let towers = options.contains(&"--towers");
+    let mut random = Random::new(seed);
+    let mixture = Mixture::new();
+    let mut comparison = Comparison::default();
+    let mut left_out = 0;
+    for index in 1..=count {
+        let bytes = mixture.draw(&mut random);
+        if !towers && visits(&bytes) > MOST_VISITS {
+            left_out += 1;
+        } else {
+            descriptions::compare(&mut random, &bytes, &mut comparison);
+        }
+        progress("descriptions", index, count, &comparison);
+    }
+    println!(
+        "library {}: {count} descriptions, seed {seed}, {left_out} left out for plain recursion, {} comparisons, {} different",
+        callbridge::version(),
+        comparison.made,
+        comparison.different
+    );
+    verdict(&comparison)
+}
+
+fn run_histories(count: u64, options: &[&str]) -> ExitCode {
+    let seed = seed_of(options);
+    let mut random = Random::new(seed);
+    let mut comparison = Comparison::default();
+    for index in 1..=count {
+        histories::compare(&mut random, 40, &mut comparison);
+        progress("histories", index, count, &comparison);
+    }
+    println!(
+        "library: {count} histories, seed {seed}, {} commands compared, {} different",
+        comparison.made, comparison.different
+    );
+    verdict(&comparison)
+}
+
+fn progress(what: &str, index: u64, count: u64, comparison: &Comparison) {
+    if index % 10_000 == 0 && index < count {
+        eprintln!("library: {index} of {count} {what}, {} different", comparison.different);
+    }
+}
+
+fn verdict(comparison: &Comparison) -> ExitCode {
+    if comparison.different == 0 {
+        ExitCode::SUCCESS
+    } else {
+        ExitCode::FAILURE
+    }
+}
