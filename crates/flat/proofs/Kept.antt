@@ -1,20 +1,19 @@
 -- Nothing is lost in the flat records of an accepted description: what they mean is what the layout says. Assumes nothing.
-use mathlib.Core.Path.{_≡_, refl, sym, ap, ap₂, _∙_}
+use mathlib.Core.Path.{_≡_, refl, ap, ap₂}
 use mathlib.Core.Bool.{Bool, true, false, cond, not, _&&_}
-use mathlib.Core.List.{List, [], _∷_, _++_}
-use Prim.Native.Nat.{ℕ, suc, _+_, _-_, _≤_, _<_}
+use mathlib.Core.List.{List, [], _∷_}
+use Prim.Native.Nat.{ℕ, _+_, _-_, _≤_}
 use native.Mathlib.Omega.{arith}
-use borrow.Author.Tests.{eq-eqb, ne-eqb}
+use borrow.Author.Tests.{ne-eqb}
 use lib.Dec.{eqb}
 use lib.ListN.{length, getD, length-append}
 use Rattle.units.specs.declared.Bytes.{Bytes}
-use Rattle.description.specs.Description.{argumentsIn, returnIn}
+use Rattle.description.specs.Description.{returnIn}
 use Rattle.types.specs.Decode.{tyAt}
 use Rattle.classes.specs.declared.Class.{Class}
 use Rattle.classes.specs.declared.Class.the-variants.{NoClass, Integer, Sse, SseUp, X87, X87Up, ComplexX87, Memory}
 use Rattle.classes.specs.Classes.{same}
 use Rattle.classes.specs.Ups.{onStack}
-use Rattle.classify.specs.Classify.{classesOf}
 use Rattle.places.specs.declared.Kind.{Kind}
 use Rattle.places.specs.declared.Kind.the-variants.{General as general, Vector as vector, Upper as upper}
 use Rattle.places.specs.declared.Place.{Place}
@@ -23,22 +22,19 @@ use Rattle.places.specs.declared.ReturnPlace.{ReturnPlace}
 use Rattle.places.specs.declared.ReturnPlace.the-variants.{Void, Memory as InMemory, One as InOne, Two as InTwo, St0, St0St1}
 use Rattle.places.specs.Shapes.{kindOf, kindsIn, kindsOf}
 use Rattle.places.specs.Places.{registerFor, place, next, generalFor, vectorFor}
-use Rattle.places.specs.Recorded.{recorded}
 use Rattle.places.specs.Returns.{outside, returnBy, returnOf, hiddenBy, hiddenFor}
 use Rattle.places.proofs.Guaranteed.{length-classes}
-use Rattle.images.specs.Asks.{Known, Inside}
+use Rattle.images.specs.Asks.{Inside}
 use Rattle.images.proofs.Inside.{place-inside}
 use Rattle.layout.specs.declared.Placement.{Placement as Record}
 use Rattle.layout.specs.declared.Layout.{Layout as Whole}
 use Rattle.layout.specs.Arguments.{shapeAt, usedAt, isVoid, returnClasses, returnPlace, hidden}
 use Rattle.layout.specs.Layout.{layoutOf as wholeOf}
 use Rattle.layout.specs.Placements.{placementAt}
-use Rattle.layout.specs.Verdict.{verdict}
 use Rattle.layout.proofs.Verdict.{accepted-uses}
 use Rattle.layout.proofs.Bounds.{argument-shaped}
-use Rattle.flat.specs.declared.Placement.{Placement}
 use Rattle.flat.specs.declared.Layout.{Layout}
-use Rattle.flat.specs.Numbers.{registerNumber, returnNumber, registerMeant, returnMeant}
+use Rattle.flat.specs.Numbers.{registerNumber, returnNumber}
 use Rattle.flat.specs.Records.{slotOf, placementOf, pairOf, layoutOf}
 use Rattle.flat.specs.Meanings.{placeMeant, placementMeant, returnPlaceMeant, layoutMeant, PlacementsMean, LayoutMeans}
 use Rattle.flat.proofs.Meant.{Back, register-meant, register-low, return-meant, return-not, return-low}

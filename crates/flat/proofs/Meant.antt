@@ -1,14 +1,9 @@
 -- Numbers mean the registers and classes that they were made of. Assumes nothing.
-use mathlib.Core.Path.{_≡_, refl, sym, ap, _∙_}
-use mathlib.Core.Bool.{Bool, true, false, cond}
+use mathlib.Core.Path.{_≡_, refl, ap, _∙_}
 use Prim.Native.Nat.{ℕ, zero, suc, _+_, _-_, _≤_, _<_}
 use native.Mathlib.Omega.{arith}
-use borrow.Author.Tests.{eq-eqb, ne-eqb, lt-ltb, le-ltb}
-use lib.Dec.{ltb, eqb}
-use Rattle.units.specs.declared.Registers.{Registers}
-use Rattle.classes.specs.declared.Class.{Class}
+use borrow.Author.Tests.{lt-ltb, le-ltb}
 use Rattle.classes.specs.declared.Class.the-variants.{NoClass, Integer, Sse, SseUp, X87, X87Up, ComplexX87, Memory}
-use Rattle.classes.specs.Classes.{codeOf}
 use Rattle.places.specs.declared.Register.{Register}
 use Rattle.places.specs.declared.Register.the-variants.{General, Vector, Upper}
 use Rattle.images.specs.Asks.{Known}

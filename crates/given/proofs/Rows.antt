@@ -16,13 +16,13 @@ use Rattle.layout.specs.declared.LayoutAnswer.{LayoutAnswer}
 use Rattle.layout.specs.declared.LayoutAnswer.the-variants.{Laid, Refused}
 use Rattle.layout.specs.Layout.{layoutOf as wholeOf}
 use Rattle.layout.specs.Asks.{AskArgument}
-use Rattle.layout.specs.Placements.{placementAt, stepAt, listRefusal, listAnswer, listCount, listUsed, begunOf}
+use Rattle.layout.specs.Placements.{stepAt, listRefusal, listAnswer, listCount, listUsed, begunOf}
 use Rattle.layout.proofs.Lists.{begun-answer, begun-count, begun-used, turn-asks, turn-record, turn-used}
 use Rattle.flat.specs.declared.Layout.{Layout}
 use Rattle.flat.specs.Records.{placementOf, layoutOf}
 use Rattle.given.specs.declared.ListBegun.{ListBegun}
 use Rattle.given.specs.declared.FlatStep.{FlatStep}
-use Rattle.given.specs.Outcome.{Outcome, refusalIn, leftIn}
+use Rattle.given.specs.Outcome.{refusalIn, leftIn}
 use Rattle.given.specs.Given.{layoutGiven}
 use Rattle.given.specs.Lists.{listGiven, flatAt, listBegun, flatStep}
 

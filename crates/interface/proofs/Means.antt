@@ -1,18 +1,15 @@
 -- The records that the C interface gives mean the layout. Assumes nothing.
-use mathlib.Core.Path.{_≡_, sym, ap, _∙_}
+use mathlib.Core.Path.{_≡_, ap, _∙_}
 use mathlib.Core.List.{List}
-use Prim.Native.Nat.{ℕ, _≤_, _<_}
+use Prim.Native.Nat.{ℕ}
 use native.Mathlib.Omega.{arith}
 use borrow.Author.Tests.{eq-eqb}
-use lib.ListN.{length, getD}
+use lib.ListN.{length}
 use Rattle.description.specs.Description.{argumentsIn}
-use Rattle.layout.specs.Verdict.{verdict}
-use Rattle.layout.specs.Layout.{layoutOf as wholeOf, layoutAnswer}
-use Rattle.layout.specs.Placements.{listRefusal, listCount, filled}
+use Rattle.layout.specs.Layout.{layoutOf as wholeOf}
+use Rattle.layout.specs.Placements.{listRefusal, listCount}
 use Rattle.layout.proofs.Lists.{list-accepted, list-room, filled-below}
 use Rattle.station.specs.Outcome.{leaves}
-use Rattle.flat.specs.declared.Placement.{Placement}
-use Rattle.flat.specs.declared.Layout.{Layout}
 use Rattle.flat.specs.Records.{layoutOf}
 use Rattle.flat.specs.Meanings.{placementMeant, layoutMeant}
 use Rattle.flat.proofs.Kept.{placements-mean, layout-means}

@@ -1,22 +1,18 @@
 -- What each call of the C interface answers and leaves, by the paper's numbers. Assumes nothing.
-use mathlib.Core.Path.{_≡_, refl, sym, ap, _∙_}
+use mathlib.Core.Path.{_≡_, refl, ap, _∙_}
 use mathlib.Core.Bool.{Bool, true, false, cond}
-use mathlib.Core.List.{List, [], _++_}
+use mathlib.Core.List.{List}
 use Prim.Native.Nat.{ℕ, zero, suc, _+_}
-use native.Mathlib.Omega.{arith}
 use borrow.Author.Tests.{eqb-true, eqb-false}
 use lib.Dec.{ltb, eqb}
-use lib.ListN.{length, getD}
+use lib.ListN.{length}
 use Rattle.description.specs.Description.{argumentsIn, kindAt, aAt, countAt, memberStart}
-use Rattle.form.specs.declared.Refusal.{Refusal}
 use Rattle.form.specs.Reading.{refusalOf}
-use Rattle.types.specs.Decode.{tyAt}
-use Rattle.questions.specs.declared.RunAnswer.{RunAnswer}
 use Rattle.questions.specs.declared.RunAnswer.the-variants.{Run, NoRun}
-use Rattle.questions.specs.Questions.{questionRefusal, extentOf, extentAnswer}
+use Rattle.questions.specs.Questions.{questionRefusal, extentAnswer}
 use Rattle.questions.specs.Runs.{classesAnswer, runAnswer}
 use Rattle.layout.specs.Verdict.{verdict}
-use Rattle.layout.specs.Layout.{layoutOf as wholeOf, layoutAnswer}
+use Rattle.layout.specs.Layout.{layoutAnswer}
 use Rattle.layout.specs.Placements.{listRefusal, listAnswer}
 use Rattle.moving.specs.Orders.{placeRefusal, gatherRefusal}
 use Rattle.moving.specs.Answers.{placeAnswer, gatherAnswer}
@@ -24,15 +20,14 @@ use Rattle.station.specs.Outcome.{leaves}
 use Rattle.station.specs.Paper.{kcb}
 use Rattle.station.specs.Attachment.{described}
 use Rattle.walk.specs.Orders.{offsetsOf, openRefusal, showRefusal}
-use Rattle.walk.specs.Steps.{openedIf, openAnswer, openWalk}
-use Rattle.show.specs.declared.ShownAnswer.{ShownAnswer}
-use Rattle.show.specs.declared.ShownAnswer.the-variants.{Registers, Stack, Apart, Refused}
+use Rattle.walk.specs.Steps.{openedIf, openAnswer}
+use Rattle.show.specs.declared.ShownAnswer.the-variants.{Registers, Apart}
 use Rattle.places.specs.Shapes.{Shape}
 use Rattle.station.specs.Paper.{shapeAt}
 use Rattle.walk.specs.Offsets.{Source, fromRegisters, fromStack, readAt}
 use Rattle.show.specs.Show.{onePiece, headOf, partIn, shownIn, shownAnswer}
 use Rattle.flat.specs.declared.Part.{Part}
-use Rattle.given.specs.Outcome.{Outcome, gives, refuses, refusalIn, leftIn}
+use Rattle.given.specs.Outcome.{Outcome, gives, refuses}
 use Rattle.given.specs.Given.{extentGiven, classesGiven, runGiven, layoutGiven, placedGiven, gatheredGiven, openGiven, shownGiven}
 use Rattle.given.specs.Lists.{listGiven}
 use Rattle.interface.specs.Interface.{Tells, ExtentTold, ClassesTold, runOf, RunTold, LayoutTold, ListTold, PlacedTold, GatheredTold, OpenTold, partOf, ShownTold}
