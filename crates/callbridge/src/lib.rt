@@ -5,8 +5,8 @@ use flat::Layout;
 use flat::Part;
 use flat::Placement;
 use form::Refusal;
-use given::Gathered;
-use given::Placed;
+use handed::Gathered;
+use handed::Placed;
 use station::Station;
 use types::Extent;
 use walk::Walk;
@@ -29,7 +29,8 @@ ghost use Rattle.walk.specs.Steps.{openAnswer, stepWalk, stepOut};
 ghost use Rattle.show.specs.Show.{shownAnswer};
 ghost use Rattle.listing.specs.Listing.{listing};
 ghost use Rattle.given.specs.Outcome.{refusalIn, leftIn};
-ghost use Rattle.given.specs.Given.{extentGiven, classesGiven, runGiven, layoutGiven, placedGiven, gatheredGiven, openGiven, shownGiven};
+ghost use Rattle.given.specs.Given.{extentGiven, classesGiven, runGiven, layoutGiven};
+ghost use Rattle.handed.specs.Handed.{placedGiven, gatheredGiven, openGiven, shownGiven};
 ghost use Rattle.given.specs.Lists.{listGiven, flatAt};
 
 // CB_VERSION.
@@ -137,7 +138,7 @@ pub extern "C" fn cb_place_values(
         × ((now (registers .exit) ≡ registersAfter (now (d .entry)) hidden (now (values .entry)) (now (registers .entry)) (now (stack .entry)))
         × (now (stack .exit) ≡ stackAfter (now (d .entry)) hidden (now (values .entry)) (now (registers .entry)) (now (stack .entry))))) ⌝ }
 {
-    let given = given::give_placed(d, hidden, values, registers, stack, *placed);
+    let given = handed::give_placed(d, hidden, values, registers, stack, *placed);
     *placed = given.placed;
     given.refusal
 }
@@ -155,7 +156,7 @@ pub extern "C" fn cb_gather_values(
         × ((now (gathered .exit) ≡ leftIn (gatheredGiven (gatherAnswer (now (d .entry)) (now (registers .entry)) (now (stack .entry)) (length (now (values .entry))))) (now (gathered .entry)))
         × (now (values .exit) ≡ valuesAfter (now (d .entry)) (now (registers .entry)) (now (stack .entry)) (now (values .entry)))) ⌝ }
 {
-    let given = given::give_gathered(d, registers, stack, values, *gathered);
+    let given = handed::give_gathered(d, registers, stack, values, *gathered);
     *gathered = given.gathered;
     given.refusal
 }
@@ -198,7 +199,7 @@ pub extern "C" fn cb_open_walk(station: &Station, seat: &[u8], walk: &mut Walk) 
     ensures { λ r. ⌜ (r ≡ refusalIn (openGiven (openAnswer kcb (now (station .entry)) (now (seat .entry)))))
         × (now (walk .exit) ≡ leftIn (openGiven (openAnswer kcb (now (station .entry)) (now (seat .entry)))) (now (walk .entry))) ⌝ }
 {
-    let given = given::give_walk(*station, seat, *walk);
+    let given = handed::give_walk(*station, seat, *walk);
     *walk = given.walk;
     given.refusal
 }
@@ -237,7 +238,7 @@ pub extern "C" fn cb_show(
     ensures { λ r. ⌜ (r ≡ refusalIn (shownGiven (shownAnswer kcb (now (station .entry)) (now (seat .entry)) (now (walk .entry)) (asking (now (registers .entry)) (now (stack .entry)) asked []))))
         × (now (part .exit) ≡ leftIn (shownGiven (shownAnswer kcb (now (station .entry)) (now (seat .entry)) (now (walk .entry)) (asking (now (registers .entry)) (now (stack .entry)) asked []))) (now (part .entry))) ⌝ }
 {
-    let given = given::give_shown(*station, seat, *walk, registers, stack, asked, *part);
+    let given = handed::give_shown(*station, seat, *walk, registers, stack, asked, *part);
     *part = given.part;
     given.refusal
 }

@@ -28,7 +28,8 @@ use Rattle.walk.specs.Offsets.{Source, fromRegisters, fromStack, readAt}
 use Rattle.show.specs.Show.{onePiece, headOf, partIn, shownIn, shownAnswer}
 use Rattle.flat.specs.declared.Part.{Part}
 use Rattle.given.specs.Outcome.{Outcome, gives, refuses}
-use Rattle.given.specs.Given.{extentGiven, classesGiven, runGiven, layoutGiven, placedGiven, gatheredGiven, openGiven, shownGiven}
+use Rattle.given.specs.Given.{extentGiven, classesGiven, runGiven, layoutGiven}
+use Rattle.handed.specs.Handed.{placedGiven, gatheredGiven, openGiven, shownGiven}
 use Rattle.given.specs.Lists.{listGiven}
 use Rattle.interface.specs.Interface.{Tells, ExtentTold, ClassesTold, runOf, RunTold, LayoutTold, ListTold, PlacedTold, GatheredTold, OpenTold, partOf, ShownTold}
 

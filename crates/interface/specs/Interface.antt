@@ -37,7 +37,8 @@ use Rattle.flat.specs.declared.Layout.{Layout}
 use Rattle.flat.specs.Records.{layoutOf}
 use Rattle.flat.specs.Meanings.{placementMeant, layoutMeant}
 use Rattle.given.specs.Outcome.{Outcome, refusalIn, leftIn}
-use Rattle.given.specs.Given.{extentGiven, classesGiven, nowhere, ofDescription, ofRegisters, ofStack, runGiven, layoutGiven, placedGiven, gatheredGiven, openGiven, shownGiven}
+use Rattle.given.specs.Given.{extentGiven, classesGiven, nowhere, ofDescription, runGiven, layoutGiven}
+use Rattle.handed.specs.Handed.{placedGiven, gatheredGiven, ofRegisters, ofStack, openGiven, shownGiven}
 use Rattle.given.specs.Lists.{flatAt, listGiven}
 
 -- a call answers the number n; it leaves the new record where n is 0, and where it is not the record that was lent

@@ -2,8 +2,8 @@
 -- Assumes nothing.
 use mathlib.Core.Path.{sym, _∙_}
 use borrow.Author.Needs.{needs}
-use Rattle.given.proofs.give_gathered.Statement.{statement}
-use Rattle.given.proofs.give_gathered.Tie as tie
+use Rattle.handed.proofs.give_gathered.Statement.{statement}
+use Rattle.handed.proofs.give_gathered.Tie as tie
 
 gather-values-requires : tie.Need-gather-values-requires
 gather-values-requires c κs = search needs

@@ -2,8 +2,8 @@
 -- Assumes nothing.
 use mathlib.Core.Path.{refl, sym, _∙_}
 use borrow.Author.Needs.{needs}
-use Rattle.given.proofs.give_walk.Statement.{statement}
-use Rattle.given.proofs.give_walk.Tie as tie
+use Rattle.handed.proofs.give_walk.Statement.{statement}
+use Rattle.handed.proofs.give_walk.Tie as tie
 
 open-walk-requires : tie.Need-open-walk-requires
 open-walk-requires c κs = search needs

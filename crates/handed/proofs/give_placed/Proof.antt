@@ -2,8 +2,8 @@
 -- Assumes nothing.
 use mathlib.Core.Path.{sym, _∙_}
 use borrow.Author.Needs.{needs}
-use Rattle.given.proofs.give_placed.Statement.{statement}
-use Rattle.given.proofs.give_placed.Tie as tie
+use Rattle.handed.proofs.give_placed.Statement.{statement}
+use Rattle.handed.proofs.give_placed.Tie as tie
 
 place-values-requires : tie.Need-place-values-requires
 place-values-requires c κs = search needs

@@ -2,8 +2,8 @@
 -- Assumes nothing.
 use mathlib.Core.Path.{refl, sym, _∙_}
 use borrow.Author.Needs.{needs}
-use Rattle.given.proofs.give_shown.Statement.{statement}
-use Rattle.given.proofs.give_shown.Tie as tie
+use Rattle.handed.proofs.give_shown.Statement.{statement}
+use Rattle.handed.proofs.give_shown.Tie as tie
 
 shown-at-requires : tie.Need-shown-at-requires
 shown-at-requires c κs = search needs
