@@ -21,5 +21,6 @@ pub mod OfPlaceWords
 pub mod OfListing
 pub mod OfFlat
 pub mod OfGiven
+pub mod OfHanded
 pub mod OfCallbridge
 pub mod HostCalls

@@ -8,8 +8,8 @@ use Rattle.flat.proofs.Classes
 use Rattle.flat.proofs.Part
 use Rattle.flat.proofs.Layout
 use Rattle.flat.proofs.Placement
-use Rattle.given.proofs.Placed
-use Rattle.given.proofs.Gathered
+use Rattle.handed.proofs.Placed
+use Rattle.handed.proofs.Gathered
 use Rattle.station.proofs.Station
 use Rattle.walk.proofs.Walk
 use Rattle.callbridge.proofs.cb_version

@@ -1,7 +1,7 @@
 -- Each public function of `given` meets its contract, and the contract is tight. Assumes nothing.
-use mathlib.Core.Path.{_≡_, refl, sym, _∙_}
+use mathlib.Core.Path.{refl, sym, _∙_}
 use Rattle.tightness.specs.Tight.{Meets, Tight}
-use Rattle.tightness.proofs.Laws.{bytes, equal, result, settle}
+use Rattle.tightness.proofs.Laws.{equal, result, settle}
 use Rattle.given.proofs.give_extent
 use Rattle.given.proofs.give_extent.Met as give-extent-met
 use Rattle.given.proofs.give_extent.Symbol as give-extent-symbol
@@ -20,18 +20,6 @@ use Rattle.given.proofs.begin_list.Symbol as begin-list-symbol
 use Rattle.given.proofs.place_flat
 use Rattle.given.proofs.place_flat.Met as place-flat-met
 use Rattle.given.proofs.place_flat.Symbol as place-flat-symbol
-use Rattle.given.proofs.give_placed
-use Rattle.given.proofs.give_placed.Met as give-placed-met
-use Rattle.given.proofs.give_placed.Symbol as give-placed-symbol
-use Rattle.given.proofs.give_gathered
-use Rattle.given.proofs.give_gathered.Met as give-gathered-met
-use Rattle.given.proofs.give_gathered.Symbol as give-gathered-symbol
-use Rattle.given.proofs.give_walk
-use Rattle.given.proofs.give_walk.Met as give-walk-met
-use Rattle.given.proofs.give_walk.Symbol as give-walk-symbol
-use Rattle.given.proofs.give_shown
-use Rattle.given.proofs.give_shown.Met as give-shown-met
-use Rattle.given.proofs.give_shown.Symbol as give-shown-symbol
 
 pub meets-given-give-extent : Meets give_extent.ended (λ M. give_extent.clauses {M = M}) give-extent-symbol.routine
 meets-given-give-extent M = give-extent-met.met
@@ -68,36 +56,3 @@ meets-given-place-flat M = place-flat-met.met
 
 pub tight-given-place-flat : Tight place_flat.ended (λ M. place_flat.clauses {M = M})
 tight-given-place-flat c r q w v a b = (equal (result place_flat.ended c) (a .ensured) (b .ensured), refl)
-
-pub meets-given-give-placed : Meets give_placed.ended (λ M. give_placed.clauses {M = M}) give-placed-symbol.routine
-meets-given-give-placed M = give-placed-met.met
-
-pub tight-given-give-placed : Tight give_placed.ended (λ M. give_placed.clauses {M = M})
-tight-given-give-placed c r q w v a b = (settle (result give_placed.ended c) (a .ensured) (b .ensured) (λ e f i. record { refusal = (e .0 ∙ sym (f .0)) i; placed = (e .1 .0 ∙ sym (f .1 .0)) i }), λ i. (tt, (tt, (tt, (registers i, (stack i, (tt, tt)))))))
-  where
-    registers : w .1 .1 .1 .0 ≡ v .1 .1 .1 .0
-    registers = settle bytes (a .ensured) (b .ensured) (λ e f. e .1 .1 .0 ∙ sym (f .1 .1 .0))
-
-    stack : w .1 .1 .1 .1 .0 ≡ v .1 .1 .1 .1 .0
-    stack = settle bytes (a .ensured) (b .ensured) (λ e f. e .1 .1 .1 ∙ sym (f .1 .1 .1))
-
-pub meets-given-give-gathered : Meets give_gathered.ended (λ M. give_gathered.clauses {M = M}) give-gathered-symbol.routine
-meets-given-give-gathered M = give-gathered-met.met
-
-pub tight-given-give-gathered : Tight give_gathered.ended (λ M. give_gathered.clauses {M = M})
-tight-given-give-gathered c r q w v a b = (settle (result give_gathered.ended c) (a .ensured) (b .ensured) (λ e f i. record { refusal = (e .0 ∙ sym (f .0)) i; gathered = (e .1 .0 ∙ sym (f .1 .0)) i }), λ i. (tt, (tt, (tt, (values i, (tt, tt))))))
-  where
-    values : w .1 .1 .1 .0 ≡ v .1 .1 .1 .0
-    values = settle bytes (a .ensured) (b .ensured) (λ e f. e .1 .1 ∙ sym (f .1 .1))
-
-pub meets-given-give-walk : Meets give_walk.ended (λ M. give_walk.clauses {M = M}) give-walk-symbol.routine
-meets-given-give-walk M = give-walk-met.met
-
-pub tight-given-give-walk : Tight give_walk.ended (λ M. give_walk.clauses {M = M})
-tight-given-give-walk c r q w v a b = (settle (result give_walk.ended c) (a .ensured) (b .ensured) (λ e f i. record { refusal = (e .0 ∙ sym (f .0)) i; walk = (e .1 ∙ sym (f .1)) i }), refl)
-
-pub meets-given-give-shown : Meets give_shown.ended (λ M. give_shown.clauses {M = M}) give-shown-symbol.routine
-meets-given-give-shown M = give-shown-met.met
-
-pub tight-given-give-shown : Tight give_shown.ended (λ M. give_shown.clauses {M = M})
-tight-given-give-shown c r q w v a b = (settle (result give_shown.ended c) (a .ensured) (b .ensured) (λ e f i. record { refusal = (e .0 ∙ sym (f .0)) i; part = (e .1 ∙ sym (f .1)) i }), refl)
