@@ -106,7 +106,7 @@ pub extern "C" fn cb_lay_out(d: &[u8], layout: &mut Layout, list: &mut [Placemen
     let mut used = head.used;
     let mut i = 0;
     while i < n {
-        let step = given::place_flat(d, used, i);
+        let step = given::place_flat(d, used, i, head);
         list[i] = step.placement;
         used = step.used;
         i += 1;

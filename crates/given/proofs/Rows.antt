@@ -5,6 +5,8 @@ use mathlib.Core.List.{List}
 use Prim.Native.Nat.{ℕ, _+_, _<_}
 use native.Mathlib.Omega.{arith}
 use lib.Dec.{eqb}
+use lib.ListN.{replicate}
+use Rattle.types.specs.Table.{sizesAfter}
 use Rattle.description.specs.Description.{argumentsIn}
 use Rattle.form.specs.declared.Refusal.{Refusal}
 use Rattle.form.specs.Reading.{refusalOf}
@@ -16,8 +18,9 @@ use Rattle.layout.specs.declared.LayoutAnswer.{LayoutAnswer}
 use Rattle.layout.specs.declared.LayoutAnswer.the-variants.{Laid, Refused}
 use Rattle.layout.specs.Layout.{layoutOf as wholeOf}
 use Rattle.layout.specs.Asks.{AskArgument}
+use Rattle.layout.specs.Verdict.{verdict}
 use Rattle.layout.specs.Placements.{stepAt, listRefusal, listAnswer, listCount, listUsed, begunOf}
-use Rattle.layout.proofs.Lists.{begun-answer, begun-count, begun-used, turn-asks, turn-record, turn-used}
+use Rattle.layout.proofs.Lists.{begun-answer, begun-count, begun-used, turn-accepted, turn-asks, turn-record, turn-used}
 use Rattle.flat.specs.declared.Layout.{Layout}
 use Rattle.flat.specs.Records.{placementOf, layoutOf}
 use Rattle.given.specs.declared.ListBegun.{ListBegun}
@@ -37,7 +40,7 @@ module _ (d : List ℕ) (room : ℕ) where
       by true q z = refl
       by false q z = absurd (let f : _≡_ {A = ℕ} 0 1 = cc in omega arith)
 
-  module _ (before : Layout) (b : Begun) (is : b ≡ begunOf d room) (r : ListBegun) (count : r .count ≡ b .count) (used : r .used ≡ b .used) where
+  module _ (before : Layout) (b : Begun) (is : b ≡ begunOf d room) (r : ListBegun) (count : r .count ≡ b .count) (used : r .used ≡ b .used) (table : r .table ≡ sizesAfter d (replicate 64 0)) where
     answer-is : listAnswer d room ≡ b .answer
     answer-is = sym (begun-answer d room) ∙ ap (λ (c : Begun). c .answer) (sym is)
 
@@ -50,7 +53,7 @@ module _ (d : List ℕ) (room : ℕ) where
     joined : (a : LayoutAnswer) → listAnswer d room ≡ a → r .layout ≡ leftIn (layoutGiven (argumentsIn d) a) before → r .refusal ≡ refusalIn (layoutGiven (argumentsIn d) a)
         → r ≡ listBegun d before room
     unfolding listBegun listGiven
-    joined a e l f = rw e (λ i. record { layout = l i; refusal = f i; count = (count ∙ count-is) i; used = (used ∙ used-is) i })
+    joined a e l f = rw e (λ i. record { layout = l i; refusal = f i; count = (count ∙ count-is) i; used = (used ∙ used-is) i; table = table i })
 
     -- as the code finds it
     pub begun-laid : (l : Whole) → b .answer ≡ Laid l → r .layout ≡ layoutOf l (b .count) → r .refusal ≡ refusalOf 0 → r ≡ listBegun d before room
@@ -78,9 +81,12 @@ module _ (d : List ℕ) (room : ℕ) where
     row-layout = refl
 
     module _ (i : ℕ) (less : i < listBegun d before room .count) where
-      fewer : i < begunOf d room .count
-      unfolding listBegun begunOf
+      fewer : i < listCount d room
+      unfolding listBegun
       fewer = less
+
+      pub row-accepted : verdict d ≡ 0
+      row-accepted = turn-accepted d room i fewer
 
       pub row-asks : AskArgument d i (listUsed d room i)
       row-asks = turn-asks d room i fewer

@@ -17,6 +17,8 @@ ghost use Prim.Native.Nat.{_≤_};
 ghost use Rattle.description.specs.Description.{argumentsIn};
 ghost use Rattle.questions.specs.Questions.{extentAnswer};
 ghost use Rattle.questions.specs.Runs.{classesAnswer, runAnswer};
+ghost use Rattle.classify.specs.Table.{Tabled};
+ghost use Rattle.layout.specs.Verdict.{verdict};
 ghost use Rattle.layout.specs.Layout.{layoutAnswer};
 ghost use Rattle.layout.specs.Asks.{AskArgument};
 ghost use Rattle.given.specs.Outcome.{refusalIn, leftIn};
@@ -43,12 +45,14 @@ pub struct GivenLayout {
     pub refusal: Refusal,
 }
 
-// Before the first record of a list: what `GivenLayout` says, how many records there are, none for a refusal, and what is used.
+// Before the first record of a list: what `GivenLayout` says, how many records there are, none for a refusal, what is used, and the
+// table that the records are made by.
 pub struct ListBegun {
     pub layout: Layout,
     pub refusal: Refusal,
     pub count: usize,
     pub used: Used,
+    pub table: [u32; 64],
 }
 
 // One flat record, and what is used after it.
@@ -146,9 +150,11 @@ pub fn give_layout(d: &[u8], before: Layout) -> GivenLayout
 
 // The same for a list of `room` records.
 pub fn begin_list(d: &[u8], before: Layout, room: usize) -> ListBegun
-    ensures { λ r. ⌜ (r ≡ listBegun (now (d .entry)) before room) × (r .count ≤ room) ⌝ }
+    ensures { λ r. ⌜ (r ≡ listBegun (now (d .entry)) before room) × (r .count ≤ room)
+        × (verdict (now (d .entry)) ≡ 0 → Tabled (now (d .entry)) (r .table)) ⌝ }
 {
-    let begun = layout::begin(d, room);
+    let mut table = [0u32; 64];
+    let begun = layout::begin_with(d, room, &mut table);
     let answer = begun.answer;
     let used = begun.used;
     match answer {
@@ -157,22 +163,25 @@ pub fn begin_list(d: &[u8], before: Layout, room: usize) -> ListBegun
             refusal: form::refusal_of(0),
             count: begun.count,
             used: used,
+            table: table,
         },
         LayoutAnswer::Refused(refusal) => ListBegun {
             layout: before,
             refusal: refusal,
             count: begun.count,
             used: used,
+            table: table,
         },
     }
 }
 
-// The flat record of argument i, and what is used after it.
-pub fn place_flat(d: &[u8], used: Used, i: usize) -> FlatStep
-    requires { ⌜ AskArgument (now d) i used ⌝ }
+// The flat record of argument i, and what is used after it, by the table of the list that was begun.
+pub fn place_flat(d: &[u8], used: Used, i: usize, begun: ListBegun) -> FlatStep
+    requires { ⌜ AskArgument (now d) i used × Tabled (now d) (begun .table) ⌝ }
     ensures { λ r. ⌜ r ≡ flatStep (now (d .entry)) used i ⌝ }
 {
-    let step = layout::place_argument(d, used, i);
+    let table = begun.table;
+    let step = layout::place_argument(d, used, i, &table);
     let record = step.placement;
     let after = step.used;
     FlatStep {

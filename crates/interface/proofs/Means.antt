@@ -8,7 +8,8 @@ use lib.ListN.{length}
 use Rattle.description.specs.Description.{argumentsIn}
 use Rattle.layout.specs.Layout.{layoutOf as wholeOf}
 use Rattle.layout.specs.Placements.{listRefusal, listCount}
-use Rattle.layout.proofs.Lists.{list-accepted, list-room, filled-below}
+use Rattle.layout.proofs.Lists.{list-accepted, list-room}
+use Rattle.types.proofs.Table.{filled-below}
 use Rattle.station.specs.Outcome.{leaves}
 use Rattle.flat.specs.Records.{layoutOf}
 use Rattle.flat.specs.Meanings.{placementMeant, layoutMeant}

@@ -2,15 +2,13 @@
 use mathlib.Core.Path.{_≡_, refl, sym, ap, _∙_}
 use mathlib.Core.Bool.{Bool, true, false, cond, true≢false}
 use mathlib.Core.List.{List, [], _∷_, _++_}
-use mathlib.Core.Logic.{_↔_, _⊎_, inl, inr}
-use Prim.Native.Nat.{ℕ, zero, suc, _+_, _≤_, _<_}
-use native.Mathlib.Nat.{eq-or-lt-of-le, le-of-suc-le-suc}
-use native.Mathlib.Numerals.{add-one}
+use mathlib.Core.Logic.{_↔_}
+use Prim.Native.Nat.{ℕ, _+_, _≤_, _<_}
 use native.Mathlib.Omega.{arith}
 use borrow.Author.Tests.{eq-eqb, ne-eqb, eqb-true, lt-ltb, le-ltb, ltb-false}
 use lib.Dec.{ltb, eqb}
-use lib.ListN.{length, set, getD, length-set}
-use lib.Seq.{getD-set-same, getD-set-other}
+use lib.ListN.{getD, replicate}
+use Rattle.types.specs.Table.{sizesAfter}
 use Rattle.description.specs.Description.{argumentsIn}
 use Rattle.form.specs.Order.{FirstAt}
 use Rattle.form.specs.Reading.{refusalOf}
@@ -22,9 +20,10 @@ use Rattle.layout.specs.Arguments.{shapeAt, usedFirst, usedAt, hidden}
 use Rattle.layout.specs.Verdict.{verdictConditions, verdict}
 use Rattle.layout.specs.Layout.{layoutOf, layoutAnswer}
 use Rattle.layout.specs.Asks.{AskArgument}
-use Rattle.layout.specs.Placements.{placementAt, stepAt, shortList, listRefusal, listAnswer, listCount, listUsed, begunOf, filled}
+use Rattle.layout.specs.Placements.{placementAt, stepAt, shortList, listRefusal, listAnswer, listCount, listUsed, begunOf, openedOf}
 use Rattle.layout.specs.declared.Layout.{Layout}
 use Rattle.layout.specs.declared.Begun.{Begun}
+use Rattle.layout.specs.declared.Opened.{Opened}
 use Rattle.layout.specs.declared.LayoutAnswer.{LayoutAnswer}
 use Rattle.layout.specs.declared.LayoutAnswer.the-variants.{Laid, Refused}
 use Rattle.layout.proofs.Arguments.{used-none, used-next}
@@ -106,10 +105,33 @@ module _ (d : List ℕ) (room : ℕ) where
   unfolding begunOf
   begun-used = refl
 
+  -- what `open_list` answers
+  pub opened-is : (h : Begun) (t : List ℕ) (r : Opened) → h ≡ begunOf d room → t ≡ sizesAfter d (replicate 64 0) → r .answer ≡ h .answer → r .count ≡ h .count → r .used ≡ h .used → r .table ≡ t
+      → r ≡ openedOf d room
+  unfolding begunOf openedOf
+  opened-is h t r eh et a n u w = λ i. record {
+    answer = (a ∙ ap (λ (b : Begun). b .answer) eh) i;
+    count = (n ∙ ap (λ (b : Begun). b .count) eh) i;
+    used = (u ∙ ap (λ (b : Begun). b .used) eh) i;
+    table = (w ∙ et) i;
+  }
+
+  pub opened-answer : openedOf d room .answer ≡ listAnswer d room
+  unfolding openedOf
+  opened-answer = refl
+
+  pub opened-count : openedOf d room .count ≡ listCount d room
+  unfolding openedOf
+  opened-count = refl
+
+  pub opened-used : openedOf d room .used ≡ listUsed d room 0
+  unfolding openedOf
+  opened-used = refl
+
   -- the turns of the loop: there are some only where the list is filled
-  module _ (i : ℕ) (less : i < begunOf d room .count) where
+  module _ (i : ℕ) (less : i < listCount d room) where
     filling : listRefusal d room ≡ 0
-    unfolding begunOf listCount
+    unfolding listCount
     filling = by (eqb (listRefusal d room) 0) refl less
       where
         by : (b : Bool) → eqb (listRefusal d room) 0 ≡ b → i < cond b (argumentsIn d) 0 → listRefusal d room ≡ 0
@@ -117,12 +139,15 @@ module _ (d : List ℕ) (room : ℕ) where
         by false e h = absurd (omega arith)
 
     there : i < argumentsIn d
-    unfolding begunOf listCount
+    unfolding listCount
     there = rw (eq-eqb (listRefusal d room) 0 filling) at less
 
     used-is : (j : ℕ) → listUsed d room j ≡ usedAt d j
     unfolding listUsed
     used-is j = rw (eq-eqb (listRefusal d room) 0 filling)
+
+    pub turn-accepted : verdict d ≡ 0
+    turn-accepted = list-accepted filling
 
     pub turn-asks : AskArgument d i (listUsed d room i)
     turn-asks =
@@ -136,33 +161,3 @@ module _ (d : List ℕ) (room : ℕ) where
     pub turn-used : stepAt d (listUsed d room i) i .used ≡ listUsed d room (i + 1)
     unfolding stepAt
     turn-used = ap (λ (u : Used). next u (shapeAt d i)) (used-is i) ∙ sym (used-next d i) ∙ sym (used-is (i + 1))
-
--- what a filled list holds
-module _ {X : Type 0} where
-  pub filled-none : (f : ℕ → X) (l : List X) → l ≡ filled f 0 l
-  unfolding filled
-  filled-none f l = refl
-
-  pub filled-next : (f : ℕ → X) (i : ℕ) (l : List X) → set (filled f i l) i (f i) ≡ filled f (i + 1) l
-  unfolding filled
-  filled-next f i l = ap (λ (k : ℕ). filled f k l) (sym (add-one i))
-
-  pub length-filled : (f : ℕ → X) (n : ℕ) (l : List X) → length (filled f n l) ≡ length l
-  unfolding filled
-  length-filled f zero l = refl
-  length-filled f (suc n) l = length-set (filled f n l) n (f n) ∙ length-filled f n l
-
-  -- "Entries past A stay"
-  pub filled-past : (f : ℕ → X) (n : ℕ) (l : List X) (j : ℕ) (x : X) → n ≤ j → getD (filled f n l) j x ≡ getD l j x
-  unfolding filled
-  filled-past f zero l j x h = refl
-  filled-past f (suc n) l j x h = getD-set-other (filled f n l) n j (f n) x (λ e. omega (arith, e)) ∙ filled-past f n l j x (omega arith)
-
-  pub filled-below : (f : ℕ → X) (n : ℕ) (l : List X) (j : ℕ) (x : X) → n ≤ length l → j < n → getD (filled f n l) j x ≡ f j
-  unfolding filled
-  filled-below f zero l j x h m = absurd (omega arith)
-  filled-below f (suc n) l j x h m = by (eq-or-lt-of-le (le-of-suc-le-suc m)) (λ e. filled-below f n l j x (omega arith) e)
-    where
-      by : (j ≡ n) ⊎ (j < n) → (j < n → getD (filled f n l) j x ≡ f j) → getD (set (filled f n l) n (f n)) j x ≡ f j
-      by (inl e) rec = rw e (getD-set-same (filled f n l) n (f n) x (omega (arith, length-filled f n l)))
-      by (inr less) rec = getD-set-other (filled f n l) n j (f n) x (λ e. omega (arith, e)) ∙ rec less

@@ -2,12 +2,14 @@
 -- caller lends .. Entries past A stay". Assumes nothing: these are definitions.
 use mathlib.Core.Bool.{Bool, false, cond}
 use mathlib.Core.List.{List, [], _∷_, _++_}
-use Prim.Native.Nat.{ℕ, zero, suc}
+use Prim.Native.Nat.{ℕ}
 use lib.Dec.{ltb, eqb}
-use lib.ListN.{set}
+use lib.ListN.{replicate}
 use Rattle.description.specs.Description.{argumentsIn, argumentAt}
 use Rattle.form.specs.Order.{first, numbered}
 use Rattle.form.specs.Reading.{refusalOf}
+use Rattle.types.specs.Table.{sizesAfter}
+unfoldable pub use Rattle.types.specs.Table.{filled}
 use Rattle.places.specs.declared.Used.{Used}
 use Rattle.places.specs.Places.{fresh, place, next}
 use Rattle.places.specs.Recorded.{recorded}
@@ -17,6 +19,7 @@ use Rattle.layout.specs.Layout.{layoutOf}
 use Rattle.layout.specs.declared.Placement.{Placement}
 use Rattle.layout.specs.declared.Step.{Step}
 use Rattle.layout.specs.declared.Begun.{Begun}
+use Rattle.layout.specs.declared.Opened.{Opened}
 use Rattle.layout.specs.declared.LayoutAnswer.{LayoutAnswer}
 use Rattle.layout.specs.declared.LayoutAnswer.the-variants.{Laid, Refused}
 
@@ -60,8 +63,6 @@ listUsed d room i = cond (eqb (listRefusal d room) 0) (usedAt d i) (fresh false)
 unfoldable pub begunOf : List ℕ → ℕ → Begun
 begunOf d room = record { answer = listAnswer d room; count = listCount d room; used = listUsed d room 0 }
 
--- the first n entries are those of f, the others as they were
-module _ {X : Type 0} where
-  unfoldable pub filled : (ℕ → X) → ℕ → List X → List X
-  filled f zero l = l
-  filled f (suc n) l = set (filled f n l) n (f n)
+-- the same, and the table that the records are made by
+unfoldable pub openedOf : List ℕ → ℕ → Opened
+openedOf d room = record { answer = listAnswer d room; count = listCount d room; used = listUsed d room 0; table = sizesAfter d (replicate 64 0) }

@@ -9,11 +9,13 @@ ghost use Prim.Native.Nat.{_-_, _≤_};
 ghost use lib.ListN.{length};
 ghost use Rattle.description.specs.Description.{argumentsIn};
 ghost use Rattle.form.specs.Reading.{refusalOf};
+ghost use Rattle.types.specs.Table.{sizesAfter};
+ghost use Rattle.classify.specs.Table.{Tabled};
 ghost use Rattle.uses.specs.Uses.{usesRefusal};
 ghost use Rattle.layout.specs.Arguments.{shapesFrom, returnPlace, hidden, usedAt};
 ghost use Rattle.layout.specs.Verdict.{verdict};
 ghost use Rattle.layout.specs.Layout.{layoutOf, layoutAnswer};
-ghost use Rattle.layout.specs.Placements.{placementAt, stepAt, listAnswer, listCount, begunOf, filled};
+ghost use Rattle.layout.specs.Placements.{placementAt, stepAt, listAnswer, listCount, begunOf, openedOf, filled};
 ghost use Rattle.layout.specs.Asks.{AskArgument, AskArguments, IsLaid};
 
 // What a description asks of a call as a whole.
@@ -57,6 +59,14 @@ pub struct Begun {
     pub used: Used,
 }
 
+// The same, and the table that the records are made by.
+struct Opened {
+    answer: LayoutAnswer,
+    count: usize,
+    used: Used,
+    table: [u32; 64],
+}
+
 // Where a value is returned, and whether a hidden address is passed for it.
 struct Returned {
     place: ReturnPlace,
@@ -69,8 +79,8 @@ struct Laying {
     values: Bytes,
 }
 
-fn return_of(d: &[u8]) -> Returned
-    requires { ⌜ usesRefusal (now d) ≡ 0 ⌝ }
+fn return_of(d: &[u8], table: &[u32; 64]) -> Returned
+    requires { ⌜ (usesRefusal (now d) ≡ 0) × Tabled (now d) (now table) ⌝ }
     ensures { λ r. ⌜ (r .place ≡ returnPlace (now (d .entry))) × (r .hidden ≡ hidden (now (d .entry))) ⌝ }
 {
     let k = description::byte_at(d, 9);
@@ -80,7 +90,7 @@ fn return_of(d: &[u8]) -> Returned
             hidden: false,
         };
     }
-    let classes = classify::classes_of(d, k);
+    let classes = classify::classes_of(d, k, table);
     let first = classes[0];
     let second = classes[1];
     Returned {
@@ -90,12 +100,12 @@ fn return_of(d: &[u8]) -> Returned
 }
 
 // The record of argument i, and what is used after it.
-pub fn place_argument(d: &[u8], used: Used, i: usize) -> Step
-    requires { ⌜ AskArgument (now d) i used ⌝ }
+pub fn place_argument(d: &[u8], used: Used, i: usize, table: &[u32; 64]) -> Step
+    requires { ⌜ AskArgument (now d) i used × Tabled (now d) (now table) ⌝ }
     ensures { λ r. ⌜ r ≡ stepAt (now (d .entry)) used i ⌝ }
 {
     let k = description::argument_at(d, i);
-    let shape = places::shape_of(d, k);
+    let shape = places::shape_of(d, k, table);
     let size = shape.size;
     let align = shape.align;
     let placed = places::place_next(used, shape);
@@ -113,15 +123,15 @@ pub fn place_argument(d: &[u8], used: Used, i: usize) -> Step
 }
 
 // What is used, and how many bytes the values have, after the arguments `from` to `to` as well.
-fn lay_more(d: &[u8], before: Laying, from: usize, to: usize) -> Laying
-    requires { ⌜ AskArguments (now d) from to (before .used) (before .values .0) ⌝ }
+fn lay_more(d: &[u8], before: Laying, from: usize, to: usize, table: &[u32; 64]) -> Laying
+    requires { ⌜ AskArguments (now d) from to (before .used) (before .values .0) × Tabled (now d) (now table) ⌝ }
     ensures { λ r. ⌜ IsLaid (before .used) (before .values .0) (shapesFrom (now (d .entry)) from (to - from)) r ⌝ }
 {
     let mut used = before.used;
     let mut values = before.values;
     let mut i = from;
     while i < to {
-        let step = place_argument(d, used, i);
+        let step = place_argument(d, used, i, table);
         let size = step.placement.size;
         values = units::plus(values, size);
         used = step.used;
@@ -134,35 +144,35 @@ fn lay_more(d: &[u8], before: Laying, from: usize, to: usize) -> Laying
 }
 
 // What is used after the first n arguments, and the hidden address.
-pub fn used_after(d: &[u8], n: usize) -> Used
-    requires { ⌜ (usesRefusal (now d) ≡ 0) × (n ≤ argumentsIn (now d)) ⌝ }
+pub fn used_after(d: &[u8], n: usize, table: &[u32; 64]) -> Used
+    requires { ⌜ (usesRefusal (now d) ≡ 0) × (n ≤ argumentsIn (now d)) × Tabled (now d) (now table) ⌝ }
     ensures { λ r. ⌜ r ≡ usedAt (now (d .entry)) n ⌝ }
 {
-    let hidden = return_of(d).hidden;
+    let hidden = return_of(d, table).hidden;
     let before = Laying {
         used: places::fresh(hidden),
         values: Bytes(0),
     };
-    lay_more(d, before, 0, n).used
+    lay_more(d, before, 0, n, table).used
 }
 
 // The layout of a description that none of 1 to 9 refuses.
-fn lay(d: &[u8]) -> Layout
-    requires { ⌜ usesRefusal (now d) ≡ 0 ⌝ }
+fn lay(d: &[u8], table: &[u32; 64]) -> Layout
+    requires { ⌜ (usesRefusal (now d) ≡ 0) × Tabled (now d) (now table) ⌝ }
     ensures { λ r. ⌜ r ≡ layoutOf (now (d .entry)) ⌝ }
 {
     let named = description::byte_at(d, 7);
     let arguments = description::byte_at(d, 8);
-    let result = return_of(d);
+    let result = return_of(d, table);
     let returns = result.place;
     let hidden = result.hidden;
     let before = Laying {
         used: places::fresh(hidden),
         values: Bytes(0),
     };
-    let first = lay_more(d, before, 0, named);
+    let first = lay_more(d, before, 0, named, table);
     let start = first.used;
-    let all = lay_more(d, first, named, arguments);
+    let all = lay_more(d, first, named, arguments, table);
     let used = all.used;
     let values = all.values;
     let area = units::raise_to(Bytes(16), used.stack);
@@ -176,20 +186,30 @@ fn lay(d: &[u8]) -> Layout
     }
 }
 
-// The layout of any bytes, or which of 1 to 10 refuses them.
-pub fn layout_of(d: &[u8]) -> LayoutAnswer
-    ensures { λ r. ⌜ r ≡ layoutAnswer (now (d .entry)) ⌝ }
+// The layout of any bytes, or which of 1 to 10 refuses them. Where none does, the table holds what is known of each type.
+pub fn layout_with(d: &[u8], table: &mut [u32; 64]) -> LayoutAnswer
+    ensures { λ r. ⌜ (r ≡ layoutAnswer (now (d .entry)))
+        × (now (table .exit) ≡ sizesAfter (now (d .entry)) (now (table .entry)))
+        × (verdict (now (d .entry)) ≡ 0 → Tabled (now (d .entry)) (now (table .exit))) ⌝ }
 {
-    let number = uses::uses_refusal(d);
+    let number = uses::uses_refusal_with(d, table);
     if number != 0 {
         return LayoutAnswer::Refused(form::refusal_of(number));
     }
-    let layout = lay(d);
+    let layout = lay(d, table);
     let area = layout.area;
     if units::over(area, Bytes(16384)) {
         return LayoutAnswer::Refused(form::refusal_of(10));
     }
     LayoutAnswer::Laid(layout)
+}
+
+// The layout of any bytes, or which of 1 to 10 refuses them.
+pub fn layout_of(d: &[u8]) -> LayoutAnswer
+    ensures { λ r. ⌜ r ≡ layoutAnswer (now (d .entry)) ⌝ }
+{
+    let mut table = [0u32; 64];
+    layout_with(d, &mut table)
 }
 
 // Which of the refusals 1 to 10 the description gets; number 0 where it is accepted.
@@ -204,11 +224,13 @@ pub fn check(d: &[u8]) -> Refusal
 }
 
 // Decides whether a list of `room` records is to be filled: 1 to 10, then 11 for a list that is shorter than A. With
-// `place_argument` it serves a caller that has no list to lend.
-pub fn begin(d: &[u8], room: usize) -> Begun
-    ensures { λ r. ⌜ (r ≡ begunOf (now (d .entry)) room) × (r .count ≤ room) ⌝ }
+// `place_argument` it serves a caller that has no list to lend: that caller's table has what the records are made of.
+pub fn begin_with(d: &[u8], room: usize, table: &mut [u32; 64]) -> Begun
+    ensures { λ r. ⌜ (r ≡ begunOf (now (d .entry)) room) × (r .count ≤ room)
+        × (now (table .exit) ≡ sizesAfter (now (d .entry)) (now (table .entry)))
+        × (verdict (now (d .entry)) ≡ 0 → Tabled (now (d .entry)) (now (table .exit))) ⌝ }
 {
-    let answer = layout_of(d);
+    let answer = layout_with(d, table);
     let LayoutAnswer::Laid(layout) = answer else {
         return Begun {
             answer: answer,
@@ -231,21 +253,55 @@ pub fn begin(d: &[u8], room: usize) -> Begun
     }
 }
 
+// Decides whether a list of `room` records is to be filled.
+pub fn begin(d: &[u8], room: usize) -> Begun
+    ensures { λ r. ⌜ (r ≡ begunOf (now (d .entry)) room) × (r .count ≤ room) ⌝ }
+{
+    let mut table = [0u32; 64];
+    begin_with(d, room, &mut table)
+}
+
+// The decision, with the table by value.
+fn open_list(d: &[u8], room: usize) -> Opened
+    ensures { λ r. ⌜ (r ≡ openedOf (now (d .entry)) room) × (r .count ≤ room)
+        × (verdict (now (d .entry)) ≡ 0 → Tabled (now (d .entry)) (r .table)) ⌝ }
+{
+    let mut table = [0u32; 64];
+    let head = begin_with(d, room, &mut table);
+    let answer = head.answer;
+    let used = head.used;
+    Opened {
+        answer: answer,
+        count: head.count,
+        used: used,
+        table: table,
+    }
+}
+
+// The record of argument i, and what is used after it, by a table by value.
+fn place_by(d: &[u8], used: Used, i: usize, opened: Opened) -> Step
+    requires { ⌜ AskArgument (now d) i used × Tabled (now d) (opened .table) ⌝ }
+    ensures { λ r. ⌜ r ≡ stepAt (now (d .entry)) used i ⌝ }
+{
+    let table = opened.table;
+    place_argument(d, used, i, &table)
+}
+
 // Fills the list that the caller lends with one record for each argument; entries past A stay, and so does the whole list where
 // the answer is a refusal.
 pub fn lay_out(d: &[u8], list: &mut [Placement]) -> LayoutAnswer
     ensures { λ r. ⌜ (r ≡ listAnswer (now (d .entry)) (length (now (list .entry))))
         × (now (list .exit) ≡ filled (placementAt (now (d .entry))) (listCount (now (d .entry)) (length (now (list .entry)))) (now (list .entry))) ⌝ }
 {
-    let head = begin(d, list.len());
-    let n = head.count;
-    let mut used = head.used;
+    let opened = open_list(d, list.len());
+    let n = opened.count;
+    let mut used = opened.used;
     let mut i = 0;
     while i < n {
-        let step = place_argument(d, used, i);
+        let step = place_by(d, used, i, opened);
         list[i] = step.placement;
         used = step.used;
         i += 1;
     }
-    head.answer
+    opened.answer
 }

@@ -16,7 +16,9 @@ ghost use mathlib.Core.Path.{_≡_};
 ghost use mathlib.Core.Bool.{true};
 ghost use Prim.Native.Nat.{_<_, _≤_};
 ghost use lib.ListN.{length};
+ghost use Rattle.classify.specs.Table.{Tabled};
 ghost use Rattle.layout.specs.Placements.{begunOf};
+ghost use Rattle.layout.specs.Verdict.{verdict};
 
 // More than the file has, so that the program ends whatever it reads.
 const RECORDS: usize = 100000;
@@ -171,14 +173,14 @@ fn print_head(d: &[u8], layout: Layout) {
 }
 
 // The records, as `lay_out` writes them into a list.
-fn print_records(d: &[u8], room: usize, begun: Begun)
-    requires { ⌜ begun ≡ begunOf (now d) room ⌝ }
+fn print_records(d: &[u8], room: usize, begun: Begun, table: &[u32; 64])
+    requires { ⌜ (begun ≡ begunOf (now d) room) × (verdict (now d) ≡ 0 → Tabled (now d) (now table)) ⌝ }
 {
     let count = begun.count;
     let mut used = begun.used;
     let mut i = 0;
     while i < count {
-        let step = layout::place_argument(d, used, i);
+        let step = layout::place_argument(d, used, i, table);
         let placement = step.placement;
         print_record(i, placement);
         used = step.used;
@@ -186,14 +188,14 @@ fn print_records(d: &[u8], room: usize, begun: Begun)
     }
 }
 
-fn print_laid(d: &[u8], room: usize, begun: Begun, layout: Layout)
-    requires { ⌜ begun ≡ begunOf (now d) room ⌝ }
+fn print_laid(d: &[u8], room: usize, begun: Begun, layout: Layout, table: &[u32; 64])
+    requires { ⌜ (begun ≡ begunOf (now d) room) × (verdict (now d) ≡ 0 → Tabled (now d) (now table)) ⌝ }
 {
     let values = layout.values;
     let returns = layout.returns;
     let named = layout.named;
     print_head(d, layout);
-    print_records(d, room, begun);
+    print_records(d, room, begun, table);
     print_returned(d, returns);
     print_walk(d, named);
     print_number(b"values ", values.0 as u64);
@@ -206,10 +208,11 @@ fn print_refusal(refusal: Refusal) {
 }
 
 fn answer(d: &[u8], room: usize) {
-    let begun = layout::begin(d, room);
+    let mut table = [0u32; 64];
+    let begun = layout::begin_with(d, room, &mut table);
     let answer = begun.answer;
     match answer {
-        LayoutAnswer::Laid(layout) => print_laid(d, room, begun, layout),
+        LayoutAnswer::Laid(layout) => print_laid(d, room, begun, layout, &table),
         LayoutAnswer::Refused(refusal) => print_refusal(refusal),
     }
 }

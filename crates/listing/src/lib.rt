@@ -12,6 +12,7 @@ ghost use Prim.Native.Nat.{_+_, _≤_, _<_};
 ghost use lib.Dec.{eqb};
 ghost use lib.ListN.{length, drop};
 ghost use Rattle.description.specs.Description.{argumentsIn};
+ghost use Rattle.classify.specs.Table.{Tabled};
 ghost use Rattle.text.specs.Written.{Wrote};
 ghost use Rattle.listing.specs.Listing.{headLine, recordLine, recordLines, typeWords, returnLine, walkLine, laidText, listing};
 ghost use Rattle.listing.specs.Asks.{SmallRecord, SmallUsed, SmallLayout, Accepted};
@@ -50,8 +51,14 @@ fn put_record(out: &mut [u8; 4096], at: usize, i: usize, placement: Placement) -
 }
 
 // A line for each argument.
-fn put_records(d: &[u8], out: &mut [u8; 4096], at: usize, layout: Layout) -> usize
-    requires { ⌜ (at + 3328 ≤ 4096) × Accepted (now d) layout ⌝ }
+fn put_records(
+    d: &[u8],
+    out: &mut [u8; 4096],
+    at: usize,
+    layout: Layout,
+    table: &[u32; 64],
+) -> usize
+    requires { ⌜ (at + 3328 ≤ 4096) × Accepted (now d) layout × Tabled (now d) (now table) ⌝ }
     ensures { λ r. ⌜ Wrote 3328 (now (out .entry)) at (recordLines (now (d .entry)) 0 (argumentsIn (now (d .entry)))) (now (out .exit)) r ⌝ }
 {
     let count = description::byte_at(d, 8);
@@ -59,7 +66,7 @@ fn put_records(d: &[u8], out: &mut [u8; 4096], at: usize, layout: Layout) -> usi
     let mut next = at;
     let mut i = 0;
     while i < count {
-        let step = layout::place_argument(d, used, i);
+        let step = layout::place_argument(d, used, i, table);
         let placement = step.placement;
         next = put_record(out, next, i, placement);
         used = step.used;
@@ -108,8 +115,8 @@ fn put_walk(out: &mut [u8; 4096], at: usize, variadic: usize, named: Used) -> us
 }
 
 // The lines of an accepted description.
-fn put_laid(d: &[u8], out: &mut [u8; 4096], layout: Layout) -> usize
-    requires { ⌜ Accepted (now d) layout ⌝ }
+fn put_laid(d: &[u8], out: &mut [u8; 4096], layout: Layout, table: &[u32; 64]) -> usize
+    requires { ⌜ Accepted (now d) layout × Tabled (now d) (now table) ⌝ }
     ensures { λ r. ⌜ Wrote 3452 (now (out .entry)) 0 (laidText (now (d .entry)) layout) (now (out .exit)) r ⌝ }
 {
     let variadic = description::byte_at(d, 6);
@@ -119,7 +126,7 @@ fn put_laid(d: &[u8], out: &mut [u8; 4096], layout: Layout) -> usize
     let returns = layout.returns;
     let named = layout.named;
     let behind_head = put_head(out, 0, all, first, layout);
-    let behind_records = put_records(d, out, behind_head, layout);
+    let behind_records = put_records(d, out, behind_head, layout, table);
     let behind_return = put_return(out, behind_records, k, returns);
     put_walk(out, behind_return, variadic, named)
 }
@@ -130,9 +137,10 @@ pub fn write_listing(d: &[u8], out: &mut [u8; 4096]) -> usize
         × (now (out .exit) ≡ listing (now (d .entry)) ++ drop (length (listing (now (d .entry)))) (now (out .entry))) ⌝ }
 {
     text::room(out);
-    let answer = layout::layout_of(d);
+    let mut table = [0u32; 64];
+    let answer = layout::layout_with(d, &mut table);
     match answer {
-        LayoutAnswer::Laid(layout) => put_laid(d, out, layout),
+        LayoutAnswer::Laid(layout) => put_laid(d, out, layout, &table),
         LayoutAnswer::Refused(refusal) => {
             let next = text::put_number(out, 0, b"refused ", refusal.number as usize);
             text::put(out, next, b"\n")

@@ -11,6 +11,7 @@ ghost use Prim.Native.Nat.{_<_};
 ghost use lib.ListN.{length, getD};
 ghost use Rattle.addresses.specs.Addresses.{run, gather, scatter};
 ghost use Rattle.description.specs.Description.{typesIn, Whole};
+ghost use Rattle.classify.specs.Table.{Tabled};
 ghost use Rattle.layout.specs.Arguments.{hidden, usedFirst};
 ghost use Rattle.layout.specs.Layout.{numberOf, valuesOf};
 ghost use Rattle.layout.specs.Verdict.{verdict};
@@ -69,8 +70,8 @@ fn broken_byte(d: &[u8], k: usize, byte: usize) -> bool
 }
 
 // The first _Bool argument whose byte is not 0 or 1, or the number of arguments.
-fn first_broken(d: &[u8], values: &[u8]) -> usize
-    requires { ⌜ (verdict (now d) ≡ 0) × (length (now values) ≡ valuesOf (now d)) ⌝ }
+fn first_broken(d: &[u8], values: &[u8], table: &[u32; 64]) -> usize
+    requires { ⌜ (verdict (now d) ≡ 0) × (length (now values) ≡ valuesOf (now d)) × Tabled (now d) (now table) ⌝ }
     ensures { λ r. ⌜ r ≡ firstBroken (now (d .entry)) (now (values .entry)) ⌝ }
 {
     let arguments = description::byte_at(d, 8);
@@ -82,7 +83,7 @@ fn first_broken(d: &[u8], values: &[u8]) -> usize
         if broken_byte(d, k, byte) {
             return i;
         }
-        start = units::plus(start, types::size_of(d, k).size);
+        start = units::plus(start, types::extent_in(table, k).size);
         i += 1;
     }
     i
@@ -102,8 +103,16 @@ fn blank_images(used: bool, address: u64, registers: &mut [u8], stack: &mut [u8]
 }
 
 // Places every argument into the images, over what stands there; `first` is what is used before the first.
-fn place_all(d: &[u8], first: Used, values: &[u8], registers: &mut [u8], stack: &mut [u8])
-    requires { ⌜ Lent (now d) (length (now values)) (length (now registers)) (length (now stack)) × (first ≡ usedFirst (now d)) ⌝ }
+fn place_all(
+    d: &[u8],
+    first: Used,
+    values: &[u8],
+    registers: &mut [u8],
+    stack: &mut [u8],
+    table: &[u32; 64],
+)
+    requires { ⌜ Lent (now d) (length (now values)) (length (now registers)) (length (now stack)) × (first ≡ usedFirst (now d))
+        × Tabled (now d) (now table) ⌝ }
     ensures { λ _. ⌜ now (registers .exit) ++ now (stack .exit)
         ≡ scatter (now (registers .entry) ++ now (stack .entry)) (addressesOf (now (d .entry))) (now (values .entry)) ⌝ }
 {
@@ -112,7 +121,7 @@ fn place_all(d: &[u8], first: Used, values: &[u8], registers: &mut [u8], stack: 
     let mut start = Bytes(0);
     let mut i = 0;
     while i < arguments {
-        let step = layout::place_argument(d, used, i);
+        let step = layout::place_argument(d, used, i, table);
         let placement = step.placement;
         let size = placement.size;
         let place = placement.place;
@@ -124,8 +133,16 @@ fn place_all(d: &[u8], first: Used, values: &[u8], registers: &mut [u8], stack: 
 }
 
 // Gathers every argument out of the images.
-fn gather_all(d: &[u8], first: Used, registers: &[u8], stack: &[u8], values: &mut [u8])
-    requires { ⌜ Lent (now d) (length (now values)) (length (now registers)) (length (now stack)) × (first ≡ usedFirst (now d)) ⌝ }
+fn gather_all(
+    d: &[u8],
+    first: Used,
+    registers: &[u8],
+    stack: &[u8],
+    values: &mut [u8],
+    table: &[u32; 64],
+)
+    requires { ⌜ Lent (now d) (length (now values)) (length (now registers)) (length (now stack)) × (first ≡ usedFirst (now d))
+        × Tabled (now d) (now table) ⌝ }
     ensures { λ _. ⌜ now (values .exit) ≡ gathered (now (d .entry)) (now (registers .entry) ++ now (stack .entry)) ⌝ }
 {
     let arguments = description::byte_at(d, 8);
@@ -133,7 +150,7 @@ fn gather_all(d: &[u8], first: Used, registers: &[u8], stack: &[u8], values: &mu
     let mut start = Bytes(0);
     let mut i = 0;
     while i < arguments {
-        let step = layout::place_argument(d, used, i);
+        let step = layout::place_argument(d, used, i, table);
         let placement = step.placement;
         let size = placement.size;
         let place = placement.place;
@@ -152,12 +169,14 @@ fn fill_images(
     values: &[u8],
     registers: &mut [u8],
     stack: &mut [u8],
+    table: &[u32; 64],
 )
-    requires { ⌜ Lent (now d) (length (now values)) (length (now registers)) (length (now stack)) × (used ≡ hidden (now d)) ⌝ }
+    requires { ⌜ Lent (now d) (length (now values)) (length (now registers)) (length (now stack)) × (used ≡ hidden (now d))
+        × Tabled (now d) (now table) ⌝ }
     ensures { λ _. ⌜ now (registers .exit) ++ now (stack .exit) ≡ placed (now (d .entry)) address (now (values .entry)) ⌝ }
 {
     blank_images(used, address, registers, stack);
-    place_all(d, places::fresh(used), values, registers, stack);
+    place_all(d, places::fresh(used), values, registers, stack, table);
 }
 
 // Places packed values: every byte of both images is written, or none.
@@ -172,7 +191,8 @@ pub fn place_values(
         × ((now (registers .exit) ≡ registersAfter (now (d .entry)) hidden (now (values .entry)) (now (registers .entry)) (now (stack .entry)))
         × (now (stack .exit) ≡ stackAfter (now (d .entry)) hidden (now (values .entry)) (now (registers .entry)) (now (stack .entry)))) ⌝ }
 {
-    let answer = layout::layout_of(d);
+    let mut table = [0u32; 64];
+    let answer = layout::layout_with(d, &mut table);
     let LayoutAnswer::Laid(layout) = answer else {
         return PlaceAnswer::Refused(refusal_in(answer));
     };
@@ -184,11 +204,11 @@ pub fn place_values(
     ) {
         return PlaceAnswer::Refused(form::refusal_of(11));
     }
-    if first_broken(d, values) < description::byte_at(d, 8) {
+    if first_broken(d, values, &table) < description::byte_at(d, 8) {
         return PlaceAnswer::Refused(form::refusal_of(12));
     }
     let count = layout.used.vector;
-    fill_images(d, layout.hidden, hidden, values, registers, stack);
+    fill_images(d, layout.hidden, hidden, values, registers, stack, &table);
     PlaceAnswer::Placed(count)
 }
 
@@ -197,7 +217,8 @@ pub fn gather_values(d: &[u8], registers: &[u8], stack: &[u8], values: &mut [u8]
     ensures { λ r. ⌜ (r ≡ gatherAnswer (now (d .entry)) (now (registers .entry)) (now (stack .entry)) (length (now (values .entry))))
         × (now (values .exit) ≡ valuesAfter (now (d .entry)) (now (registers .entry)) (now (stack .entry)) (now (values .entry))) ⌝ }
 {
-    let answer = layout::layout_of(d);
+    let mut table = [0u32; 64];
+    let answer = layout::layout_with(d, &mut table);
     let LayoutAnswer::Laid(layout) = answer else {
         return GatherAnswer::Refused(refusal_in(answer));
     };
@@ -210,7 +231,7 @@ pub fn gather_values(d: &[u8], registers: &[u8], stack: &[u8], values: &mut [u8]
         return GatherAnswer::Refused(form::refusal_of(11));
     }
     let passed = layout.hidden;
-    gather_all(d, places::fresh(passed), registers, stack, values);
+    gather_all(d, places::fresh(passed), registers, stack, values, &table);
     if !passed {
         return GatherAnswer::Gathered(0);
     }

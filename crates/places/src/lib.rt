@@ -7,6 +7,7 @@ ghost use mathlib.Core.List.{[], _∷_};
 ghost use Prim.Native.Nat.{_^_, _≤_};
 ghost use Rattle.types.specs.Decode.{tyAt};
 ghost use Rattle.classify.specs.Asks.{AskType};
+ghost use Rattle.classify.specs.Table.{Tabled};
 ghost use Rattle.places.specs.Shapes.{kindsOf, shapeOf};
 ghost use Rattle.places.specs.Places.{fresh, enough, place, next};
 ghost use Rattle.places.specs.Recorded.{listed, asked, Room, Small, IsPlaced};
@@ -128,15 +129,15 @@ fn kinds_of(first: Class, second: Class) -> Kinds
 }
 
 // What places an argument of type k.
-pub fn shape_of(d: &[u8], k: usize) -> Shape
-    requires { ⌜ AskType (now d) k 0 ⌝ }
+pub fn shape_of(d: &[u8], k: usize, table: &[u32; 64]) -> Shape
+    requires { ⌜ AskType (now d) k 0 × Tabled (now d) (now table) ⌝ }
     ensures { λ r. ⌜ asked r ≡ shapeOf (tyAt (now (d .entry)) k) ⌝ }
 {
-    let classes = classify::classes_of(d, k);
+    let classes = classify::classes_of(d, k, table);
     let first = classes[0];
     let second = classes[1];
     let kinds = kinds_of(first, second);
-    let extent = types::size_of(d, k);
+    let extent = types::extent_in(table, k);
     let size = extent.size;
     let align = extent.align;
     Shape {

@@ -13,6 +13,7 @@ use Rattle.types.specs.Size.{alignTy, alignTys, sizeTy, offsetAfter, endOf}
 use Rattle.types.proofs.Sizes.{aligns-low}
 use Rattle.types.proofs.Laws.{struct-end, union-end, align-divides}
 use Rattle.types.proofs.Trees.{at-basic, at-array, at-group}
+use Rattle.types.proofs.Table.{filled-below, filled-past, length-filled}
 use Rattle.classes.specs.declared.Class.{Class}
 use Rattle.classes.specs.declared.Class.the-variants.{NoClass, Memory}
 use Rattle.classes.specs.CleanUp.{anyMemory, memoryOf, cleanUp}
@@ -32,7 +33,7 @@ use Rattle.layout.specs.Layout.{layoutOf}
 use Rattle.layout.specs.Placements.{placementAt, listRefusal, listCount}
 use Rattle.layout.proofs.Arguments.{used-none}
 use Rattle.layout.proofs.Layouts.{asks-at}
-use Rattle.layout.proofs.Lists.{list-room, filled-below, filled-past, length-filled}
+use Rattle.layout.proofs.Lists.{list-room}
 use Rattle.layout.proofs.Verdict.{accepted-uses}
 use Rattle.layout.specs.Verdict.{verdict}
 use Rattle.cases.proofs.Cases.{cases-hold}

@@ -12,8 +12,7 @@ use denote.Triple.Clauses.{Ended}
 use Rattle.tightness.specs.Tight.{Call}
 use Rattle.addresses.proofs.Parts.{split-image}
 use Rattle.types.specs.declared.Extent.{Extent}
-use Rattle.types.specs.Tree.{Ty}
-use Rattle.types.specs.Asks.{IsExtent}
+use Rattle.types.specs.Table.{IsEntry}
 use Rattle.form.specs.declared.Refusal.{Refusal}
 use Rattle.places.specs.declared.Shape.{Shape as Coded′}
 use Rattle.places.proofs.Records.{asked-same}
@@ -45,8 +44,8 @@ equal c p q = settle c p q (λ e f. e ∙ sym f)
 
 -- ---- contracts that give a meaning: it determines the record
 
-pub extent-same : {t : Ty} (r q : Extent) → IsExtent t r → IsExtent t q → r ≡ q
-extent-same r q e f i = record { size = record { 0 = (e .size ∙ sym (f .size)) i }; align = record { 0 = (e .align ∙ sym (f .align)) i } }
+pub entry-same : {entry : ℕ} (r q : Extent) → IsEntry entry r → IsEntry entry q → r ≡ q
+entry-same r q e f i = record { size = record { 0 = (e .size ∙ sym (f .size)) i }; align = record { 0 = (e .align ∙ sym (f .align)) i } }
 
 -- the fetch that a source was made of
 abbrev fetchOf : Source → Fetch

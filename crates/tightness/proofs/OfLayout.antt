@@ -1,7 +1,7 @@
 -- Each public function of `layout` meets its contract, and the contract is tight. Assumes nothing.
 use mathlib.Core.Path.{_≡_, refl, sym, _∙_}
 use Rattle.tightness.specs.Tight.{Meets, Tight}
-use Rattle.tightness.proofs.Laws.{equal, result, settle}
+use Rattle.tightness.proofs.Laws.{bytes, equal, result, settle}
 use Rattle.layout.proofs.Placement
 use base.Stored.{codedList}
 use Rattle.layout.proofs.begin
@@ -22,6 +22,12 @@ use Rattle.layout.proofs.place_argument.Symbol as place-argument-symbol
 use Rattle.layout.proofs.used_after
 use Rattle.layout.proofs.used_after.Met as used-after-met
 use Rattle.layout.proofs.used_after.Symbol as used-after-symbol
+use Rattle.layout.proofs.layout_with
+use Rattle.layout.proofs.layout_with.Met as layout-with-met
+use Rattle.layout.proofs.layout_with.Symbol as layout-with-symbol
+use Rattle.layout.proofs.begin_with
+use Rattle.layout.proofs.begin_with.Met as begin-with-met
+use Rattle.layout.proofs.begin_with.Symbol as begin-with-symbol
 
 pub meets-layout-place-argument : Meets place_argument.ended (λ M. place_argument.clauses {M = M}) place-argument-symbol.routine
 meets-layout-place-argument M = place-argument-met.met
@@ -61,3 +67,21 @@ tight-layout-lay-out c r q w v a b = (settle (result lay_out.ended c) (a .ensure
   where
     list : w .1 .0 ≡ v .1 .0
     list = settle (codedList (Placement.the-row .coded)) (a .ensured) (b .ensured) (λ e f. e .1 ∙ sym (f .1))
+
+pub meets-layout-layout-with : Meets layout_with.ended (λ M. layout_with.clauses {M = M}) layout-with-symbol.routine
+meets-layout-layout-with M = layout-with-met.met
+
+pub tight-layout-layout-with : Tight layout_with.ended (λ M. layout_with.clauses {M = M})
+tight-layout-layout-with c r q w v a b = (settle (result layout_with.ended c) (a .ensured) (b .ensured) (λ e f. e .0 ∙ sym (f .0)), λ i. (tt, (table i, tt)))
+  where
+    table : w .1 .0 ≡ v .1 .0
+    table = settle bytes (a .ensured) (b .ensured) (λ e f. e .1 ∙ sym (f .1))
+
+pub meets-layout-begin-with : Meets begin_with.ended (λ M. begin_with.clauses {M = M}) begin-with-symbol.routine
+meets-layout-begin-with M = begin-with-met.met
+
+pub tight-layout-begin-with : Tight begin_with.ended (λ M. begin_with.clauses {M = M})
+tight-layout-begin-with c r q w v a b = (settle (result begin_with.ended c) (a .ensured) (b .ensured) (λ e f. e .0 ∙ sym (f .0)), λ i. (tt, (tt, (table i, tt))))
+  where
+    table : w .1 .1 .0 ≡ v .1 .1 .0
+    table = settle bytes (a .ensured) (b .ensured) (λ e f. e .2 ∙ sym (f .2))

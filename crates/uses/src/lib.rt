@@ -2,6 +2,7 @@
 ghost use mathlib.Core.Path.{_≡_};
 ghost use Prim.Native.Nat.{_<_};
 ghost use Rattle.description.specs.Description.{typesIn, Whole};
+ghost use Rattle.types.specs.Table.{sizesAfter, Sizes};
 ghost use Rattle.uses.specs.Uses.{wrongNumber, wrongReturn, firstWrong, narrow, firstNarrow, usesRefusal, Typed};
 
 // Whether number t is no type to pass or return by itself: not below T, or an array.
@@ -77,11 +78,13 @@ fn first_narrow(d: &[u8]) -> usize
     i
 }
 
-// Which of the refusals 1 to 9 the description gets, or 0.
-pub fn uses_refusal(d: &[u8]) -> u8
-    ensures { λ r. ⌜ r ≡ usesRefusal (now (d .entry)) ⌝ }
+// Which of the refusals 1 to 9 the description gets, or 0: then the table has an entry for each type.
+pub fn uses_refusal_with(d: &[u8], table: &mut [u32; 64]) -> u8
+    ensures { λ r. ⌜ (r ≡ usesRefusal (now (d .entry)))
+        × (now (table .exit) ≡ sizesAfter (now (d .entry)) (now (table .entry)))
+        × (usesRefusal (now (d .entry)) ≡ 0 → Sizes (now (d .entry)) (typesIn (now (d .entry))) (now (table .exit))) ⌝ }
 {
-    let number = types::types_refusal(d);
+    let number = types::types_refusal_with(d, table);
     if number != 0 {
         return number;
     }
@@ -96,4 +99,12 @@ pub fn uses_refusal(d: &[u8]) -> u8
         return 9;
     }
     0
+}
+
+// Which of the refusals 1 to 9 the description gets, or 0.
+pub fn uses_refusal(d: &[u8]) -> u8
+    ensures { λ r. ⌜ r ≡ usesRefusal (now (d .entry)) ⌝ }
+{
+    let mut table = [0u32; 64];
+    uses_refusal_with(d, &mut table)
 }

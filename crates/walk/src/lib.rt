@@ -16,6 +16,7 @@ ghost use Prim.Native.Nat.{suc, _+_, _*_, _^_, _≤_};
 ghost use lib.Dec.{ltb};
 ghost use Rattle.units.specs.Raise.{raise};
 ghost use Rattle.form.specs.Order.{first};
+ghost use Rattle.classify.specs.Table.{Tabled};
 ghost use Rattle.uses.specs.Uses.{usesRefusal};
 ghost use Rattle.places.specs.Shapes.{some?};
 ghost use Rattle.places.specs.Places.{generalFor, vectorFor};
@@ -260,8 +261,8 @@ pub fn moved_on(walk: Walk, shape: Shape) -> Walk
 }
 
 // 18: "position outside N..A, or offsets not those this description gives there". Only here the walk asks the layout.
-fn is_astray(d: &[u8], walk: Walk) -> bool
-    requires { ⌜ usesRefusal (now d) ≡ 0 ⌝ }
+fn is_astray(d: &[u8], walk: Walk, table: &[u32; 64]) -> bool
+    requires { ⌜ (usesRefusal (now d) ≡ 0) × Tabled (now d) (now table) ⌝ }
     ensures { λ r. ⌜ r ≡ astray kcb (now (d .entry)) walk ⌝ }
 {
     let position = walk.position;
@@ -271,7 +272,11 @@ fn is_astray(d: &[u8], walk: Walk) -> bool
     if description::byte_at(d, 8) < position {
         return true;
     }
-    let there = walk_at(walk.number, position, layout::used_after(d, position));
+    let there = walk_at(
+        walk.number,
+        position,
+        layout::used_after(d, position, table),
+    );
     if !units::same(walk.general, there.general) {
         return true;
     }
@@ -286,14 +291,15 @@ fn stands(station: Station, d: &[u8], walk: Walk, stack: &[u8], asked: u8) -> St
     ensures { λ r. ⌜ IsStanding kcb (restRefusal kcb station (now (d .entry)) walk (asking [] (now (stack .entry)) asked []))
         (now (d .entry)) (walk .position) r ⌝ }
 {
-    let answer = layout::layout_of(d);
+    let mut table = [0u32; 64];
+    let answer = layout::layout_with(d, &mut table);
     match answer {
         LayoutAnswer::Refused(refusal) => Standing::Refused(refusal),
         LayoutAnswer::Laid(layout) => {
             if walk.number != station.number {
                 return Standing::Refused(form::refusal_of(17));
             }
-            if is_astray(d, walk) {
+            if is_astray(d, walk, &table) {
                 return Standing::Refused(form::refusal_of(18));
             }
             let position = walk.position;
@@ -308,7 +314,7 @@ fn stands(station: Station, d: &[u8], walk: Walk, stack: &[u8], asked: u8) -> St
             if !units::same(Bytes(stack.len()), area) {
                 return Standing::Refused(form::refusal_of(11));
             }
-            Standing::Before(places::shape_of(d, ty))
+            Standing::Before(places::shape_of(d, ty, &table))
         }
     }
 }

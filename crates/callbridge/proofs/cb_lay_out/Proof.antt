@@ -56,11 +56,13 @@ use denote.Triple.Clauses.{ensured, lasts}
 use denote.Triple.Table.{entered, cited}
 use denote.Triple.Walked.{says, Stays, stay-ref, stay-slice, stay-none-slice, walkOf, AllGo, goes-ref, goes-slice, goes-none-slice, Walks, ends-at, walked, walk-meets}
 use denote.Exit.{yes}
+use Rattle.classify.specs.Table.{Tabled}
 use Rattle.layout.specs.Asks.{AskArgument}
+use Rattle.layout.specs.Verdict.{verdict}
 use Rattle.layout.specs.Placements.{listUsed, filled}
-use Rattle.layout.proofs.Lists.{filled-none, filled-next, length-filled}
+use Rattle.types.proofs.Table.{filled-none, filled-next, length-filled}
 use Rattle.given.specs.Lists.{flatAt, flatStep, listBegun}
-use Rattle.given.proofs.Rows.{row-count, row-used, row-refusal, row-layout, row-asks, row-record, row-next}
+use Rattle.given.proofs.Rows.{row-count, row-used, row-refusal, row-layout, row-accepted, row-asks, row-record, row-next}
 use Rattle.places.specs.declared.Used.{Used}
 use Rattle.form.specs.declared.Refusal.{Refusal}
 use Rattle.flat.specs.declared.Placement.{Placement}
@@ -215,28 +217,28 @@ module _ {M : Type 1} (𝓤 : URA M) (H : Heap 𝓤) (A : Atoms 𝓤) (W : Given
   asked-begin = qed W (tok ∷ ‵ handed-begin ∷ []) ∵ join ! $ frame ! $ done !
 
   abbrev SaidB : ListBegun → Type 0
-  SaidB r = (r ≡ dec) × (r .count ≤ length ys)
+  SaidB r = (r ≡ dec) × (r .count ≤ length ys) × (verdict (z .now) ≡ 0 → Tabled (z .now) (r .table))
 
   said-begin : (r : ListBegun) → ent 𝓤 (ensured 𝓤 H A begin.ended (begin.clauses 𝓤 H A mem run) (κ₁, tt) (z, (was, (length ys, tt))) tt r) (fact 𝓤 (SaidB r))
   said-begin r = exE 𝓤 _ (λ ws. snd∗ 𝓤 (sem 𝓤 H A (lasts begin.ended (κ₁, tt) (z, (was, (length ys, tt))) ws)) (fact 𝓤 (SaidB r)))
 
-  abbrev passed-one : ℕ → List Val × (List Val × (List Val × Unit {0}))
-  passed-one i = (vz ∷ [], (machS (st i), (vint w64 i ∷ [], tt)))
+  abbrev passed-one : ℕ → List Val × (List Val × (List Val × (List Val × Unit {0})))
+  passed-one i = (vz ∷ [], (machS (st i), (vint w64 i ∷ [], (machB dec, tt))))
 
   abbrev to-one : ℕ → One 𝓤 H A mem run .Ghost
-  to-one i = (((κ₁, tt), (q₁, tt), tt, (z, (st i, (i, tt))), passed-one i), tt)
+  to-one i = (((κ₁, tt), (q₁, tt), tt, (z, (st i, (i, (dec, tt)))), passed-one i), tt)
 
   abbrev handed-one : ℕ → Fml
-  handed-one i = owns (ShrSlice (named 0) κ₁ u8 ∷ S.the-row ∷ usize ∷ []) (z, (st i, (i, tt))) (passed-one i)
+  handed-one i = owns (ShrSlice (named 0) κ₁ u8 ∷ S.the-row ∷ usize ∷ B.the-row ∷ []) (z, (st i, (i, (dec, tt)))) (passed-one i)
 
-  asked-one : (i : ℕ) → AskArgument (z .now) i (st i) → ent 𝓤 (⋆ 𝓤 H A (tok ∷ ‵ (handed-one i) ∷ [])) (One 𝓤 H A mem run .pre (to-one i))
-  asked-one i asks = qed W (tok ∷ ‵ (handed-one i) ∷ []) ∵ says ! {P = onEntry 𝓤 H A one.signature (κ₁, tt) (q₁, tt) (z, (st i, (i, tt))) (passed-one i)} asks $ frame ! $ done !
+  asked-one : (i : ℕ) → AskArgument (z .now) i (st i) × Tabled (z .now) (dec .table) → ent 𝓤 (⋆ 𝓤 H A (tok ∷ ‵ (handed-one i) ∷ [])) (One 𝓤 H A mem run .pre (to-one i))
+  asked-one i asks = qed W (tok ∷ ‵ (handed-one i) ∷ []) ∵ says ! {P = onEntry 𝓤 H A one.signature (κ₁, tt) (q₁, tt) (z, (st i, (i, (dec, tt)))) (passed-one i)} asks $ frame ! $ done !
 
   abbrev made : ℕ → FlatStep
   made i = flatStep (z .now) (st i) i
 
-  said-one : (i : ℕ) (r : FlatStep) → ent 𝓤 (ensured 𝓤 H A one.ended (one.clauses 𝓤 H A mem run) (κ₁, tt) (z, (st i, (i, tt))) tt r) (fact 𝓤 (r ≡ made i))
-  said-one i r = exE 𝓤 _ (λ ws. snd∗ 𝓤 (sem 𝓤 H A (lasts one.ended (κ₁, tt) (z, (st i, (i, tt))) ws)) (fact 𝓤 (r ≡ made i)))
+  said-one : (i : ℕ) (r : FlatStep) → ent 𝓤 (ensured 𝓤 H A one.ended (one.clauses 𝓤 H A mem run) (κ₁, tt) (z, (st i, (i, (dec, tt)))) tt r) (fact 𝓤 (r ≡ made i))
+  said-one i r = exE 𝓤 _ (λ ws. snd∗ 𝓤 (sem 𝓤 H A (lasts one.ended (κ₁, tt) (z, (st i, (i, (dec, tt)))) ws)) (fact 𝓤 (r ≡ made i)))
 
   abbrev Upto : Type 0
   Upto = (i : ℕ) × (i ≤ n)
@@ -264,9 +266,9 @@ module _ {M : Type 1} (𝓤 : URA M) (H : Heap 𝓤) (A : Atoms 𝓤) (W : Given
     abbrev Turned : Upto → Out → SProp 𝓤
     Turned i = afterTurn 𝓤 H (Below 𝓤 H A Nearer At i) (afterBlock 𝓤 H (afterSeq 𝓤 H (Wp 𝓤 H C Λ En mir.t-9 (atReturn 𝓤 H En Post)) (atReturn 𝓤 H En Post)))
 
-    turn-when : n ≤ length ys → Is B.the-row dec (machB dec) → (i : Upto) (t : Bool) → ltb (i .0) n ≡ t → Sq W (At i) (runs C Λ En mir.turn-1 (anyQ (Turned i)))
+    turn-when : n ≤ length ys → (verdict (z .now) ≡ 0 → Tabled (z .now) (dec .table)) → Is B.the-row dec (machB dec) → (i : Upto) (t : Bool) → ltb (i .0) n ≡ t → Sq W (At i) (runs C Λ En mir.turn-1 (anyQ (Turned i)))
     unfolding afterTurn
-    turn-when within goodB i true e =
+    turn-when within known goodB i true e =
         let less : i .0 < n = ltb-true (i .0) n e in
         let inside : i .0 < length (at (i .0)) = omega (arith, at-length (i .0)) in
         let scaled : i .0 * 32 < 2 ^ 64 = omega (arith, room .1) in
@@ -276,10 +278,10 @@ module _ {M : Type 1} (𝓤 : URA M) (H : Heap 𝓤) (A : Atoms 𝓤) (W : Given
         rewrite ! 11 (λ (t : Bool). ‵ (fat fullShare tyBool l₁₁ 0 (vbool t))) e refl $ stays ! (load ! (from ! (stop !)) (look ! 11 refl)) $
         -- `place_flat`; a copy of d is kept
         move ! (5 ∷ []) $ use1 W (‵ OwnD ⊛ ‵ OwnD) (shr-slice-copy 𝓤 H A W (named 0) κ₁ u8 .twice z (vz ∷ [])) $ split ! $
-        nothing ! $ owned ! usize (Is usize) (uint-makes 𝓤 H A W w64) (i .0) _ (refl, fits) $ fjoin ! $ move ! (8 ∷ 0 ∷ []) $ fjoin ! $ move ! (1 ∷ 0 ∷ []) $ fjoin ! $ move ! (6 ∷ 0 ∷ []) $
-        use2 W (raw (One 𝓤 H A mem run .pre (to-one (i .0)))) (asked-one (i .0) (row-asks (z .now) (length ys) was (i .0) less)) $
-        calls-at ! fm (One 𝓤 H A mem run) known-one (to-one (i .0)) (and-then ! (load ! (from ! (stop !)) (look ! 30 refl)) (and-then ! (load ! (from ! (stop !)) (look ! 20 refl)) (and-then ! (load ! (from ! (stop !)) (look ! 18 refl)) (no-more !)))) (λ w.
-        use1 W (later (some (λ (r : FlatStep). (tok ⊛ ‵ (U.the-row .own r (w ∷ []))) ⊛ raw (ensured 𝓤 H A one.ended (one.clauses 𝓤 H A mem run) (κ₁, tt) (z, (st (i .0), (i .0, tt))) tt r)))) (id⊢ 𝓤 _) $ await ! tt $ pick ! (λ r.
+        nothing ! $ owned ! B.the-row (Is B.the-row) (LL.makes B.the-type B′.the-plain 𝓤 H A) dec (machB dec) goodB $ fjoin ! $ owned ! usize (Is usize) (uint-makes 𝓤 H A W w64) (i .0) _ (refl, fits) $ fjoin ! $ move ! (8 ∷ 0 ∷ []) $ fjoin ! $ move ! (1 ∷ 0 ∷ []) $ fjoin ! $ move ! (6 ∷ 0 ∷ []) $
+        use2 W (raw (One 𝓤 H A mem run .pre (to-one (i .0)))) (asked-one (i .0) (row-asks (z .now) (length ys) was (i .0) less, known (row-accepted (z .now) (length ys) was (i .0) less))) $
+        calls-at ! fm (One 𝓤 H A mem run) known-one (to-one (i .0)) (and-then ! (load ! (from ! (stop !)) (look ! 30 refl)) (and-then ! (load ! (from ! (stop !)) (look ! 20 refl)) (and-then ! (load ! (from ! (stop !)) (look ! 18 refl)) (and-then ! (load ! (from ! (stop !)) (look ! 24 refl)) (no-more !))))) (λ w.
+        use1 W (later (some (λ (r : FlatStep). (tok ⊛ ‵ (U.the-row .own r (w ∷ []))) ⊛ raw (ensured 𝓤 H A one.ended (one.clauses 𝓤 H A mem run) (κ₁, tt) (z, (st (i .0), (i .0, (dec, tt)))) tt r)))) (id⊢ 𝓤 _) $ await ! tt $ pick ! (λ r.
         split ! $ move ! (1 ∷ []) $ use1 W (raw (fact 𝓤 (r ≡ made (i .0)))) (said-one (i .0) r) $ heard ! (r ≡ made (i .0)) (λ is-r.
         split ! $ rewrite ! 1 (λ (h : FlatStep). ‵ (U.the-row .own h (w ∷ []))) is-r refl $
         move ! (1 ∷ []) $ peeks ! U.the-row (Is U.the-row) (shows 𝓤 H A U.the-row) (made (i .0)) (w ∷ []) (λ is.
@@ -302,7 +304,7 @@ module _ {M : Type 1} (𝓤 : URA M) (H : Heap 𝓤) (A : Atoms 𝓤) (W : Given
         owned ! S.the-row (Is S.the-row) (LL.makes S.the-type S′.the-plain 𝓤 H A) (made (i .0) .used) (machS (made (i .0) .used)) goodS $ rewrite ! 0 (λ (t : Used). ‵ (S.the-row .own t (machS t))) (row-next (z .now) (length ys) was (i .0) less) refl $
         keep ! (1 ∷ 5 ∷ 6 ∷ 7 ∷ 3 ∷ 4 ∷ 0 ∷ 8 ∷ 9 ∷ 10 ∷ 11 ∷ 12 ∷ 13 ∷ 14 ∷ 15 ∷ 16 ∷ 17 ∷ 18 ∷ 19 ∷ 20 ∷ 21 ∷ 22 ∷ 23 ∷ 24 ∷ 25 ∷ 26 ∷ 27 ∷ 28 ∷ 29 ∷ 30 ∷ 31 ∷ 32 ∷ 33 ∷ 34 ∷ 35 ∷ 36 ∷ 37 ∷ 38 ∷ []) $
         again ! Nearer At i (i .0 + 1, add-one-le less) (add-one-dec n (i .0) less))))))
-    turn-when within goodB i false e =
+    turn-when within known goodB i false e =
         let done-all : i .0 ≡ n = le-antisymm (i .1) (ltb-false (i .0) n e) in
         let good : Is E.the-row (dec .refusal) (machE (dec .refusal)) = LL.owed B.the-type B′.the-laws dec (machB dec) goodB .1 .0 in
         assigns ! (bin ! (load ! (from ! (stop !)) (look ! 19 refl)) (load ! (from ! (stop !)) (look ! 23 refl)) tt) (from ! (stop !)) (init ! 11 refl (tt, tt)) $
@@ -314,22 +316,22 @@ module _ {M : Type 1} (𝓤 : URA M) (H : Heap 𝓤) (A : Atoms 𝓤) (W : Given
         keep ! (0 ∷ 1 ∷ 2 ∷ 3 ∷ 4 ∷ 6 ∷ 7 ∷ 8 ∷ []) $ by ! (exits good)
 
     -- the loop, and the rest of the body
-    looped : n ≤ length ys → Is B.the-row dec (machB dec) → Sq W (At (0, zero-le)) (runs C Λ En mir.t-8 (atRet En Post))
-    looped within goodB = first ! $ blocks ! $ loops ! 𝓣 Nearer Nearer-wf At (λ i. turn-when within goodB i (ltb (i .0) n) refl) (0, zero-le)
+    looped : n ≤ length ys → (verdict (z .now) ≡ 0 → Tabled (z .now) (dec .table)) → Is B.the-row dec (machB dec) → Sq W (At (0, zero-le)) (runs C Λ En mir.t-8 (atRet En Post))
+    looped within known goodB = first ! $ blocks ! $ loops ! 𝓣 Nearer Nearer-wf At (λ i. turn-when within known goodB i (ltb (i .0) n) refl) (0, zero-le)
 
     -- what there is once `begin_list` has returned and the summary is stored
     abbrev Begun-at : List (Item 𝓤)
     Begun-at = ‵ (row T.the-row fullShare (ys) b o) ∷ ‵ (fobor κ q (Held T.the-row (length ys) b o γ)) ∷ ‵ (fobs γ (codedHoleys T.the-row .code (heres T.the-row ys))) ∷ ‵ (fauth γ (codedHoleys T.the-row .code (heres T.the-row ys))) ∷ tok ∷ ‵ OwnD ∷ ‵ (froom tyPtr l₁₃ 0) ∷ ‵ (fdies tyPtr l₁₃) ∷ ‵ (froom (tyInt w64) l₁₂ 0) ∷ ‵ (fdies (tyInt w64) l₁₂) ∷ ‵ (froom tyBool l₁₁ 0) ∷ ‵ (fdies tyBool l₁₁) ∷ ‵ (fat fullShare (tyInt w64) l₁₀ 0 (vint w64 (length ys))) ∷ ‵ (fdies (tyInt w64) l₁₀) ∷ ‵ (fat fullShare L′.mir l₉ 0 (only (machL was))) ∷ ‵ (fdies L′.mir l₉) ∷ ‵ (froom U′.mir l₈ 0) ∷ ‵ (fdies U′.mir l₈) ∷ ‵ (froom (tyInt w64) l₇ 0) ∷ ‵ (fdies (tyInt w64) l₇) ∷ ‵ (froom S′.mir l₆ 0) ∷ ‵ (fdies S′.mir l₆) ∷ ‵ (froom (tyInt w64) l₅ 0) ∷ ‵ (fdies (tyInt w64) l₅) ∷ ‵ (fat fullShare B′.mir l₄ 0 (only (machB dec))) ∷ ‵ (fdies B′.mir l₄) ∷ ‵ (fat fullShare listTy l₃ 0 s) ∷ ‵ (fdies listTy l₃) ∷ ‵ (fat fullShare layTy l₂ 0 (vptr b₂ o₂)) ∷ ‵ (fdies layTy l₂) ∷ ‵ (fat fullShare bytesTy l₁ 0 vz) ∷ ‵ (fdies bytesTy l₁) ∷ ‵ (froom E′.mir l₀ 0) ∷ ‵ (fdies E′.mir l₀) ∷ ‵ Seen ∷ ‵ Lent ∷ ‵ (flft κ₂ q₂) ∷ []
 
-    begun : n ≤ length ys → Is B.the-row dec (machB dec) → Is S.the-row (dec .used) (machS (dec .used)) → n < 2 ^ 64 → Sq W Begun-at (runs C Λ En mir.t-5 (atRet En Post))
-    begun within goodB goodS fits =
+    begun : n ≤ length ys → (verdict (z .now) ≡ 0 → Tabled (z .now) (dec .table)) → Is B.the-row dec (machB dec) → Is S.the-row (dec .used) (machS (dec .used)) → n < 2 ^ 64 → Sq W Begun-at (runs C Λ En mir.t-5 (atRet En Post))
+    begun within known goodB goodS fits =
         assigns ! (of-opd ! (load ! (from ! (fld ! refl (stop !))) (look-in ! 24 (sub ! 2 refl (whole !))))) (from ! (stop !)) (init ! 22 refl (tt, record { fits = fits })) $
         assigns ! (of-opd ! (load ! (from ! (fld ! refl (stop !))) (look-in ! 24 (sub ! 3 refl (whole !))))) (from ! (stop !)) (init ! 20 refl (LL.lawful S.the-type S′.the-laws 𝓤 H A W .typed (dec .used) _ goodS .0)) $
         assigns ! (of-opd ! (lit ! tt)) (from ! (stop !)) (init ! 18 refl (tt, record { fits = lit< tt })) $ forget ! 14 refl $ forget ! 12 refl $
         rewrite ! 0 (λ (l : List Placement). ‵ (row T.the-row fullShare l b o)) (filled-none (flatAt (z .now)) ys) refl $
         rewrite ! 20 (λ (t : Used). ‵ (fat fullShare S′.mir l₆ 0 (only (machS t)))) (row-used (z .now) (length ys) was) refl $
         owned ! S.the-row (Is S.the-row) (LL.makes S.the-type S′.the-plain 𝓤 H A) (dec .used) (machS (dec .used)) goodS $ rewrite ! 0 (λ (t : Used). ‵ (S.the-row .own t (machS t))) (row-used (z .now) (length ys) was) refl $
-        keep ! (1 ∷ 2 ∷ 3 ∷ 4 ∷ 5 ∷ 6 ∷ 0 ∷ 7 ∷ 8 ∷ 9 ∷ 10 ∷ 11 ∷ 12 ∷ 13 ∷ 14 ∷ 15 ∷ 16 ∷ 17 ∷ 18 ∷ 19 ∷ 20 ∷ 21 ∷ 22 ∷ 23 ∷ 24 ∷ 25 ∷ 26 ∷ 27 ∷ 28 ∷ 29 ∷ 30 ∷ 31 ∷ 32 ∷ 33 ∷ 34 ∷ 35 ∷ 36 ∷ 37 ∷ []) $ looped within goodB
+        keep ! (1 ∷ 2 ∷ 3 ∷ 4 ∷ 5 ∷ 6 ∷ 0 ∷ 7 ∷ 8 ∷ 9 ∷ 10 ∷ 11 ∷ 12 ∷ 13 ∷ 14 ∷ 15 ∷ 16 ∷ 17 ∷ 18 ∷ 19 ∷ 20 ∷ 21 ∷ 22 ∷ 23 ∷ 24 ∷ 25 ∷ 26 ∷ 27 ∷ 28 ∷ 29 ∷ 30 ∷ 31 ∷ 32 ∷ 33 ∷ 34 ∷ 35 ∷ 36 ∷ 37 ∷ []) $ looped within known goodB
 
   -- the MIR up to the loop: both borrows are opened, the summary's is closed
   walk : (𝓣 : Tables 𝓤 H) → FmC 𝓤 H (W .laws) (𝓣 .C) → Triple 𝓤 (𝓣 .C #given·begin-list) (Begin 𝓤 H A mem run) → Triple 𝓤 (𝓣 .C #given·place-flat) (One 𝓤 H A mem run)
@@ -355,7 +357,7 @@ module _ {M : Type 1} (𝓤 : URA M) (H : Heap 𝓤) (A : Atoms 𝓤) (W : Given
       assigns ! (of-opd ! (load ! (from ! (fld ! refl (stop !))) (look-in ! 31 (sub ! 0 refl (whole !))))) (from ! (hop ! (look ! 35 refl) (stop !))) (store-raw ! 4 refl (LL.lawful L.the-type L′.the-laws 𝓤 H A W .typed (dec .layout) (machL (dec .layout)) (LL.owed B.the-type B′.the-laws dec (w ∷ []) is .0) .0)) $
       owned ! L.the-row (Is L.the-row) (LL.makes L.the-type L′.the-plain 𝓤 H A) (dec .layout) (machL (dec .layout)) (LL.owed B.the-type B′.the-laws dec (w ∷ []) is .0) $ move ! (5 ∷ 0 ∷ 6 ∷ 7 ∷ 8 ∷ []) $ closes ! tt L.the-row (dec .layout) (machL (dec .layout)) b₂ o₂ $
       keep ! (7 ∷ 8 ∷ 9 ∷ 10 ∷ 4 ∷ 5 ∷ 12 ∷ 13 ∷ 14 ∷ 15 ∷ 16 ∷ 17 ∷ 18 ∷ 19 ∷ 20 ∷ 21 ∷ 22 ∷ 23 ∷ 24 ∷ 25 ∷ 26 ∷ 27 ∷ 28 ∷ 29 ∷ 30 ∷ 31 ∷ 32 ∷ 33 ∷ 34 ∷ 35 ∷ 36 ∷ 37 ∷ 38 ∷ 39 ∷ 0 ∷ 1 ∷ 2 ∷ []) $
-      begun 𝓣 fm known-one l₀ l₁ l₂ l₃ l₄ l₅ l₆ l₇ l₈ l₉ l₁₀ l₁₁ l₁₂ l₁₃ (subst (λ (h : ListBegun). h .count ≤ length ys) (e .0) (e .1)) (LL.owes B.the-type B′.the-laws dec (LL.owed B.the-type B′.the-laws dec (w ∷ []) is)) (LL.owed B.the-type B′.the-laws dec (w ∷ []) is .1 .1 .1 .0) (LL.owed B.the-type B′.the-laws dec (w ∷ []) is .1 .1 .0 .1)))))))))))))))))))))
+      begun 𝓣 fm known-one l₀ l₁ l₂ l₃ l₄ l₅ l₆ l₇ l₈ l₉ l₁₀ l₁₁ l₁₂ l₁₃ (subst (λ (h : ListBegun). h .count ≤ length ys) (e .0) (e .1)) (subst (λ (h : ListBegun). verdict (z .now) ≡ 0 → Tabled (z .now) (h .table)) (e .0) (e .2)) (LL.owes B.the-type B′.the-laws dec (LL.owed B.the-type B′.the-laws dec (w ∷ []) is)) (LL.owed B.the-type B′.the-laws dec (w ∷ []) is .1 .1 .1 .0) (LL.owed B.the-type B′.the-laws dec (w ∷ []) is .1 .1 .0 .1)))))))))))))))))))))
 
 module _ {M : Type 1} (𝓤 : URA M) (H : Heap 𝓤) (A : Atoms 𝓤) (W : Given 𝓤 H A) (mem : Memory → SProp 𝓤) (run : Routine → Fun 𝓤) where
   cb-lay-out-walks : (𝓣 : Tables 𝓤 H) → FmC 𝓤 H (W .laws) (𝓣 .C) → Triple 𝓤 (𝓣 .C #given·begin-list) (Begin 𝓤 H A mem run) → Triple 𝓤 (𝓣 .C #given·place-flat) (One 𝓤 H A mem run)

@@ -9,16 +9,16 @@ use Rattle.layout.proofs.lay_more.Statement.{statement}
 use Rattle.layout.proofs.lay_more.Tie as tie
 
 abbrev Inv-loop : tie.InvT-loop
-Inv-loop d from to used₀ values₀ i₀ used values i = Going d from to used₀ (values₀ .0) used (values .0) i
+Inv-loop d from to table used₀ values₀ i₀ used values i = Going d from to used₀ (values₀ .0) used (values .0) i
 
 abbrev μ-loop : tie.MeasureT-loop
-μ-loop d from to used₀ values₀ i₀ used values i = to - i
+μ-loop d from to table used₀ values₀ i₀ used values i = to - i
 
 loop-holds : tie.Need-loop-holds Inv-loop μ-loop
-loop-holds c = going-first (now (c .before .before .before .args .d)) (c .before .before .before .args .from) (c .before .before .before .args .to) _ _ (c .before .before .before .pre)
+loop-holds c = going-first (now (c .before .before .before .args .d)) (c .before .before .before .args .from) (c .before .before .before .args .to) _ _ (c .before .before .before .pre .0)
 
 place-argument-requires : tie.Need-place-argument-requires Inv-loop μ-loop
-place-argument-requires c κs = going-asks (now (c .before .before .before .before .before .args .d)) (c .before .before .before .before .before .args .from) (c .before .before .before .before .before .args .to) _ _ (c .before .loop .used) (c .before .loop .values .0) (c .before .loop .i) (c .before .loop .inv) (c .loop-test .taken)
+place-argument-requires c κs = (going-asks (now (c .before .before .before .before .before .args .d)) (c .before .before .before .before .before .args .from) (c .before .before .before .before .before .args .to) _ _ (c .before .loop .used) (c .before .loop .values .0) (c .before .loop .i) (c .before .loop .inv) (c .loop-test .taken), c .before .before .before .before .before .pre .1)
 
 plus-requires : tie.Need-plus-requires Inv-loop μ-loop
 plus-requires c κs = going-small (now (c .before .before .before .before .before .before .before .args .d)) (c .before .before .before .before .before .before .before .args .from) (c .before .before .before .before .before .before .before .args .to) _ _ (c .before .before .before .loop .used) (c .before .before .before .loop .values .0) (c .before .before .before .loop .i) (c .before .before .before .loop .inv) (c .before .place-argument .result) (c .before .place-argument .ensures) (c .before .before .loop-test .taken)

@@ -9,16 +9,16 @@ use Rattle.layout.proofs.place_argument.Statement.{statement}
 use Rattle.layout.proofs.place_argument.Tie as tie
 
 argument-at-requires : tie.Need-argument-at-requires
-argument-at-requires c κs = (accepted-typed (now (c .before .args .d)) (c .before .pre .right) .whole, c .before .pre .there)
+argument-at-requires c κs = (accepted-typed (now (c .before .args .d)) (c .before .pre .0 .right) .whole, c .before .pre .0 .there)
 
 shape-of-requires : tie.Need-shape-of-requires
-shape-of-requires c κs = rw (c .argument-at .ensures) (type-asked (now (c .before .before .args .d)) (c .before .before .pre .right) _ (argument-known (now (c .before .before .args .d)) (c .before .before .pre .right) (c .before .before .args .i) (c .before .before .pre .there)))
+shape-of-requires c κs = (rw (c .argument-at .ensures) (type-asked (now (c .before .before .args .d)) (c .before .before .pre .0 .right) _ (argument-known (now (c .before .before .args .d)) (c .before .before .pre .0 .right) (c .before .before .args .i) (c .before .before .pre .0 .there))), c .before .before .pre .1)
 
 place-next-requires : tie.Need-place-next-requires
-place-next-requires c κs = (before-room (c .before .before .before .before .before .args .i) (c .before .before .before .before .before .args .used) (omega (arith, arguments-few (now (c .before .before .before .before .before .args .d)) (c .before .before .before .before .before .pre .right), c .before .before .before .before .before .pre .there)) (c .before .before .before .before .before .pre .before), rw (shape-of-argument (now (c .before .before .before .before .before .args .d)) (c .before .before .before .before .before .args .i) _ (c .before .before .shape-of .result) (c .before .before .before .argument-at .ensures) (c .before .before .shape-of .ensures)) (argument-small (now (c .before .before .before .before .before .args .d)) (c .before .before .before .before .before .pre .right) (c .before .before .before .before .before .args .i) (c .before .before .before .before .before .pre .there)))
+place-next-requires c κs = (before-room (c .before .before .before .before .before .args .i) (c .before .before .before .before .before .args .used) (omega (arith, arguments-few (now (c .before .before .before .before .before .args .d)) (c .before .before .before .before .before .pre .0 .right), c .before .before .before .before .before .pre .0 .there)) (c .before .before .before .before .before .pre .0 .before), rw (shape-of-argument (now (c .before .before .before .before .before .args .d)) (c .before .before .before .before .before .args .i) _ (c .before .before .shape-of .result) (c .before .before .before .argument-at .ensures) (c .before .before .shape-of .ensures)) (argument-small (now (c .before .before .before .before .before .args .d)) (c .before .before .before .before .before .pre .0 .right) (c .before .before .before .before .before .args .i) (c .before .before .before .before .before .pre .0 .there)))
 
-cast-t11 : tie.Need-cast-t11
-cast-t11 c = omega (arith, c .before .before .before .before .before .argument-at .ensures, argument-known (now (c .before .before .before .before .before .before .before .args .d)) (c .before .before .before .before .before .before .before .pre .right) (c .before .before .before .before .before .before .before .args .i) (c .before .before .before .before .before .before .before .pre .there), types-few (now (c .before .before .before .before .before .before .before .args .d)) (c .before .before .before .before .before .before .before .pre .right))
+cast-t12 : tie.Need-cast-t12
+cast-t12 c = omega (arith, c .before .before .before .before .before .argument-at .ensures, argument-known (now (c .before .before .before .before .before .before .before .args .d)) (c .before .before .before .before .before .before .before .pre .0 .right) (c .before .before .before .before .before .before .before .args .i) (c .before .before .before .before .before .before .before .pre .0 .there), types-few (now (c .before .before .before .before .before .before .before .args .d)) (c .before .before .before .before .before .before .before .pre .0 .right))
 
 returns : tie.Need-returns
 returns c = step-is (now (c .before .before .before .before .before .before .before .args .d)) (c .before .before .before .before .before .before .before .args .used) (c .before .before .before .before .before .before .before .args .i) _ (c .before .before .before .before .shape-of .result) (c .before .place-next .result) (c .before .before .before .before .before .argument-at .ensures) (shape-of-argument (now (c .before .before .before .before .before .before .before .args .d)) (c .before .before .before .before .before .before .before .args .i) _ (c .before .before .before .before .shape-of .result) (c .before .before .before .before .before .argument-at .ensures) (c .before .before .before .before .shape-of .ensures)) (c .before .place-next .ensures)
@@ -26,4 +26,4 @@ returns c = step-is (now (c .before .before .before .before .before .before .bef
 pub place-argument-spec : {M : Type 1} → statement M
 place-argument-spec =
     tie.close
-    (tie.spec argument-at-requires shape-of-requires place-next-requires cast-t11 returns)
+    (tie.spec argument-at-requires shape-of-requires place-next-requires cast-t12 returns)

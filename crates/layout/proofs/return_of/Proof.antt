@@ -15,13 +15,13 @@ use Rattle.layout.proofs.return_of.Statement.{statement}
 use Rattle.layout.proofs.return_of.Tie as tie
 
 byte-at-requires : tie.Need-byte-at-requires
-byte-at-requires c κs = omega (arith, accepted-typed (now (c .before .args .d)) (c .before .pre) .whole .headed)
+byte-at-requires c κs = omega (arith, accepted-typed (now (c .before .args .d)) (c .before .pre .0) .whole .headed)
 
 returns : tie.Need-returns
 returns c = return-void (now (c .before .before .before .args .d)) (sym (c .before .byte-at .ensures .0) ∙ c .if1 .taken)
 
 classes-of-requires : tie.Need-classes-of-requires
-classes-of-requires c κs = rw (c .before .byte-at .ensures .0) (type-asked (now (c .before .before .before .args .d)) (c .before .before .before .pre) _ (return-known (now (c .before .before .before .args .d)) (c .before .before .before .pre) (λ e. c .if1 .left (c .before .byte-at .ensures .0 ∙ e))))
+classes-of-requires c κs = (rw (c .before .byte-at .ensures .0) (type-asked (now (c .before .before .before .args .d)) (c .before .before .before .pre .0) _ (return-known (now (c .before .before .before .args .d)) (c .before .before .before .pre .0) (λ e. c .if1 .left (c .before .byte-at .ensures .0 ∙ e)))), c .before .before .before .pre .1)
 
 array-copy-out-first : tie.Need-array-copy-out-first
 array-copy-out-first c = search needs

@@ -13,7 +13,7 @@ fresh-requires : tie.Need-fresh-requires
 fresh-requires c κs = search needs
 
 lay-more-requires : tie.Need-lay-more-requires
-lay-more-requires c κs = asks-first (now (c .before .before .before .args .d)) (c .before .return-of .result .hidden) (c .fresh .result) (c .before .return-of .ensures .1) (c .fresh .ensures) (c .before .before .before .pre .0) (c .before .before .before .args .n) (c .before .before .before .pre .1)
+lay-more-requires c κs = (asks-first (now (c .before .before .before .args .d)) (c .before .return-of .result .hidden) (c .fresh .result) (c .before .return-of .ensures .1) (c .fresh .ensures) (c .before .before .before .pre .0) (c .before .before .before .args .n) (c .before .before .before .pre .1), c .before .before .before .pre .2)
 
 returns : tie.Need-returns
 returns c = laid-used (now (c .before .before .before .before .before .args .d)) (c .before .before .before .return-of .result .hidden) (c .before .before .fresh .result) (c .before .before .before .return-of .ensures .1) (c .before .before .fresh .ensures) (c .before .before .before .before .before .args .n) (c .before .lay-more .result) (c .before .lay-more .ensures)

@@ -12,10 +12,10 @@ use Rattle.listing.proofs.put_records.Statement.{statement}
 use Rattle.listing.proofs.put_records.Tie as tie
 
 abbrev Inv-loop : tie.InvT-loop
-Inv-loop d out₀ at count used₀ next₀ i₀ out used next i = Going d out₀ at out next used i
+Inv-loop d out₀ at table count used₀ next₀ i₀ out used next i = Going d out₀ at out next used i
 
 abbrev μ-loop : tie.MeasureT-loop
-μ-loop d out₀ at count used₀ next₀ i₀ out used next i = count - i
+μ-loop d out₀ at table count used₀ next₀ i₀ out used next i = count - i
 
 byte-at-requires : tie.Need-byte-at-requires Inv-loop μ-loop
 byte-at-requires c κs = omega (arith, headed (now (c .before .args .d)) (c .before .pre .1 .right))
@@ -27,7 +27,7 @@ loop-holds : tie.Need-loop-holds Inv-loop μ-loop
 loop-holds c = going-first (now (c .before .before .before .args .d)) (now (c .before .before .before .args .out)) (c .before .before .before .args .at) (c .before .before .before .args .layout) (c .fresh .result) (c .before .before .before .pre .1) (c .fresh .ensures)
 
 place-argument-requires : tie.Need-place-argument-requires Inv-loop μ-loop
-place-argument-requires c κs = going-asks (c .before .loop .inv) (omega (arith, c .loop-test .taken, c .before .before .before .byte-at .ensures .0))
+place-argument-requires c κs = (going-asks (c .before .loop .inv) (omega (arith, c .loop-test .taken, c .before .before .before .byte-at .ensures .0)), c .before .before .before .before .before .pre .2)
 
 put-record-requires : tie.Need-put-record-requires Inv-loop μ-loop
 put-record-requires c κs =

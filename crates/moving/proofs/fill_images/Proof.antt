@@ -15,7 +15,7 @@ fresh-requires : tie.Need-fresh-requires
 fresh-requires c κs = search needs
 
 place-all-requires : tie.Need-place-all-requires
-place-all-requires c κs = (record { accepted = c .before .before .before .before .before .before .before .before .before .before .before .before .before .before .pre .0 .accepted; values = c .before .before .before .before .before .before .before .before .before .before .before .before .before .before .pre .0 .values; registers = omega (arith, c .before .before .before .before .before .before .before .before .before .before .before .before .before .before .pre .0 .registers); stack = omega (arith, c .before .before .before .before .before .before .before .before .before .before .before .before .before .before .pre .0 .stack) }, c .before .before .fresh .ensures ∙ ap fresh (c .before .before .before .before .before .before .before .before .before .before .before .before .before .before .pre .1))
+place-all-requires c κs = (record { accepted = c .before .before .before .before .before .before .before .before .before .before .before .before .before .before .pre .0 .accepted; values = c .before .before .before .before .before .before .before .before .before .before .before .before .before .before .pre .0 .values; registers = omega (arith, c .before .before .before .before .before .before .before .before .before .before .before .before .before .before .pre .0 .registers); stack = omega (arith, c .before .before .before .before .before .before .before .before .before .before .before .before .before .before .pre .0 .stack) }, c .before .before .fresh .ensures ∙ ap fresh (c .before .before .before .before .before .before .before .before .before .before .before .before .before .before .pre .1), c .before .before .before .before .before .before .before .before .before .before .before .before .before .before .pre .2)
 
 same-length : tie.Need-same-length
 same-length c = search needs

@@ -1,5 +1,6 @@
 -- `first_broken` meets its contract. The invariant: what is left to search finds what the whole search finds.
 -- Assumes nothing.
+use Rattle.types.proofs.Table.{known-low, known-extent}
 use mathlib.Core.Path.{_≡_, sym, _∙_}
 use Prim.Native.Nat.{_-_}
 use native.Mathlib.Omega.{arith}
@@ -11,10 +12,10 @@ use Rattle.moving.proofs.first_broken.Statement.{statement}
 use Rattle.moving.proofs.first_broken.Tie as tie
 
 abbrev Inv-loop : tie.InvT-loop
-Inv-loop d values arguments start₀ i₀ start i = Searching d values (start .0) i × (arguments ≡ argumentsIn d)
+Inv-loop d values table arguments start₀ i₀ start i = Searching d values (start .0) i × (arguments ≡ argumentsIn d)
 
 abbrev μ-loop : tie.MeasureT-loop
-μ-loop d values arguments start₀ i₀ start i = arguments - i
+μ-loop d values table arguments start₀ i₀ start i = arguments - i
 
 byte-at-requires : tie.Need-byte-at-requires Inv-loop μ-loop
 byte-at-requires c κs = omega (arith, whole _ (c .before .before .pre .0) .headed)
@@ -34,11 +35,11 @@ broken-byte-requires c κs = (whole _ (c .before .before .before .before .before
 returns : tie.Need-returns Inv-loop μ-loop
 returns c = searching-stop _ _ _ _ (c .before .before .before .before .before .loop .inv .0) (omega (arith, c .before .before .before .before .loop-test .taken, c .before .before .before .before .before .loop .inv .1)) _ _ (c .before .before .before .argument-at .ensures) (c .before .before .byte-at2 .ensures .0) (sym (c .before .broken-byte .ensures) ∙ c .if1 .taken)
 
-size-of-requires : tie.Need-size-of-requires Inv-loop μ-loop
-size-of-requires c κs = sized _ (c .before .before .before .before .before .before .before .before .before .pre .0) _ (rw (c .before .before .before .argument-at .ensures) (known _ (c .before .before .before .before .before .before .before .before .before .pre .0) _ (omega (arith, c .before .before .before .before .loop-test .taken, c .before .before .before .before .before .loop .inv .1))))
+extent-in-requires : tie.Need-extent-in-requires Inv-loop μ-loop
+extent-in-requires c κs = known-low _ _ (c .before .before .before .before .before .before .before .before .before .pre .2 .sizes) _ (sized _ (c .before .before .before .before .before .before .before .before .before .pre .0) _ (rw (c .before .before .before .argument-at .ensures) (known _ (c .before .before .before .before .before .before .before .before .before .pre .0) _ (omega (arith, c .before .before .before .before .loop-test .taken, c .before .before .before .before .before .loop .inv .1)))))
 
 plus-requires : tie.Need-plus-requires Inv-loop μ-loop
-plus-requires c κs = searching-room _ _ _ _ (c .before .before .before .before .before .before .loop .inv .0) (omega (arith, c .before .before .before .before .before .loop-test .taken, c .before .before .before .before .before .before .loop .inv .1)) _ _ (c .before .before .before .before .argument-at .ensures) (c .before .before .before .byte-at2 .ensures .0) _ (c .size-of .ensures .size)
+plus-requires c κs = searching-room _ _ _ _ (c .before .before .before .before .before .before .loop .inv .0) (omega (arith, c .before .before .before .before .before .loop-test .taken, c .before .before .before .before .before .before .loop .inv .1)) _ _ (c .before .before .before .before .argument-at .ensures) (c .before .before .before .byte-at2 .ensures .0) _ (known-extent _ _ (c .before .before .before .before .before .before .before .before .before .before .pre .2 .sizes) _ (sized _ (c .before .before .before .before .before .before .before .before .before .before .pre .0) _ (rw (c .before .before .before .before .argument-at .ensures) (known _ (c .before .before .before .before .before .before .before .before .before .before .pre .0) _ (omega (arith, c .before .before .before .before .before .loop-test .taken, c .before .before .before .before .before .before .loop .inv .1))))) (c .extent-in .result) (c .extent-in .ensures) .size)
 
 add-i : tie.Need-add-i Inv-loop μ-loop
 add-i c = omega arith
@@ -47,7 +48,7 @@ loop-less : tie.Need-loop-less Inv-loop μ-loop
 loop-less c = omega arith
 
 loop-again : tie.Need-loop-again Inv-loop μ-loop
-loop-again c = (searching-next _ _ _ _ (c .before .before .before .before .before .before .before .loop .inv .0) (omega (arith, c .before .before .before .before .before .before .loop-test .taken, c .before .before .before .before .before .before .before .loop .inv .1)) _ _ (c .before .before .before .before .before .argument-at .ensures) (c .before .before .before .before .byte-at2 .ensures .0) _ (c .before .size-of .ensures .size) (sym (c .before .before .before .broken-byte .ensures) ∙ c .before .before .if1 .left) _ (c .plus .ensures), c .before .before .before .before .before .before .before .loop .inv .1)
+loop-again c = (searching-next _ _ _ _ (c .before .before .before .before .before .before .before .loop .inv .0) (omega (arith, c .before .before .before .before .before .before .loop-test .taken, c .before .before .before .before .before .before .before .loop .inv .1)) _ _ (c .before .before .before .before .before .argument-at .ensures) (c .before .before .before .before .byte-at2 .ensures .0) _ (known-extent _ _ (c .before .before .before .before .before .before .before .before .before .before .before .pre .2 .sizes) _ (sized _ (c .before .before .before .before .before .before .before .before .before .before .before .pre .0) _ (rw (c .before .before .before .before .before .argument-at .ensures) (known _ (c .before .before .before .before .before .before .before .before .before .before .before .pre .0) _ (omega (arith, c .before .before .before .before .before .before .loop-test .taken, c .before .before .before .before .before .before .before .loop .inv .1))))) (c .before .extent-in .result) (c .before .extent-in .ensures) .size) (sym (c .before .before .before .broken-byte .ensures) ∙ c .before .before .if1 .left) _ (c .plus .ensures), c .before .before .before .before .before .before .before .loop .inv .1)
 
 returns-2 : tie.Need-returns-2 Inv-loop μ-loop
 returns-2 c = searching-end _ _ _ _ (c .before .loop .inv .0) (omega (arith, c .loop-test .left, c .before .loop .inv .1))
@@ -64,7 +65,7 @@ first-broken-spec =
     byte-at-requires-2
     broken-byte-requires
     returns
-    size-of-requires
+    extent-in-requires
     plus-requires
     add-i
     loop-less

@@ -11,10 +11,10 @@ use Rattle.moving.proofs.gather_all.Statement.{statement}
 use Rattle.moving.proofs.gather_all.Tie as tie
 
 abbrev Inv-loop : tie.InvT-loop
-Inv-loop d registers stack values₀ arguments used₀ start₀ i₀ values used start i = Gathering d registers stack values₀ values used (start .0) i × (arguments ≡ argumentsIn d)
+Inv-loop d registers stack values₀ table arguments used₀ start₀ i₀ values used start i = Gathering d registers stack values₀ values used (start .0) i × (arguments ≡ argumentsIn d)
 
 abbrev μ-loop : tie.MeasureT-loop
-μ-loop d registers stack values₀ arguments used₀ start₀ i₀ values used start i = arguments - i
+μ-loop d registers stack values₀ table arguments used₀ start₀ i₀ values used start i = arguments - i
 
 byte-at-requires : tie.Need-byte-at-requires Inv-loop μ-loop
 byte-at-requires c κs = omega (arith, whole _ (c .before .before .before .before .pre .0 .accepted) .headed)
@@ -23,7 +23,7 @@ loop-holds : tie.Need-loop-holds Inv-loop μ-loop
 loop-holds c = (gathering-first _ _ _ _ _ (c .before .before .before .before .before .pre .0) (c .before .before .before .before .before .pre .1), c .byte-at .ensures .0)
 
 place-argument-requires : tie.Need-place-argument-requires Inv-loop μ-loop
-place-argument-requires c κs = turn-asks _ _ _ _ (omega (arith, c .loop-test .taken, c .before .loop .inv .1)) (c .before .loop .inv .0 .turn) (c .before .before .before .before .before .before .before .pre .0 .accepted)
+place-argument-requires c κs = (turn-asks _ _ _ _ (omega (arith, c .loop-test .taken, c .before .loop .inv .1)) (c .before .loop .inv .0 .turn) (c .before .before .before .before .before .before .before .pre .0 .accepted), c .before .before .before .before .before .before .before .pre .2)
 
 gather-one-requires : tie.Need-gather-one-requires Inv-loop μ-loop
 gather-one-requires c κs = turn-move _ _ _ _ (omega (arith, c .before .before .before .before .loop-test .taken, c .before .before .before .before .before .loop .inv .1)) (c .before .before .before .before .before .loop .inv .0 .turn) _ (c .before .before .before .place-argument .ensures) _ _ _ (c .before .before .before .before .before .loop .inv .0 .lent)

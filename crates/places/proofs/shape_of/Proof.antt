@@ -9,6 +9,7 @@ use lib.ListN.{length}
 use Rattle.places.proofs.Guaranteed.{length-classes}
 use Rattle.places.proofs.Records.{shape-is}
 use Rattle.types.specs.Decode.{tyAt}
+use Rattle.types.proofs.Table.{known-low, known-extent}
 use Rattle.places.proofs.shape_of.Statement.{statement}
 use Rattle.places.proofs.shape_of.Tie as tie
 
@@ -24,11 +25,11 @@ array-copy-out-second c = search needs
 kinds-of-requires : tie.Need-kinds-of-requires
 kinds-of-requires c κs = search needs
 
-size-of-requires : tie.Need-size-of-requires
-size-of-requires c κs = search needs
+extent-in-requires : tie.Need-extent-in-requires
+extent-in-requires c κs = known-low (now (c .before .before .before .before .before .args .d)) (now (c .before .before .before .before .before .args .table)) (c .before .before .before .before .before .pre .1 .sizes) (c .before .before .before .before .before .args .k) (c .before .before .before .before .before .pre .0 .sized)
 
 returns : tie.Need-returns
-returns c = shape-is (tyAt (now (c .before .before .before .before .before .before .before .before .args .d)) (c .before .before .before .before .before .before .before .before .args .k)) (c .before .before .before .before .before .before .classes-of .result) _ _ _ (c .before .before .before .before .before .before .classes-of .ensures) (rw (two NoClass (c .before .before .before .before .before .before .classes-of .result) (ap length (c .before .before .before .before .before .before .classes-of .ensures) ∙ length-classes (tyAt (now (c .before .before .before .before .before .before .before .before .args .d)) (c .before .before .before .before .before .before .before .before .args .k)))) (c .before .before .before .kinds-of .ensures)) (c .before .before .size-of .ensures .size) (c .before .before .size-of .ensures .align)
+returns c = shape-is (tyAt (now (c .before .before .before .before .before .before .before .before .args .d)) (c .before .before .before .before .before .before .before .before .args .k)) (c .before .before .before .before .before .before .classes-of .result) _ _ _ (c .before .before .before .before .before .before .classes-of .ensures) (rw (two NoClass (c .before .before .before .before .before .before .classes-of .result) (ap length (c .before .before .before .before .before .before .classes-of .ensures) ∙ length-classes (tyAt (now (c .before .before .before .before .before .before .before .before .args .d)) (c .before .before .before .before .before .before .before .before .args .k)))) (c .before .before .before .kinds-of .ensures)) (known-extent (now (c .before .before .before .before .before .before .before .before .args .d)) (now (c .before .before .before .before .before .before .before .before .args .table)) (c .before .before .before .before .before .before .before .before .pre .1 .sizes) (c .before .before .before .before .before .before .before .before .args .k) (c .before .before .before .before .before .before .before .before .pre .0 .sized) (c .before .before .extent-in .result) (c .before .before .extent-in .ensures) .size) (known-extent (now (c .before .before .before .before .before .before .before .before .args .d)) (now (c .before .before .before .before .before .before .before .before .args .table)) (c .before .before .before .before .before .before .before .before .pre .1 .sizes) (c .before .before .before .before .before .before .before .before .args .k) (c .before .before .before .before .before .before .before .before .pre .0 .sized) (c .before .before .extent-in .result) (c .before .before .extent-in .ensures) .align)
 
 pub shape-of-spec : {M : Type 1} → statement M
 shape-of-spec =
@@ -38,5 +39,5 @@ shape-of-spec =
     array-copy-out-first
     array-copy-out-second
     kinds-of-requires
-    size-of-requires
+    extent-in-requires
     returns)

@@ -10,13 +10,13 @@ use Rattle.walk.proofs.is_astray.Statement.{statement}
 use Rattle.walk.proofs.is_astray.Tie as tie
 
 byte-at-requires : tie.Need-byte-at-requires
-byte-at-requires c κs = omega (arith, headed (now (c .before .args .d)) (c .before .pre))
+byte-at-requires c κs = omega (arith, headed (now (c .before .args .d)) (c .before .pre .0))
 
 returns : tie.Need-returns
 returns c = astray-low (now (c .before .before .before .args .d)) (c .before .before .before .args .walk) (omega (arith, c .if1 .taken, c .before .byte-at .ensures))
 
 byte-at-requires-2 : tie.Need-byte-at-requires-2
-byte-at-requires-2 c κs = omega (arith, headed (now (c .before .before .before .args .d)) (c .before .before .before .pre))
+byte-at-requires-2 c κs = omega (arith, headed (now (c .before .before .before .args .d)) (c .before .before .before .pre .0))
 
 returns-2 : tie.Need-returns-2
 returns-2 c = astray-high (now (c .before .before .before .before .before .args .d)) (c .before .before .before .before .before .args .walk) (omega (arith, c .before .before .if1 .left, c .before .before .before .byte-at .ensures)) (omega (arith, c .if2 .taken, c .before .byte-at2 .ensures))

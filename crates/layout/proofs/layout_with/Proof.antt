@@ -1,0 +1,46 @@
+-- `layout_with` meets its contract.
+-- Assumes nothing.
+use mathlib.Core.Path.{sym, _∙_}
+use borrow.Author.Needs.{needs}
+use denote.Ref.{now}
+use Rattle.layout.proofs.Layouts.{answer-refused, answer-wide, answer-small}
+use Rattle.layout.proofs.Verdict.{accepted-uses, verdict-uses}
+use Rattle.layout.proofs.layout_with.Statement.{statement}
+use Rattle.layout.proofs.layout_with.Tie as tie
+
+uses-refusal-with-requires : tie.Need-uses-refusal-with-requires
+uses-refusal-with-requires c κs = search needs
+
+refusal-of-requires : tie.Need-refusal-of-requires
+refusal-of-requires c κs = search needs
+
+returns : tie.Need-returns
+returns c = (answer-refused (now (c .before .before .before .before .before .args .d)) _ _ (c .refusal-of .ensures) (verdict-uses (now (c .before .before .before .before .before .args .d)) (λ e. c .before .if1 .taken (c .before .before .uses-refusal-with .ensures .0 ∙ e)) ∙ sym (c .before .before .uses-refusal-with .ensures .0)) (c .before .if1 .taken), c .before .before .uses-refusal-with .ensures .1, λ e. absurd (c .before .if1 .taken (c .before .before .uses-refusal-with .ensures .0 ∙ accepted-uses (now (c .before .before .before .before .before .args .d)) e)))
+
+lay-requires : tie.Need-lay-requires
+lay-requires c κs = (sym (c .before .before .uses-refusal-with .ensures .0) ∙ c .before .if1 .left, record { sizes = c .before .before .uses-refusal-with .ensures .2 (sym (c .before .before .uses-refusal-with .ensures .0) ∙ c .before .if1 .left) })
+
+over-requires : tie.Need-over-requires
+over-requires c κs = search needs
+
+refusal-of-requires-2 : tie.Need-refusal-of-requires-2
+refusal-of-requires-2 c κs = search needs
+
+returns-2 : tie.Need-returns-2
+returns-2 c = (answer-wide (now (c .before .before .before .before .before .before .before .before .before .before .args .d)) (sym (c .before .before .before .before .before .before .before .uses-refusal-with .ensures .0) ∙ c .before .before .before .before .before .before .if1 .left) (c .before .before .before .before .lay .result) (c .before .before .before .before .lay .ensures) _ (c .refusal-of2 .ensures) (sym (c .before .before .over .ensures) ∙ c .before .if2 .taken), c .before .before .before .before .before .before .before .uses-refusal-with .ensures .1, λ e. record { sizes = c .before .before .before .before .before .before .before .uses-refusal-with .ensures .2 (accepted-uses (now (c .before .before .before .before .before .before .before .before .before .before .args .d)) e) })
+
+returns-3 : tie.Need-returns-3
+returns-3 c = (answer-small (now (c .before .before .before .before .before .before .before .before .before .args .d)) (sym (c .before .before .before .before .before .before .uses-refusal-with .ensures .0) ∙ c .before .before .before .before .before .if1 .left) (c .before .before .before .lay .result) (c .before .before .before .lay .ensures) (sym (c .before .over .ensures) ∙ c .if2 .left), c .before .before .before .before .before .before .uses-refusal-with .ensures .1, λ e. record { sizes = c .before .before .before .before .before .before .uses-refusal-with .ensures .2 (accepted-uses (now (c .before .before .before .before .before .before .before .before .before .args .d)) e) })
+
+pub layout-with-spec : {M : Type 1} → statement M
+layout-with-spec =
+    tie.close
+    (tie.spec
+    uses-refusal-with-requires
+    refusal-of-requires
+    returns
+    lay-requires
+    over-requires
+    refusal-of-requires-2
+    returns-2
+    returns-3)
