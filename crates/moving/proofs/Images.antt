@@ -29,7 +29,7 @@ unfolding blankBy
 length-blank true h n = simp length-replicate (omega arith)
 length-blank false h n = simp length-replicate (omega arith)
 
-getD-zeros : (n k : ℕ) → _≡_ {A = ℕ} (getD (replicate n 0) k 0) 0
+pub getD-zeros : (n k : ℕ) → _≡_ {A = ℕ} (getD (replicate n 0) k 0) 0
 getD-zeros zero k = refl
 getD-zeros (suc n) zero = refl
 getD-zeros (suc n) (suc k) = getD-zeros n k
@@ -55,16 +55,16 @@ blank-unseen h g n = refl
 -- ---- an accepted description
 
 -- each address of a list is in it
-all-present : (ps : List ℕ) (Q : ℕ → Type 0) → ((p : ℕ) → (Absent p ps → ⊥) → Q p) → All Q ps
+pub all-present : (ps : List ℕ) (Q : ℕ → Type 0) → ((p : ℕ) → (Absent p ps → ⊥) → Q p) → All Q ps
 all-present [] Q f = tt
 all-present (p ∷ ps) Q f = (f p (λ a. a .0 refl), all-present ps Q (λ q n. f q (λ a. n (a .1))))
 
-gather-at : (ps img : List ℕ) (k : ℕ) → k < length ps → getD (gather img ps) k 0 ≡ getD img (getD ps k 0) 0
+pub gather-at : (ps img : List ℕ) (k : ℕ) → k < length ps → getD (gather img ps) k 0 ≡ getD img (getD ps k 0) 0
 gather-at [] img k l = absurd (omega arith)
 gather-at (p ∷ ps) img zero l = refl
 gather-at (p ∷ ps) img (suc k) l = gather-at ps img k (omega arith)
 
-all-gather : (ps img : List ℕ) → All (λ p. getD img p 0 < 256) ps → All (λ b. b < 256) (gather img ps)
+pub all-gather : (ps img : List ℕ) → All (λ p. getD img p 0 < 256) ps → All (λ b. b < 256) (gather img ps)
 all-gather [] img h = tt
 all-gather (p ∷ ps) img h = (h .0, all-gather ps img (h .1))
 

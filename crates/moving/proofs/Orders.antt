@@ -21,7 +21,7 @@ use Rattle.moving.specs.Images.{valueStart}
 use Rattle.moving.specs.Statements.{BrokenAt}
 
 -- where none of the first i conditions holds, none of an order within them does
-none-left : (bs cs : List Bool) (n i : ℕ) → length bs ≤ i → ((j : ℕ) → j < i → getD (bs ++ cs) j false ≡ false) → first (numbered n bs) ≡ 0
+pub none-left : (bs cs : List Bool) (n i : ℕ) → length bs ≤ i → ((j : ℕ) → j < i → getD (bs ++ cs) j false ≡ false) → first (numbered n bs) ≡ 0
 none-left [] cs n i l f = refl
 none-left (true ∷ bs) cs n i l f = absurd (true≢false (f 0 (omega arith)))
 none-left (false ∷ bs) cs n zero l f = absurd (omega arith)

@@ -56,7 +56,7 @@ fn wrong_length(layout: Layout, values: Bytes, registers: Bytes, stack: Bytes) -
 }
 
 // Whether type k is _Bool, by its own record, and the byte is not 0 or 1.
-fn broken_byte(d: &[u8], k: usize, byte: usize) -> bool
+pub fn broken_byte(d: &[u8], k: usize, byte: usize) -> bool
     requires { ⌜ Whole (now d) × (k < typesIn (now d)) ⌝ }
     ensures { λ r. ⌜ r ≡ brokenByte (now (d .entry)) k byte ⌝ }
 {

@@ -1,7 +1,10 @@
 -- Each public function of `moving` meets its contract, and the contract is tight. Assumes nothing.
-use mathlib.Core.Path.{_≡_, sym, _∙_}
+use mathlib.Core.Path.{_≡_, refl, sym, _∙_}
 use Rattle.tightness.specs.Tight.{Meets, Tight}
-use Rattle.tightness.proofs.Laws.{bytes, result, settle}
+use Rattle.tightness.proofs.Laws.{bytes, equal, result, settle}
+use Rattle.moving.proofs.broken_byte
+use Rattle.moving.proofs.broken_byte.Met as broken-byte-met
+use Rattle.moving.proofs.broken_byte.Symbol as broken-byte-symbol
 use Rattle.moving.proofs.gather_values
 use Rattle.moving.proofs.gather_values.Met as gather-values-met
 use Rattle.moving.proofs.gather_values.Symbol as gather-values-symbol
@@ -29,3 +32,9 @@ tight-moving-gather-values c r q w v a b = (settle (result gather_values.ended c
   where
     values : w .1 .1 .1 .0 ≡ v .1 .1 .1 .0
     values = settle bytes (a .ensured) (b .ensured) (λ e f. e .1 ∙ sym (f .1))
+
+pub meets-moving-broken-byte : Meets broken_byte.ended (λ M. broken_byte.clauses {M = M}) broken-byte-symbol.routine
+meets-moving-broken-byte M = broken-byte-met.met
+
+pub tight-moving-broken-byte : Tight broken_byte.ended (λ M. broken_byte.clauses {M = M})
+tight-moving-broken-byte c r q w v a b = (equal (result broken_byte.ended c) (a .ensured) (b .ensured), refl)
