@@ -1,5 +1,6 @@
 /* A host of the call bridge. It reads the description of a call from standard input, says what types it has, lays the call out, places
-   made-up values, walks the unnamed arguments as the called function would, and gathers the values again.
+   made-up values, walks the unnamed arguments as the called function would, gathers the values again, and brings a
+   returned value back.
 
        rt staticlib callbridge
        gcc -std=c11 -Wall -Wextra -Werror -pedantic -I include examples/host.c target/staticlib/libcallbridge.a -o target/host
@@ -205,6 +206,34 @@ static int gather(const call *c)
     return 0;
 }
 
+/* The size of the returned type, 0 for void: byte 9 of a description is its number. */
+static size_t returned_size(const call *c)
+{
+    cb_extent extent;
+    if (cb_type_extent(c->description, c->length, c->description[9], &extent).number != CB_ACCEPTED) {
+        return 0;
+    }
+    return extent.size;
+}
+
+/* What the module's function would leave, and how the host finds it: a value of the returned type's size. */
+static int bring_back(const call *c)
+{
+    uint8_t value[CB_MAX_TYPE], back[CB_MAX_TYPE], image[CB_RETURN_IMAGE];
+    size_t size = c->layout.hidden ? 0 : returned_size(c);
+    cb_gathered taken;
+    for (size_t i = 0; i < size; i++) {
+        value[i] = (uint8_t)(0x80 + i);
+    }
+    if (refused("put", cb_put_returned(c->description, c->length, 0, value, size, image, sizeof image)) ||
+        refused("take", cb_take_returned(c->description, c->length, image, sizeof image, back, size, &taken))) {
+        return 1;
+    }
+    printf("returned:");
+    print_bytes(back, size);
+    return 0;
+}
+
 int main(void)
 {
     static call c;
@@ -223,5 +252,5 @@ int main(void)
     }
     print_layout(&c);
     make_values(&c);
-    return place(&c) || visit(&c) || gather(&c);
+    return place(&c) || visit(&c) || gather(&c) || bring_back(&c);
 }

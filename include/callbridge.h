@@ -44,6 +44,7 @@ extern "C" {
 #define CB_MAX_AREA 16384        /* bytes of the stack image */
 #define CB_SEAT_LENGTH 586       /* bytes of a seat, exactly */
 #define CB_REGISTER_IMAGE 176    /* bytes of the register image, exactly: rdi, rsi, rdx, rcx, r8, r9 at 8 bytes, xmm0 to xmm7 at 16 */
+#define CB_RETURN_IMAGE 80       /* bytes of the return image, exactly: rax, rdx at 8 bytes, xmm0, xmm1, st0, st1 at 16 */
 #define CB_LISTING_ROOM 4096     /* bytes of the buffer of cb_write_listing, exactly */
 
 /* ---- refusals */
@@ -189,7 +190,7 @@ typedef struct cb_placed {
     size_t vector_registers;
 } cb_placed;
 
-/* What gathering gives: the hidden address, 0 where none is passed. */
+/* What gathering and taking give: the hidden address, 0 where none is passed. */
 typedef struct cb_gathered {
     uint64_t hidden;
 } cb_gathered;
@@ -256,6 +257,18 @@ cb_refusal cb_gather_values(const uint8_t *description, size_t description_lengt
                             const uint8_t *registers, size_t registers_length,
                             const uint8_t *stack, size_t stack_length,
                             uint8_t *values, size_t values_length, cb_gathered *gathered);
+
+/* Puts a returned value into the return image, and zeros everywhere else in it: what the called function leaves. A value in memory has
+   length 0 here: rax holds the hidden address, which is looked at in no other case; void has length 0 too. Of each long double ten
+   bytes are put, the other six are zero. Refused 1 to 10, then 11 for a length other than the returned type's size or
+   CB_RETURN_IMAGE, then 12 for a returned _Bool's byte that is not 0 or 1. */
+cb_refusal cb_put_returned(const uint8_t *description, size_t description_length, uint64_t hidden,
+                           const uint8_t *value, size_t value_length, uint8_t *image, size_t image_length);
+
+/* The reverse: takes the returned value out of the image, zeros for the six last bytes of a long double, and the hidden address.
+   Refused 1 to 10, then 11 as cb_put_returned. */
+cb_refusal cb_take_returned(const uint8_t *description, size_t description_length, const uint8_t *image, size_t image_length,
+                            uint8_t *value, size_t value_length, cb_gathered *taken);
 
 /* ---- calls: station and walk. A seat has CB_SEAT_LENGTH bytes, and belongs to one station. */
 

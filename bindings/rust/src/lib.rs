@@ -32,7 +32,9 @@ mod station;
 mod types;
 
 pub use layout::{lay_out, layout, Layout, Place, Placement, Register, Returned};
-pub use moving::{gather, place, Images, REGISTER_IMAGE};
+pub use moving::{
+    gather, place, put_returned, take_returned, Images, REGISTER_IMAGE, RETURN_IMAGE,
+};
 pub use refusal::Refusal;
 pub use station::{Station, Walk, SEAT};
 pub use types::{check, classes, extent, listing, members, Class, Extent};

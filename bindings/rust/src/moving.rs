@@ -70,3 +70,53 @@ pub fn gather(description: &[u8], images: &Images, values: &mut [u8]) -> Result<
     Refusal::of(answer)?;
     Ok(gathered.hidden)
 }
+
+/// Bytes of the return image: rax, rdx at 8 bytes, then xmm0, xmm1, st0, st1 at 16.
+pub const RETURN_IMAGE: usize = 80;
+
+/// Puts a returned value into the return image, zeros everywhere else: what the called function
+/// leaves. A value in memory has length 0, and so has void. Refused 1 to 10, 11 for a length, 12 for a
+/// `_Bool` that is not 0 or 1.
+pub fn put_returned(
+    description: &[u8],
+    hidden: u64,
+    value: &[u8],
+    image: &mut [u8; RETURN_IMAGE],
+) -> Result<(), Refusal> {
+    // Safety: as in `place`.
+    Refusal::of(unsafe {
+        raw::cb_put_returned(
+            description.as_ptr(),
+            description.len(),
+            hidden,
+            value.as_ptr(),
+            value.len(),
+            image.as_mut_ptr(),
+            image.len(),
+        )
+    })
+}
+
+/// Takes a returned value out of the return image. Answers the hidden address, 0 where none is
+/// passed. Refused 1 to 10, 11 for a length.
+pub fn take_returned(
+    description: &[u8],
+    image: &[u8; RETURN_IMAGE],
+    value: &mut [u8],
+) -> Result<u64, Refusal> {
+    let mut taken = raw::Gathered { hidden: 0 };
+    // Safety: as in `place`.
+    let answer = unsafe {
+        raw::cb_take_returned(
+            description.as_ptr(),
+            description.len(),
+            image.as_ptr(),
+            image.len(),
+            value.as_mut_ptr(),
+            value.len(),
+            &mut taken,
+        )
+    };
+    Refusal::of(answer)?;
+    Ok(taken.hidden)
+}

@@ -143,6 +143,24 @@ extern "C" {
         values_length: usize,
         gathered: *mut Gathered,
     ) -> Refusal;
+    pub fn cb_put_returned(
+        d: *const u8,
+        n: usize,
+        hidden: u64,
+        value: *const u8,
+        value_length: usize,
+        image: *mut u8,
+        image_length: usize,
+    ) -> Refusal;
+    pub fn cb_take_returned(
+        d: *const u8,
+        n: usize,
+        image: *const u8,
+        image_length: usize,
+        value: *mut u8,
+        value_length: usize,
+        taken: *mut Gathered,
+    ) -> Refusal;
     pub fn cb_new_station() -> Station;
     pub fn cb_attach(
         station: *mut Station,

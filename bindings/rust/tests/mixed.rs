@@ -55,6 +55,18 @@ fn values_come_back() {
 }
 
 #[test]
+fn a_returned_value_comes_back() {
+    let mut image = [1; callbridge::RETURN_IMAGE];
+    let level = 0.25f64.to_le_bytes();
+    callbridge::put_returned(MIXED, 0, &level, &mut image).unwrap();
+    assert_eq!(&image[16..24], level);
+    let mut value = [0; 8];
+    assert_eq!(callbridge::take_returned(MIXED, &image, &mut value), Ok(0));
+    assert_eq!(value, level);
+    assert_eq!(callbridge::put_returned(MIXED, 0, &[], &mut image).map_err(number), Err(11));
+}
+
+#[test]
 fn a_walk_ends_when_its_module_leaves() {
     let layout = callbridge::layout(MIXED).unwrap();
     let mut images = Images::new(&layout);

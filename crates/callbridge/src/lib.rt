@@ -22,6 +22,7 @@ ghost use Rattle.layout.specs.Layout.{layoutAnswer};
 ghost use Rattle.layout.specs.Placements.{listCount, filled};
 ghost use Rattle.layout.specs.Verdict.{verdict};
 ghost use Rattle.moving.specs.Answers.{placeAnswer, registersAfter, stackAfter, gatherAnswer, valuesAfter};
+ghost use Rattle.returning.specs.Answers.{putAnswer, imageAfter, takeAnswer, valueAfter};
 ghost use Rattle.station.specs.Paper.{kcb};
 ghost use Rattle.station.specs.Attachment.{newStation, attachRefusal, attachStation, attachSeat, detachRefusal, detachStation, detachSeat};
 ghost use Rattle.walk.specs.Orders.{asking, stepRefusal};
@@ -30,7 +31,7 @@ ghost use Rattle.show.specs.Show.{shownAnswer};
 ghost use Rattle.listing.specs.Listing.{listing};
 ghost use Rattle.given.specs.Outcome.{refusalIn, leftIn};
 ghost use Rattle.given.specs.Given.{extentGiven, classesGiven, runGiven, layoutGiven};
-ghost use Rattle.handed.specs.Handed.{placedGiven, gatheredGiven, openGiven, shownGiven};
+ghost use Rattle.handed.specs.Handed.{placedGiven, gatheredGiven, putGiven, takenGiven, openGiven, shownGiven};
 ghost use Rattle.given.specs.Lists.{listGiven, flatAt};
 
 // CB_VERSION.
@@ -157,6 +158,32 @@ pub extern "C" fn cb_gather_values(
         × (now (values .exit) ≡ valuesAfter (now (d .entry)) (now (registers .entry)) (now (stack .entry)) (now (values .entry)))) ⌝ }
 {
     let given = handed::give_gathered(d, registers, stack, values, *gathered);
+    *gathered = given.gathered;
+    given.refusal
+}
+
+// A returned value into the return image.
+#[no_mangle]
+pub extern "C" fn cb_put_returned(d: &[u8], hidden: u64, value: &[u8], image: &mut [u8]) -> Refusal
+    ensures { λ r. ⌜ (r ≡ putGiven (putAnswer (now (d .entry)) (now (value .entry)) (length (now (image .entry)))))
+        × (now (image .exit) ≡ imageAfter (now (d .entry)) hidden (now (value .entry)) (now (image .entry))) ⌝ }
+{
+    handed::give_put(d, hidden, value, image)
+}
+
+// A returned value out of the return image.
+#[no_mangle]
+pub extern "C" fn cb_take_returned(
+    d: &[u8],
+    image: &[u8],
+    value: &mut [u8],
+    gathered: &mut Gathered,
+) -> Refusal
+    ensures { λ r. ⌜ (r ≡ refusalIn (takenGiven (takeAnswer (now (d .entry)) (now (image .entry)) (length (now (value .entry))))))
+        × ((now (gathered .exit) ≡ leftIn (takenGiven (takeAnswer (now (d .entry)) (now (image .entry)) (length (now (value .entry))))) (now (gathered .entry)))
+        × (now (value .exit) ≡ valueAfter (now (d .entry)) (now (image .entry)) (now (value .entry)))) ⌝ }
+{
+    let given = handed::give_taken(d, image, value, *gathered);
     *gathered = given.gathered;
     given.refusal
 }

@@ -5,6 +5,12 @@ use Rattle.moving.specs.declared.PlaceAnswer.{PlaceAnswer}
 use Rattle.moving.specs.declared.PlaceAnswer.the-variants.{Placed as Put, Refused as NotPut}
 use Rattle.moving.specs.declared.GatherAnswer.{GatherAnswer}
 use Rattle.moving.specs.declared.GatherAnswer.the-variants.{Gathered as Got, Refused as NotGot}
+use Rattle.form.specs.declared.Refusal.{Refusal}
+use Rattle.form.specs.Reading.{refusalOf}
+use Rattle.returning.specs.declared.PutAnswer.{PutAnswer}
+use Rattle.returning.specs.declared.PutAnswer.the-variants.{Put as PutIn, Refused as NotPutIn}
+use Rattle.returning.specs.declared.TakeAnswer.{TakeAnswer}
+use Rattle.returning.specs.declared.TakeAnswer.the-variants.{Taken, Refused as NotTaken}
 use Rattle.walk.specs.declared.Walk.{Walk}
 use Rattle.walk.specs.declared.OpenAnswer.{OpenAnswer}
 use Rattle.walk.specs.declared.OpenAnswer.the-variants.{Opened, Refused as NotOpened}
@@ -25,6 +31,16 @@ placedGiven (NotPut r) = refuses r
 abbrev pub gatheredGiven : GatherAnswer → Outcome Gathered
 gatheredGiven (Got h) = gives (record { hidden = h })
 gatheredGiven (NotGot r) = refuses r
+
+-- cb_put_returned
+abbrev pub putGiven : PutAnswer → Refusal
+putGiven PutIn = refusalOf 0
+putGiven (NotPutIn r) = r
+
+-- cb_take_returned
+abbrev pub takenGiven : TakeAnswer → Outcome Gathered
+takenGiven (Taken h) = gives (record { hidden = h })
+takenGiven (NotTaken r) = refuses r
 
 -- cb_open_walk
 abbrev pub openGiven : OpenAnswer → Outcome Walk

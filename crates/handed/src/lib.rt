@@ -4,6 +4,8 @@ use flat::Part;
 use form::Refusal;
 use moving::GatherAnswer;
 use moving::PlaceAnswer;
+use returning::PutAnswer;
+use returning::TakeAnswer;
 use show::ShownAnswer;
 use station::Station;
 use units::Bytes;
@@ -14,12 +16,13 @@ ghost use mathlib.Core.Path.{_≡_};
 ghost use mathlib.Core.List.{[]};
 ghost use lib.ListN.{length};
 ghost use Rattle.moving.specs.Answers.{placeAnswer, registersAfter, stackAfter, gatherAnswer, valuesAfter};
+ghost use Rattle.returning.specs.Answers.{putAnswer, imageAfter, takeAnswer, valueAfter};
 ghost use Rattle.station.specs.Paper.{kcb};
 ghost use Rattle.walk.specs.Orders.{asking};
 ghost use Rattle.walk.specs.Steps.{openAnswer};
 ghost use Rattle.show.specs.Show.{shownAnswer};
 ghost use Rattle.given.specs.Outcome.{refusalIn, leftIn};
-ghost use Rattle.handed.specs.Handed.{placedGiven, gatheredGiven, openGiven, shownGiven};
+ghost use Rattle.handed.specs.Handed.{placedGiven, gatheredGiven, putGiven, takenGiven, openGiven, shownGiven};
 
 // cb_placed: the vector count, for al.
 #[repr(C)]
@@ -27,7 +30,7 @@ pub struct Placed {
     pub vector: Registers,
 }
 
-// cb_gathered: the hidden address, 0 where none is used.
+// cb_gathered: the hidden address, of the arguments or of a returned value, 0 where none is used.
 #[repr(C)]
 pub struct Gathered {
     pub hidden: u64,
@@ -100,6 +103,37 @@ pub fn give_gathered(
         },
         GatherAnswer::Refused(refusal) => GivenGathered {
             gathered: before,
+            refusal: refusal,
+        },
+    }
+}
+
+// Putting a returned value, with the return image at exit.
+pub fn give_put(d: &[u8], hidden: u64, value: &[u8], image: &mut [u8]) -> Refusal
+    ensures { λ r. ⌜ (r ≡ putGiven (putAnswer (now (d .entry)) (now (value .entry)) (length (now (image .entry)))))
+        × (now (image .exit) ≡ imageAfter (now (d .entry)) hidden (now (value .entry)) (now (image .entry))) ⌝ }
+{
+    let answer = returning::put_returned(d, hidden, value, image);
+    match answer {
+        PutAnswer::Put => form::refusal_of(0),
+        PutAnswer::Refused(refusal) => refusal,
+    }
+}
+
+// Taking a returned value, with its bytes at exit.
+pub fn give_taken(d: &[u8], image: &[u8], value: &mut [u8], held: Gathered) -> GivenGathered
+    ensures { λ r. ⌜ (r .refusal ≡ refusalIn (takenGiven (takeAnswer (now (d .entry)) (now (image .entry)) (length (now (value .entry))))))
+        × ((r .gathered ≡ leftIn (takenGiven (takeAnswer (now (d .entry)) (now (image .entry)) (length (now (value .entry))))) held)
+        × (now (value .exit) ≡ valueAfter (now (d .entry)) (now (image .entry)) (now (value .entry)))) ⌝ }
+{
+    let answer = returning::take_returned(d, image, value);
+    match answer {
+        TakeAnswer::Taken(address) => GivenGathered {
+            gathered: Gathered { hidden: address },
+            refusal: form::refusal_of(0),
+        },
+        TakeAnswer::Refused(refusal) => GivenGathered {
+            gathered: held,
             refusal: refusal,
         },
     }

@@ -5,6 +5,7 @@ pub mod Demand1
 pub mod Merging
 pub mod Placements
 pub mod Demand2
+pub mod BringingBack
 pub mod PlacedFor
 pub mod ValueBytes
 pub mod Demand3

@@ -2,5 +2,6 @@ pub mod Meaning
 pub mod Orders
 pub mod Demand1
 pub mod Demand2
+pub mod BringingBack
 pub mod Demand3
 pub mod Calls

@@ -19,6 +19,8 @@ use Rattle.layout.proofs.lay_out
 use Rattle.layout.proofs.begin
 use Rattle.moving.proofs.place_values
 use Rattle.moving.proofs.gather_values
+use Rattle.returning.proofs.put_returned
+use Rattle.returning.proofs.take_returned
 use Rattle.station.proofs.new_station
 use Rattle.station.proofs.attach
 use Rattle.station.proofs.attaching
@@ -47,6 +49,8 @@ use Rattle.callbridge.proofs.cb_lay_out
 use Rattle.callbridge.proofs.cb_write_listing
 use Rattle.callbridge.proofs.cb_place_values
 use Rattle.callbridge.proofs.cb_gather_values
+use Rattle.callbridge.proofs.cb_put_returned
+use Rattle.callbridge.proofs.cb_take_returned
 use Rattle.callbridge.proofs.cb_new_station
 use Rattle.callbridge.proofs.cb_attach
 use Rattle.callbridge.proofs.cb_detach
@@ -107,6 +111,12 @@ total-moving-place-values c g = refl
 
 pub total-moving-gather-values : Total gather_values.ended (λ M. gather_values.clauses {M = M})
 total-moving-gather-values c g = refl
+
+pub total-returning-put-returned : Total put_returned.ended (λ M. put_returned.clauses {M = M})
+total-returning-put-returned c g = refl
+
+pub total-returning-take-returned : Total take_returned.ended (λ M. take_returned.clauses {M = M})
+total-returning-take-returned c g = refl
 
 pub total-station-new-station : Total new_station.ended (λ M. new_station.clauses {M = M})
 total-station-new-station c g = refl
@@ -191,6 +201,12 @@ total-callbridge-cb-place-values c g = refl
 
 pub total-callbridge-cb-gather-values : Total cb_gather_values.ended (λ M. cb_gather_values.clauses {M = M})
 total-callbridge-cb-gather-values c g = refl
+
+pub total-callbridge-cb-put-returned : Total cb_put_returned.ended (λ M. cb_put_returned.clauses {M = M})
+total-callbridge-cb-put-returned c g = refl
+
+pub total-callbridge-cb-take-returned : Total cb_take_returned.ended (λ M. cb_take_returned.clauses {M = M})
+total-callbridge-cb-take-returned c g = refl
 
 pub total-callbridge-cb-new-station : Total cb_new_station.ended (λ M. cb_new_station.clauses {M = M})
 total-callbridge-cb-new-station c g = refl

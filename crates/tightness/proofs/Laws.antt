@@ -11,8 +11,6 @@ use denote.Triple.Entry.{Res}
 use denote.Triple.Clauses.{Ended}
 use Rattle.tightness.specs.Tight.{Call}
 use Rattle.addresses.proofs.Parts.{split-image}
-use Rattle.types.specs.declared.Extent.{Extent}
-use Rattle.types.specs.Table.{IsEntry}
 use Rattle.form.specs.declared.Refusal.{Refusal}
 use Rattle.places.specs.declared.Shape.{Shape as Coded′}
 use Rattle.places.proofs.Records.{asked-same}
@@ -43,9 +41,6 @@ pub equal : {X : Type 0} (c : Coded X) {x y z : X} {A B : Type 1} → ∥ (x ≡
 equal c p q = settle c p q (λ e f. e ∙ sym f)
 
 -- ---- contracts that give a meaning: it determines the record
-
-pub entry-same : {entry : ℕ} (r q : Extent) → IsEntry entry r → IsEntry entry q → r ≡ q
-entry-same r q e f i = record { size = record { 0 = (e .size ∙ sym (f .size)) i }; align = record { 0 = (e .align ∙ sym (f .align)) i } }
 
 -- the fetch that a source was made of
 abbrev fetchOf : Source → Fetch

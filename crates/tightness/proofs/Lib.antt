@@ -12,6 +12,8 @@ pub mod OfPlaces
 pub mod OfLayout
 pub mod OfImages
 pub mod OfMoving
+pub mod OfReturnImage
+pub mod OfReturning
 pub mod OfStation
 pub mod OfWalk
 pub mod OfStep

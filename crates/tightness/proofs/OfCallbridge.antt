@@ -2,64 +2,70 @@
 use mathlib.Core.Path.{_≡_, refl, sym, _∙_}
 use Rattle.tightness.specs.Tight.{Meets, Tight}
 use Rattle.tightness.proofs.Laws.{bytes, equal, result, settle}
-use base.Stored.{codedList}
-use Rattle.types.proofs.Extent
 use Rattle.flat.proofs.Classes
-use Rattle.flat.proofs.Part
 use Rattle.flat.proofs.Layout
+use Rattle.flat.proofs.Part
 use Rattle.flat.proofs.Placement
-use Rattle.handed.proofs.Placed
 use Rattle.handed.proofs.Gathered
+use Rattle.handed.proofs.Placed
 use Rattle.station.proofs.Station
+use Rattle.types.proofs.Extent
 use Rattle.walk.proofs.Walk
-use Rattle.callbridge.proofs.cb_version
-use Rattle.callbridge.proofs.cb_version.Met as cb-version-met
-use Rattle.callbridge.proofs.cb_version.Symbol as cb-version-symbol
-use Rattle.callbridge.proofs.cb_check
-use Rattle.callbridge.proofs.cb_check.Met as cb-check-met
-use Rattle.callbridge.proofs.cb_check.Symbol as cb-check-symbol
-use Rattle.callbridge.proofs.cb_type_extent
-use Rattle.callbridge.proofs.cb_type_extent.Met as cb-type-extent-met
-use Rattle.callbridge.proofs.cb_type_extent.Symbol as cb-type-extent-symbol
-use Rattle.callbridge.proofs.cb_type_classes
-use Rattle.callbridge.proofs.cb_type_classes.Met as cb-type-classes-met
-use Rattle.callbridge.proofs.cb_type_classes.Symbol as cb-type-classes-symbol
-use Rattle.callbridge.proofs.cb_member_run
-use Rattle.callbridge.proofs.cb_member_run.Met as cb-member-run-met
-use Rattle.callbridge.proofs.cb_member_run.Symbol as cb-member-run-symbol
-use Rattle.callbridge.proofs.cb_layout_of
-use Rattle.callbridge.proofs.cb_layout_of.Met as cb-layout-of-met
-use Rattle.callbridge.proofs.cb_layout_of.Symbol as cb-layout-of-symbol
-use Rattle.callbridge.proofs.cb_lay_out
-use Rattle.callbridge.proofs.cb_lay_out.Met as cb-lay-out-met
-use Rattle.callbridge.proofs.cb_lay_out.Symbol as cb-lay-out-symbol
-use Rattle.callbridge.proofs.cb_write_listing
-use Rattle.callbridge.proofs.cb_write_listing.Met as cb-write-listing-met
-use Rattle.callbridge.proofs.cb_write_listing.Symbol as cb-write-listing-symbol
-use Rattle.callbridge.proofs.cb_place_values
-use Rattle.callbridge.proofs.cb_place_values.Met as cb-place-values-met
-use Rattle.callbridge.proofs.cb_place_values.Symbol as cb-place-values-symbol
-use Rattle.callbridge.proofs.cb_gather_values
-use Rattle.callbridge.proofs.cb_gather_values.Met as cb-gather-values-met
-use Rattle.callbridge.proofs.cb_gather_values.Symbol as cb-gather-values-symbol
-use Rattle.callbridge.proofs.cb_new_station
-use Rattle.callbridge.proofs.cb_new_station.Met as cb-new-station-met
-use Rattle.callbridge.proofs.cb_new_station.Symbol as cb-new-station-symbol
+use base.Stored.{codedList}
 use Rattle.callbridge.proofs.cb_attach
 use Rattle.callbridge.proofs.cb_attach.Met as cb-attach-met
 use Rattle.callbridge.proofs.cb_attach.Symbol as cb-attach-symbol
+use Rattle.callbridge.proofs.cb_check
+use Rattle.callbridge.proofs.cb_check.Met as cb-check-met
+use Rattle.callbridge.proofs.cb_check.Symbol as cb-check-symbol
 use Rattle.callbridge.proofs.cb_detach
 use Rattle.callbridge.proofs.cb_detach.Met as cb-detach-met
 use Rattle.callbridge.proofs.cb_detach.Symbol as cb-detach-symbol
+use Rattle.callbridge.proofs.cb_gather_values
+use Rattle.callbridge.proofs.cb_gather_values.Met as cb-gather-values-met
+use Rattle.callbridge.proofs.cb_gather_values.Symbol as cb-gather-values-symbol
+use Rattle.callbridge.proofs.cb_lay_out
+use Rattle.callbridge.proofs.cb_lay_out.Met as cb-lay-out-met
+use Rattle.callbridge.proofs.cb_lay_out.Symbol as cb-lay-out-symbol
+use Rattle.callbridge.proofs.cb_layout_of
+use Rattle.callbridge.proofs.cb_layout_of.Met as cb-layout-of-met
+use Rattle.callbridge.proofs.cb_layout_of.Symbol as cb-layout-of-symbol
+use Rattle.callbridge.proofs.cb_member_run
+use Rattle.callbridge.proofs.cb_member_run.Met as cb-member-run-met
+use Rattle.callbridge.proofs.cb_member_run.Symbol as cb-member-run-symbol
+use Rattle.callbridge.proofs.cb_new_station
+use Rattle.callbridge.proofs.cb_new_station.Met as cb-new-station-met
+use Rattle.callbridge.proofs.cb_new_station.Symbol as cb-new-station-symbol
 use Rattle.callbridge.proofs.cb_open_walk
 use Rattle.callbridge.proofs.cb_open_walk.Met as cb-open-walk-met
 use Rattle.callbridge.proofs.cb_open_walk.Symbol as cb-open-walk-symbol
-use Rattle.callbridge.proofs.cb_step
-use Rattle.callbridge.proofs.cb_step.Met as cb-step-met
-use Rattle.callbridge.proofs.cb_step.Symbol as cb-step-symbol
+use Rattle.callbridge.proofs.cb_place_values
+use Rattle.callbridge.proofs.cb_place_values.Met as cb-place-values-met
+use Rattle.callbridge.proofs.cb_place_values.Symbol as cb-place-values-symbol
+use Rattle.callbridge.proofs.cb_put_returned
+use Rattle.callbridge.proofs.cb_put_returned.Met as cb-put-returned-met
+use Rattle.callbridge.proofs.cb_put_returned.Symbol as cb-put-returned-symbol
 use Rattle.callbridge.proofs.cb_show
 use Rattle.callbridge.proofs.cb_show.Met as cb-show-met
 use Rattle.callbridge.proofs.cb_show.Symbol as cb-show-symbol
+use Rattle.callbridge.proofs.cb_step
+use Rattle.callbridge.proofs.cb_step.Met as cb-step-met
+use Rattle.callbridge.proofs.cb_step.Symbol as cb-step-symbol
+use Rattle.callbridge.proofs.cb_take_returned
+use Rattle.callbridge.proofs.cb_take_returned.Met as cb-take-returned-met
+use Rattle.callbridge.proofs.cb_take_returned.Symbol as cb-take-returned-symbol
+use Rattle.callbridge.proofs.cb_type_classes
+use Rattle.callbridge.proofs.cb_type_classes.Met as cb-type-classes-met
+use Rattle.callbridge.proofs.cb_type_classes.Symbol as cb-type-classes-symbol
+use Rattle.callbridge.proofs.cb_type_extent
+use Rattle.callbridge.proofs.cb_type_extent.Met as cb-type-extent-met
+use Rattle.callbridge.proofs.cb_type_extent.Symbol as cb-type-extent-symbol
+use Rattle.callbridge.proofs.cb_version
+use Rattle.callbridge.proofs.cb_version.Met as cb-version-met
+use Rattle.callbridge.proofs.cb_version.Symbol as cb-version-symbol
+use Rattle.callbridge.proofs.cb_write_listing
+use Rattle.callbridge.proofs.cb_write_listing.Met as cb-write-listing-met
+use Rattle.callbridge.proofs.cb_write_listing.Symbol as cb-write-listing-symbol
 
 pub meets-callbridge-cb-version : Meets cb_version.ended (λ M. cb_version.clauses {M = M}) cb-version-symbol.routine
 meets-callbridge-cb-version M = cb-version-met.met
@@ -155,6 +161,27 @@ tight-callbridge-cb-gather-values c r q w v a b = (settle (result cb_gather_valu
     values = settle bytes (a .ensured) (b .ensured) (λ e f. e .1 .1 ∙ sym (f .1 .1))
 
     gathered : w .1 .1 .1 .1 .0 ≡ v .1 .1 .1 .1 .0
+    gathered = settle (Gathered.the-row .coded) (a .ensured) (b .ensured) (λ e f. e .1 .0 ∙ sym (f .1 .0))
+
+pub meets-callbridge-cb-put-returned : Meets cb_put_returned.ended (λ M. cb_put_returned.clauses {M = M}) cb-put-returned-symbol.routine
+meets-callbridge-cb-put-returned M = cb-put-returned-met.met
+
+pub tight-callbridge-cb-put-returned : Tight cb_put_returned.ended (λ M. cb_put_returned.clauses {M = M})
+tight-callbridge-cb-put-returned c r q w v a b = (settle (result cb_put_returned.ended c) (a .ensured) (b .ensured) (λ e f. e .0 ∙ sym (f .0)), λ i. (tt, (tt, (tt, (image i, tt)))))
+  where
+    image : w .1 .1 .1 .0 ≡ v .1 .1 .1 .0
+    image = settle bytes (a .ensured) (b .ensured) (λ e f. e .1 ∙ sym (f .1))
+
+pub meets-callbridge-cb-take-returned : Meets cb_take_returned.ended (λ M. cb_take_returned.clauses {M = M}) cb-take-returned-symbol.routine
+meets-callbridge-cb-take-returned M = cb-take-returned-met.met
+
+pub tight-callbridge-cb-take-returned : Tight cb_take_returned.ended (λ M. cb_take_returned.clauses {M = M})
+tight-callbridge-cb-take-returned c r q w v a b = (settle (result cb_take_returned.ended c) (a .ensured) (b .ensured) (λ e f. e .0 ∙ sym (f .0)), λ i. (tt, (tt, (value i, (gathered i, tt)))))
+  where
+    value : w .1 .1 .0 ≡ v .1 .1 .0
+    value = settle bytes (a .ensured) (b .ensured) (λ e f. e .1 .1 ∙ sym (f .1 .1))
+
+    gathered : w .1 .1 .1 .0 ≡ v .1 .1 .1 .0
     gathered = settle (Gathered.the-row .coded) (a .ensured) (b .ensured) (λ e f. e .1 .0 ∙ sym (f .1 .0))
 
 pub meets-callbridge-cb-new-station : Meets cb_new_station.ended (λ M. cb_new_station.clauses {M = M}) cb-new-station-symbol.routine

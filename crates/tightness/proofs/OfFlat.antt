@@ -2,12 +2,12 @@
 use mathlib.Core.Path.{refl}
 use Rattle.tightness.specs.Tight.{Meets, Tight}
 use Rattle.tightness.proofs.Laws.{equal, result}
-use Rattle.flat.proofs.placement_of
-use Rattle.flat.proofs.placement_of.Met as placement-of-met
-use Rattle.flat.proofs.placement_of.Symbol as placement-of-symbol
 use Rattle.flat.proofs.layout_of
 use Rattle.flat.proofs.layout_of.Met as layout-of-met
 use Rattle.flat.proofs.layout_of.Symbol as layout-of-symbol
+use Rattle.flat.proofs.placement_of
+use Rattle.flat.proofs.placement_of.Met as placement-of-met
+use Rattle.flat.proofs.placement_of.Symbol as placement-of-symbol
 
 pub meets-flat-placement-of : Meets placement_of.ended (λ M. placement_of.clauses {M = M}) placement-of-symbol.routine
 meets-flat-placement-of M = placement-of-met.met

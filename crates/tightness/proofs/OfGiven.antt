@@ -2,21 +2,21 @@
 use mathlib.Core.Path.{refl, sym, _∙_}
 use Rattle.tightness.specs.Tight.{Meets, Tight}
 use Rattle.tightness.proofs.Laws.{equal, result, settle}
-use Rattle.given.proofs.give_extent
-use Rattle.given.proofs.give_extent.Met as give-extent-met
-use Rattle.given.proofs.give_extent.Symbol as give-extent-symbol
-use Rattle.given.proofs.give_classes
-use Rattle.given.proofs.give_classes.Met as give-classes-met
-use Rattle.given.proofs.give_classes.Symbol as give-classes-symbol
-use Rattle.given.proofs.give_run
-use Rattle.given.proofs.give_run.Met as give-run-met
-use Rattle.given.proofs.give_run.Symbol as give-run-symbol
-use Rattle.given.proofs.give_layout
-use Rattle.given.proofs.give_layout.Met as give-layout-met
-use Rattle.given.proofs.give_layout.Symbol as give-layout-symbol
 use Rattle.given.proofs.begin_list
 use Rattle.given.proofs.begin_list.Met as begin-list-met
 use Rattle.given.proofs.begin_list.Symbol as begin-list-symbol
+use Rattle.given.proofs.give_classes
+use Rattle.given.proofs.give_classes.Met as give-classes-met
+use Rattle.given.proofs.give_classes.Symbol as give-classes-symbol
+use Rattle.given.proofs.give_extent
+use Rattle.given.proofs.give_extent.Met as give-extent-met
+use Rattle.given.proofs.give_extent.Symbol as give-extent-symbol
+use Rattle.given.proofs.give_layout
+use Rattle.given.proofs.give_layout.Met as give-layout-met
+use Rattle.given.proofs.give_layout.Symbol as give-layout-symbol
+use Rattle.given.proofs.give_run
+use Rattle.given.proofs.give_run.Met as give-run-met
+use Rattle.given.proofs.give_run.Symbol as give-run-symbol
 use Rattle.given.proofs.place_flat
 use Rattle.given.proofs.place_flat.Met as place-flat-met
 use Rattle.given.proofs.place_flat.Symbol as place-flat-symbol

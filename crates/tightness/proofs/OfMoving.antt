@@ -12,6 +12,12 @@ use Rattle.moving.proofs.place_values
 use Rattle.moving.proofs.place_values.Met as place-values-met
 use Rattle.moving.proofs.place_values.Symbol as place-values-symbol
 
+pub meets-moving-broken-byte : Meets broken_byte.ended (λ M. broken_byte.clauses {M = M}) broken-byte-symbol.routine
+meets-moving-broken-byte M = broken-byte-met.met
+
+pub tight-moving-broken-byte : Tight broken_byte.ended (λ M. broken_byte.clauses {M = M})
+tight-moving-broken-byte c r q w v a b = (equal (result broken_byte.ended c) (a .ensured) (b .ensured), refl)
+
 pub meets-moving-place-values : Meets place_values.ended (λ M. place_values.clauses {M = M}) place-values-symbol.routine
 meets-moving-place-values M = place-values-met.met
 
@@ -32,9 +38,3 @@ tight-moving-gather-values c r q w v a b = (settle (result gather_values.ended c
   where
     values : w .1 .1 .1 .0 ≡ v .1 .1 .1 .0
     values = settle bytes (a .ensured) (b .ensured) (λ e f. e .1 ∙ sym (f .1))
-
-pub meets-moving-broken-byte : Meets broken_byte.ended (λ M. broken_byte.clauses {M = M}) broken-byte-symbol.routine
-meets-moving-broken-byte M = broken-byte-met.met
-
-pub tight-moving-broken-byte : Tight broken_byte.ended (λ M. broken_byte.clauses {M = M})
-tight-moving-broken-byte c r q w v a b = (equal (result broken_byte.ended c) (a .ensured) (b .ensured), refl)

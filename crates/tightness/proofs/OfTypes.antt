@@ -1,22 +1,22 @@
 -- Each public function of `types` meets its contract, and the contract is tight. Assumes nothing.
 use mathlib.Core.Path.{_≡_, refl, sym, _∙_}
 use Rattle.tightness.specs.Tight.{Meets, Tight}
-use Rattle.tightness.proofs.Laws.{bytes, entry-same, equal, result, settle}
+use Rattle.tightness.proofs.Laws.{bytes, equal, result, settle}
 use Rattle.types.proofs.basic_extent
 use Rattle.types.proofs.basic_extent.Met as basic-extent-met
 use Rattle.types.proofs.basic_extent.Symbol as basic-extent-symbol
 use Rattle.types.proofs.end_after
 use Rattle.types.proofs.end_after.Met as end-after-met
 use Rattle.types.proofs.end_after.Symbol as end-after-symbol
+use Rattle.types.proofs.extent_in
+use Rattle.types.proofs.extent_in.Met as extent-in-met
+use Rattle.types.proofs.extent_in.Symbol as extent-in-symbol
 use Rattle.types.proofs.offset_after
 use Rattle.types.proofs.offset_after.Met as offset-after-met
 use Rattle.types.proofs.offset_after.Symbol as offset-after-symbol
 use Rattle.types.proofs.types_refusal
 use Rattle.types.proofs.types_refusal.Met as types-refusal-met
 use Rattle.types.proofs.types_refusal.Symbol as types-refusal-symbol
-use Rattle.types.proofs.extent_in
-use Rattle.types.proofs.extent_in.Met as extent-in-met
-use Rattle.types.proofs.extent_in.Symbol as extent-in-symbol
 use Rattle.types.proofs.types_refusal_with
 use Rattle.types.proofs.types_refusal_with.Met as types-refusal-with-met
 use Rattle.types.proofs.types_refusal_with.Symbol as types-refusal-with-symbol
@@ -39,17 +39,11 @@ meets-types-end-after M = end-after-met.met
 pub tight-types-end-after : Tight end_after.ended (λ M. end_after.clauses {M = M})
 tight-types-end-after c r q w v a b = (settle (result end_after.ended c) (a .ensured) (b .ensured) (λ e f i. record { 0 = (e ∙ sym f) i }), refl)
 
-pub meets-types-types-refusal : Meets types_refusal.ended (λ M. types_refusal.clauses {M = M}) types-refusal-symbol.routine
-meets-types-types-refusal M = types-refusal-met.met
-
-pub tight-types-types-refusal : Tight types_refusal.ended (λ M. types_refusal.clauses {M = M})
-tight-types-types-refusal c r q w v a b = (equal (result types_refusal.ended c) (a .ensured) (b .ensured), refl)
-
 pub meets-types-extent-in : Meets extent_in.ended (λ M. extent_in.clauses {M = M}) extent-in-symbol.routine
 meets-types-extent-in M = extent-in-met.met
 
 pub tight-types-extent-in : Tight extent_in.ended (λ M. extent_in.clauses {M = M})
-tight-types-extent-in c r q w v a b = (settle (result extent_in.ended c) (a .ensured) (b .ensured) (entry-same r q), refl)
+tight-types-extent-in c r q w v a b = (settle (result extent_in.ended c) (a .ensured) (b .ensured) (λ e f i. record { size = record { 0 = (e .size ∙ sym (f .size)) i }; align = record { 0 = (e .align ∙ sym (f .align)) i } }), refl)
 
 pub meets-types-types-refusal-with : Meets types_refusal_with.ended (λ M. types_refusal_with.clauses {M = M}) types-refusal-with-symbol.routine
 meets-types-types-refusal-with M = types-refusal-with-met.met
@@ -59,3 +53,9 @@ tight-types-types-refusal-with c r q w v a b = (settle (result types_refusal_wit
   where
     table : w .1 .0 ≡ v .1 .0
     table = settle bytes (a .ensured) (b .ensured) (λ e f. e .1 ∙ sym (f .1))
+
+pub meets-types-types-refusal : Meets types_refusal.ended (λ M. types_refusal.clauses {M = M}) types-refusal-symbol.routine
+meets-types-types-refusal M = types-refusal-met.met
+
+pub tight-types-types-refusal : Tight types_refusal.ended (λ M. types_refusal.clauses {M = M})
+tight-types-types-refusal c r q w v a b = (equal (result types_refusal.ended c) (a .ensured) (b .ensured), refl)

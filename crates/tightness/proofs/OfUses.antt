@@ -9,12 +9,6 @@ use Rattle.uses.proofs.uses_refusal_with
 use Rattle.uses.proofs.uses_refusal_with.Met as uses-refusal-with-met
 use Rattle.uses.proofs.uses_refusal_with.Symbol as uses-refusal-with-symbol
 
-pub meets-uses-uses-refusal : Meets uses_refusal.ended (λ M. uses_refusal.clauses {M = M}) uses-refusal-symbol.routine
-meets-uses-uses-refusal M = uses-refusal-met.met
-
-pub tight-uses-uses-refusal : Tight uses_refusal.ended (λ M. uses_refusal.clauses {M = M})
-tight-uses-uses-refusal c r q w v a b = (equal (result uses_refusal.ended c) (a .ensured) (b .ensured), refl)
-
 pub meets-uses-uses-refusal-with : Meets uses_refusal_with.ended (λ M. uses_refusal_with.clauses {M = M}) uses-refusal-with-symbol.routine
 meets-uses-uses-refusal-with M = uses-refusal-with-met.met
 
@@ -23,3 +17,9 @@ tight-uses-uses-refusal-with c r q w v a b = (settle (result uses_refusal_with.e
   where
     table : w .1 .0 ≡ v .1 .0
     table = settle bytes (a .ensured) (b .ensured) (λ e f. e .1 ∙ sym (f .1))
+
+pub meets-uses-uses-refusal : Meets uses_refusal.ended (λ M. uses_refusal.clauses {M = M}) uses-refusal-symbol.routine
+meets-uses-uses-refusal M = uses-refusal-met.met
+
+pub tight-uses-uses-refusal : Tight uses_refusal.ended (λ M. uses_refusal.clauses {M = M})
+tight-uses-uses-refusal c r q w v a b = (equal (result uses_refusal.ended c) (a .ensured) (b .ensured), refl)

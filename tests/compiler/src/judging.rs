@@ -7,8 +7,13 @@ use independent::cases::hex_of_bytes;
 use independent::listing::listing;
 use independent::moving::gathering;
 use independent::places::ReturnPlace;
+use independent::refusal::Refusal;
+use independent::returning::taking;
 use independent::station::{attach, Station, SEAT};
 use independent::walk::{open, step, Walk};
+
+/// As an address, a mask that keeps each of its bytes.
+const EVERY_BYTE: u64 = 0x0101_0101_0101_0101;
 
 /// A difference: what was compared, gcc's answer, the layout's answer.
 pub struct Difference {
@@ -117,7 +122,7 @@ fn judge_callee(subject: &Subject, answer: &Answer, judgement: &mut Judgement) {
     );
 }
 
-/// Where gcc's function left its value.
+/// Where gcc's function left its value, and what is taken from there.
 fn judge_return(subject: &Subject, answer: &Answer, judgement: &mut Judgement) {
     let mut image = answer.after[..48].to_vec();
     // st0 and st1 stand at 28 and 38 of the saved x87 state.
@@ -125,17 +130,30 @@ fn judge_return(subject: &Subject, answer: &Answer, judgement: &mut Judgement) {
         image.extend(&answer.after[start..start + 10]);
         image.extend([0; 6]);
     }
-    for (value_start, image_start, length) in subject.return_pieces() {
-        judgement.equal_masked(
-            &format!("returned bytes at {value_start}"),
-            &image[image_start..image_start + length],
-            &subject.returned[value_start..value_start + length],
-            &subject.return_mask[value_start..value_start + length],
-        );
-    }
-    if matches!(subject.accepted.layout.return_place, ReturnPlace::Memory(_)) {
-        let rax = u64::from_le_bytes(image[..8].try_into().expect("eight bytes"));
-        judgement.equal("returned address", format!("{rax:x}"), format!("{HIDDEN_ADDRESS:x}"));
+    // The mask is put like a value: 0 and 1 are good _Bool bytes.
+    judgement.equal_masked(
+        "return image that a caller finds",
+        &image,
+        &subject.put(HIDDEN_ADDRESS, &subject.returned),
+        &subject.put(EVERY_BYTE, &subject.return_mask),
+    );
+    let expected = subject.returned_part(&subject.returned);
+    let mut taken = vec![0; expected.len()];
+    let address = taking(subject.description, &image, &mut taken);
+    let in_memory = matches!(subject.accepted.layout.return_place, ReturnPlace::Memory(_));
+    let hidden = if in_memory { HIDDEN_ADDRESS } else { 0 };
+    judgement.equal(
+        "taking",
+        format!("{address:x?}"),
+        format!("{:x?}", Ok::<u64, Refusal>(hidden)),
+    );
+    judgement.equal_masked(
+        "value taken from what a caller finds",
+        &taken,
+        expected,
+        &subject.return_mask,
+    );
+    if in_memory {
         judgement.equal_masked(
             "returned bytes in memory",
             &answer.hidden_room,

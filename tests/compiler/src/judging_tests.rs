@@ -3,7 +3,7 @@
 
 use crate::judging::judge;
 use crate::program::Answer;
-use crate::subject::{Subject, HIDDEN_ADDRESS};
+use crate::subject::Subject;
 use independent::generator::{random_description, SMALL};
 use independent::notation::description;
 use independent::random::Random;
@@ -16,9 +16,6 @@ fn agreeing(subject: &Subject) -> Answer {
     let kind = subject.return_kind();
     let image = subject.return_image();
     let mut after = image[..48].to_vec();
-    if kind == 1 {
-        after[..8].copy_from_slice(&HIDDEN_ADDRESS.to_le_bytes());
-    }
     let mut state = [0; 108];
     let tags: u16 = [0xFFFF, 0xFFFF, 0x3FFF, 0x0FFF][kind as usize];
     state[8..10].copy_from_slice(&tags.to_le_bytes());
@@ -79,8 +76,9 @@ fn each_kind_of_wrong_answer_is_a_difference() {
     assert_eq!(differences(text, |answer| answer.taken[15] ^= 1), 1);
     assert_eq!(differences(text, |answer| answer.read[3] ^= 1), 1);
     assert_eq!(differences(text, |answer| answer.notes[1][2] += 8), 1);
-    assert_eq!(differences(text, |answer| answer.after[0] ^= 1), 1);
-    assert_eq!(differences(text, |answer| answer.after[16] ^= 1), 1);
+    // The return image, and what is taken from it.
+    assert_eq!(differences(text, |answer| answer.after[0] ^= 1), 2);
+    assert_eq!(differences(text, |answer| answer.after[16] ^= 1), 2);
     assert_eq!(differences(text, |answer| answer.after[48 + 8] ^= 1), 1);
     assert_eq!(differences(text, |answer| answer.measures[2][1] += 1), 1);
 }
@@ -101,11 +99,11 @@ fn masked_bytes_make_no_difference() {
 #[test]
 fn returns_in_memory_and_on_the_x87_stack_are_judged() {
     let memory = "struct{char[17]}: int";
-    assert_eq!(differences(memory, |answer| answer.after[0] ^= 1), 1);
+    assert_eq!(differences(memory, |answer| answer.after[0] ^= 1), 2);
     assert_eq!(differences(memory, |answer| answer.hidden_room[16] ^= 1), 1);
     assert_eq!(differences(memory, |answer| answer.registers[0] ^= 1), 0);
     let two = "complex_long_double:";
-    assert_eq!(differences(two, |answer| answer.after[48 + 28 + 9] ^= 1), 1);
-    assert_eq!(differences(two, |answer| answer.after[48 + 38] ^= 1), 1);
+    assert_eq!(differences(two, |answer| answer.after[48 + 28 + 9] ^= 1), 2);
+    assert_eq!(differences(two, |answer| answer.after[48 + 38] ^= 1), 2);
     assert_eq!(differences(two, |answer| answer.after[48 + 9] ^= 0xC0), 1);
 }

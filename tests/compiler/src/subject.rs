@@ -6,6 +6,7 @@ use independent::description::VOID;
 use independent::moving::{placing, REGISTER_IMAGE};
 use independent::places::{accepted, Accepted, ReturnPlace, ReturnRegister};
 use independent::random::Random;
+use independent::returning::{putting, RETURN_IMAGE};
 use independent::walk::{offsets_after, Offsets};
 
 /// Where the harness keeps room for a value returned in memory.
@@ -105,40 +106,29 @@ impl<'a> Subject<'a> {
         }
     }
 
-    /// rax, rdx at 0 and 8, then xmm0, xmm1, st0, st1 of 16 each, with the value
-    /// in its return places.
-    pub fn return_image(&self) -> [u8; 80] {
-        let mut image = [0x77; 80];
-        for (value_start, image_start, length) in self.return_pieces() {
-            image[image_start..image_start + length]
-                .copy_from_slice(&self.returned[value_start..value_start + length]);
-        }
+    /// What the probe leaves: the value in its return places, and no zero where
+    /// nothing is put.
+    pub fn return_image(&self) -> Vec<u8> {
+        let used = self.put(u64::MAX, &vec![1; self.returned.len()]);
+        let pairs = self.put(HIDDEN_ADDRESS, &self.returned).into_iter().zip(used);
+        pairs.map(|(byte, used)| if used == 0 { 0x77 } else { byte }).collect()
+    }
+
+    /// The return image that putting makes of a value; one in memory has no
+    /// bytes there.
+    pub fn put(&self, hidden: u64, value: &[u8]) -> Vec<u8> {
+        let mut image = vec![0xDD; RETURN_IMAGE];
+        putting(self.description, hidden, self.returned_part(value), &mut image)
+            .expect("right lengths and values");
         image
     }
 
-    /// For each return register: start in the value, start in the return image,
-    /// and how many bytes it carries.
-    pub fn return_pieces(&self) -> Vec<(usize, usize, usize)> {
-        let ReturnPlace::Registers(_, registers) = &self.accepted.layout.return_place else {
-            return Vec::new();
-        };
-        let mut pieces = Vec::new();
-        let mut start = 0;
-        for register in registers {
-            let (image_start, room, step) = match register {
-                ReturnRegister::Rax => (0, 8, 8),
-                ReturnRegister::Rdx => (8, 8, 8),
-                ReturnRegister::Xmm0 => (16, 8, 8),
-                ReturnRegister::Xmm0Upper => (24, 8, 8),
-                ReturnRegister::Xmm1 => (32, 8, 8),
-                ReturnRegister::St0 => (48, 10, 16),
-                ReturnRegister::St1 => (64, 10, 16),
-            };
-            let length = room.min(self.returned.len() - start);
-            pieces.push((start, image_start, length));
-            start += step;
+    /// What of a returned value, or of anything as long, is put and taken.
+    pub fn returned_part<'b>(&self, value: &'b [u8]) -> &'b [u8] {
+        match self.accepted.layout.return_place {
+            ReturnPlace::Registers(..) => value,
+            ReturnPlace::Void | ReturnPlace::Memory(_) => &[],
         }
-        pieces
     }
 }
 

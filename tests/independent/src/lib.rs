@@ -1,6 +1,6 @@
-//! Document 01 a second time: an independent layout, written from documents 000
-//! and 01 alone, for reading and not for speed. One module for each paragraph
-//! of document 01, in its order, then what the tests need.
+//! Document 01 a second time: an independent layout, written from documents 000,
+//! 01 and 02 alone, for reading and not for speed. One module for each paragraph
+//! of document 01, in its order, then document 02's, then what the tests need.
 
 pub mod units;
 pub mod refusal;
@@ -13,6 +13,8 @@ pub mod moving;
 pub mod station;
 pub mod walk;
 pub mod listing;
+
+pub mod returning;
 
 pub mod visits;
 pub mod random;

@@ -12,6 +12,7 @@ use crate::moving::{gathering, placing, REGISTER_IMAGE};
 use crate::notation::{self, description};
 use crate::places::{accepted, layout, Place, Placement};
 use crate::random::Random;
+use crate::returning::{putting, taking, value_length, RETURN_IMAGE};
 use crate::station::Station;
 use crate::types::{asked, run_range};
 use crate::units::Bytes;
@@ -55,9 +56,9 @@ impl Writer {
     }
 }
 
-/// All five pairs, and how many records were left out.
+/// All six pairs, and how many records were left out.
 pub fn all_pairs(seed: u64, towers: bool) -> (Vec<Pair>, usize) {
-    let makers = [questions, layouts, moves, histories, listings];
+    let makers = [questions, layouts, moves, histories, listings, returns];
     let mut pairs = Vec::new();
     let mut left_out = 0;
     for (index, make) in makers.iter().enumerate() {
@@ -761,4 +762,179 @@ fn list(writer: &mut Writer, bytes: &[u8]) {
     writer.part(bytes);
     writer.pair.output.push_str(&listing(bytes));
     writer.pair.records += 1;
+}
+
+// ---- returns
+
+/// One record of the returns.
+#[derive(Clone)]
+struct Return {
+    description: Vec<u8>,
+    hidden_address: u64,
+    value: Vec<u8>,
+    image: Vec<u8>,
+    out: u16,
+}
+
+fn returns(random: &mut Random, towers: bool) -> Writer {
+    let mut writer = Writer::new("returns", towers);
+    for one in printed_returns() {
+        add_return(&mut writer, &one);
+    }
+    for one in wrong_return_lengths() {
+        add_return(&mut writer, &one);
+    }
+    for function in CASES.iter().map(|case| case.function).chain(THOUGHT) {
+        let one = right_return(random, &description(function));
+        add_return(&mut writer, &one);
+    }
+    for refusals in refusals_and_pairs().iter().take(10) {
+        let bytes = damaged(random, refusals);
+        add_return(&mut writer, &return_for(&bytes, vec![1; 4]));
+    }
+    for index in 0..90 {
+        let bytes = random_description(random, RETURNS);
+        let mut one = right_return(random, &bytes);
+        if index % 3 == 0 {
+            spoil_return(random, &mut one);
+        }
+        add_return(&mut writer, &one);
+    }
+    writer
+}
+
+/// Few arguments: it is the returned type that matters here.
+const RETURNS: Shape = Shape { most_types: 9, most_arguments: 2, most_members: 4, largest: 40 };
+
+/// With an image of FF, and room for the same length.
+fn return_for(bytes: &[u8], value: Vec<u8>) -> Return {
+    Return {
+        description: bytes.to_vec(),
+        hidden_address: 0x1122_3344_5566_7788,
+        out: value.len() as u16,
+        value,
+        image: vec![0xFF; RETURN_IMAGE],
+    }
+}
+
+/// Right lengths, a random value, an image full of rubbish.
+fn right_return(random: &mut Random, bytes: &[u8]) -> Return {
+    let accepted = accepted(bytes).expect("a return for an accepted description");
+    let value = random.bytes(value_length(&accepted));
+    Return {
+        hidden_address: random.next(),
+        image: random.bytes(RETURN_IMAGE),
+        ..return_for(bytes, value)
+    }
+}
+
+/// Returns whose answers a reader can check: 1, 2, 3 .. as the value.
+fn printed_returns() -> Vec<Return> {
+    let counted: Vec<u8> = (1..=32).collect();
+    let of = |function: &str, value: &[u8]| return_for(&description(function), value.to_vec());
+    let mut all = vec![
+        of("void:", &[]),
+        of("bool:", &[0]),
+        of("bool:", &[1]),
+        of("bool:", &[2]),
+        of("bool:", &[255]),
+        of("struct{bool}:", &[2]),
+        of("union{bool, char}:", &[255]),
+        of("struct{char[17]}:", &[]),
+        of("struct{bool[17]}: int", &[]),
+        of("struct{complex_long_double}:", &[]),
+        of("union{long_double, char}:", &[]),
+    ];
+    for code in 1..=15 {
+        let mut draft = Draft::new();
+        draft.returned = draft.basic(code);
+        let bytes = draft.bytes();
+        let length = value_length(&accepted(&bytes).expect("a basic type"));
+        all.push(return_for(&bytes, counted[..length].to_vec()));
+    }
+    for (function, length) in [
+        ("struct{long_double}: struct{long_double}", 16),
+        ("union{long_double, int128}:", 16),
+        ("struct{double, long}:", 16),
+        ("struct{long, double}:", 16),
+        ("struct{float, float, int}:", 12),
+        ("struct{int, float, float}:", 12),
+        ("struct{char[3]}:", 3),
+        ("struct{char[11]}:", 11),
+        ("struct{float, float, float}:", 12),
+        ("union{m128, struct{double, double}}:", 16),
+        ("struct{m128}:", 16),
+    ] {
+        all.push(of(function, &counted[..length]));
+    }
+    all
+}
+
+/// Every wrong length, one at a time, together with a _Bool that is wrong; and
+/// values where there are none.
+fn wrong_return_lengths() -> Vec<Return> {
+    let mut all = Vec::new();
+    for (function, value) in
+        [("bool:", vec![2]), ("long_double:", vec![7; 16]), ("void: int", vec![])]
+    {
+        let right = return_for(&description(function), value);
+        for longer in [false, true] {
+            let mut one = right.clone();
+            resize(&mut one.value, longer);
+            all.push(one);
+            let mut one = right.clone();
+            resize(&mut one.image, longer);
+            all.push(one);
+            let mut one = right.clone();
+            one.out = if longer { one.out + 1 } else { one.out.saturating_sub(1) };
+            all.push(one);
+        }
+    }
+    for function in ["void:", "struct{char[17]}:", "complex_long_double:"] {
+        all.push(return_for(&description(function), vec![1; 17]));
+        let mut empty = return_for(&description(function), Vec::new());
+        empty.image.clear();
+        all.push(empty);
+    }
+    all
+}
+
+/// One length wrong. Where it is the value's, nothing is put, and the value is
+/// taken from rubbish.
+fn spoil_return(random: &mut Random, one: &mut Return) {
+    match random.below(6) {
+        0 => one.out += 1,
+        1 => one.image.truncate(random.below(RETURN_IMAGE)),
+        _ => one.value.push(random.byte()),
+    }
+}
+
+fn add_return(writer: &mut Writer, one: &Return) {
+    if !writer.admits(&one.description) {
+        return;
+    }
+    writer.part(&one.description);
+    writer.pair.input.extend(one.hidden_address.to_le_bytes());
+    writer.part(&one.value);
+    writer.part(&one.image);
+    writer.pair.input.extend(one.out.to_le_bytes());
+    writer.pair.output.push_str(&return_text(one));
+    writer.pair.records += 1;
+}
+
+fn return_text(one: &Return) -> String {
+    let mut image = one.image.clone();
+    let put = putting(&one.description, one.hidden_address, &one.value, &mut image);
+    let mut value = vec![0xEE; one.out as usize];
+    let taken = taking(&one.description, &image, &mut value);
+    let first = match put {
+        Ok(()) => "put".to_string(),
+        Err(refusal) => format!("refused {}", refusal.number()),
+    };
+    let second = match taken {
+        Ok(hidden_address) => format!("taken {hidden_address}"),
+        Err(refusal) => format!("refused {}", refusal.number()),
+    };
+    let (image, value) = (word_and_hex("image", &image), word_and_hex("value", &value));
+    format!("{first}\n{image}\n{second}\n{value}\n")
 }

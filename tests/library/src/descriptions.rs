@@ -10,6 +10,7 @@ use independent::moving::{gathering, placing, REGISTER_IMAGE};
 use independent::places::{self, accepted, Place, Register, ReturnPlace, ReturnRegister};
 use independent::random::Random;
 use independent::refusal::{number_or_zero, Refusal as Refused};
+use independent::returning::{putting, taking, value_length, RETURN_IMAGE};
 use independent::types::{asked, run_range};
 
 const UNTOUCHED: usize = 0xEEEE_EEEE;
@@ -23,6 +24,7 @@ pub fn compare(random: &mut Random, bytes: &[u8], comparison: &mut Comparison) {
     compare_layouts(random, bytes, comparison);
     compare_listing(bytes, comparison);
     compare_moves(random, bytes, comparison);
+    compare_returned(random, bytes, comparison);
 }
 
 // ---- questions about one type
@@ -311,5 +313,82 @@ fn compare_move(
         bytes,
         (answered.number, gathered, out),
         (number_or_zero(&answer), expected, expected_out),
+    );
+}
+
+// ---- returned values
+
+fn compare_returned(random: &mut Random, bytes: &[u8], comparison: &mut Comparison) {
+    let length = accepted(bytes).map_or(8, |accepted| value_length(&accepted));
+    for lengths in
+        [[length, RETURN_IMAGE], [length, RETURN_IMAGE].map(|right| length_near(random, right))]
+    {
+        let mut value = random.bytes(lengths[0]);
+        if lengths[0] == 1 && random.one_in(2) {
+            value[0] &= 1; // a _Bool
+        }
+        compare_put(random, bytes, &value, lengths[1], comparison);
+        compare_take(random, bytes, lengths, comparison);
+    }
+}
+
+fn compare_put(
+    random: &mut Random,
+    bytes: &[u8],
+    value: &[u8],
+    length: usize,
+    comparison: &mut Comparison,
+) {
+    let hidden = random.next();
+    let mut image = random.bytes(length);
+    let mut expected = image.clone();
+    let answer = putting(bytes, hidden, value, &mut expected);
+    let answered = unsafe {
+        cb_put_returned(
+            bytes.as_ptr(),
+            bytes.len(),
+            hidden,
+            value.as_ptr(),
+            value.len(),
+            image.as_mut_ptr(),
+            image.len(),
+        )
+    };
+    comparison.same(
+        "cb_put_returned",
+        bytes,
+        (answered.number, image),
+        (number_or_zero(&answer), expected),
+    );
+}
+
+fn compare_take(
+    random: &mut Random,
+    bytes: &[u8],
+    lengths: [usize; 2],
+    comparison: &mut Comparison,
+) {
+    let image = random.bytes(lengths[1]);
+    let mut value = random.bytes(lengths[0]);
+    let mut expected_value = value.clone();
+    let answer = taking(bytes, &image, &mut expected_value);
+    let expected = Gathered { hidden: *answer.as_ref().unwrap_or(&(UNTOUCHED as u64)) };
+    let mut taken = Gathered { hidden: UNTOUCHED as u64 };
+    let answered = unsafe {
+        cb_take_returned(
+            bytes.as_ptr(),
+            bytes.len(),
+            image.as_ptr(),
+            image.len(),
+            value.as_mut_ptr(),
+            value.len(),
+            &mut taken,
+        )
+    };
+    comparison.same(
+        "cb_take_returned",
+        bytes,
+        (answered.number, taken, value),
+        (number_or_zero(&answer), expected, expected_value),
     );
 }

@@ -1,0 +1,267 @@
+-- A value whose first class is X87 has 16 bytes, and one whose first class is COMPLEX_X87 has 32: only a long double brings the one, and
+-- only a complex long double the other. Assumes nothing.
+use mathlib.Core.Path.{_≡_, refl, sym, ap, _∙_}
+use mathlib.Core.Bool.{Bool, true, false, cond, not, _||_, false≢true}
+use mathlib.Core.Logic.{_⊎_, inl, inr}
+use mathlib.Core.List.{List, [], _∷_}
+use Prim.Native.Nat.{ℕ, zero, suc, _+_, _/_, _≤_, _<_}
+use native.Mathlib.Nat.{mul-le-mul}
+use native.Mathlib.Decide.{decLt}
+use native.Mathlib.Omega.{arith}
+use borrow.Author.Tests.{ltb-false, leb-true, eqb-true}
+use lib.Dec.{leb, ltb, eqb}
+use lib.ListN.{getD, set, List·getD-eq-default}
+use Rattle.classes.specs.declared.Class.{Class}
+use Rattle.classes.specs.declared.Class.the-variants.{NoClass, X87, ComplexX87, Memory}
+use Rattle.classes.specs.Classes.{same, isX87, noClasses, mergeOf, mergeAll}
+use Rattle.classes.specs.CleanUp.{anyMemory, anyUpAlone, settled, settleAll, memoryOf, cleanUp}
+use Rattle.classes.proofs.Laws.{each-two, if-left, all-at, or-cases}
+use Rattle.classes.proofs.Ups.{memory-behind, settle-at}
+use Rattle.types.specs.Tree.{Ty, Tys, basic, array, struct, union, none, more}
+use Rattle.types.specs.Basic.{lp64, basicSize, basicAlign}
+use Rattle.types.specs.Size.{sizeTy, alignTy, alignTys, endOf, offsetAfter, endAfter}
+use Rattle.types.specs.Filled.{Filled}
+use Rattle.types.proofs.Codes.{EachFrom, each-code}
+use Rattle.types.proofs.Sizes.{end-member, ends-low}
+use Rattle.types.proofs.Laws.{align-within, size-after}
+use Rattle.classify.specs.Classify.{firsts, seconds, firstClass, secondClass, gap, put, basicAt, elementsAt, classesAt, membersAt, isAggregate, classesOf}
+
+-- ---- where a class can come from
+
+-- P holds of some member
+abbrev Somewhere : (Ty → Type 0) → Tys → Type 0
+Somewhere P none = ⊥
+Somewhere P (more t ts) = P t ⊎ Somewhere P ts
+
+-- a class that merging and cleaning up never bring in, and that has at least m of f in each basic type that has it, and so in each
+-- array and each struct or union over one
+record Brought (c : Class) (m : ℕ) (f : Ty → ℕ) : Type 0 where
+  nothing : same NoClass c ≡ false
+  memory : same Memory c ≡ false
+  merged : (a b : Class) → same (mergeOf a b) c ≡ true → (same a c || same b c) ≡ true
+  settles : (p a : Class) → same (settled p a) c ≡ true → same a c ≡ true
+  codes : (code : ℕ) → (same (firstClass code) c || same (secondClass code) c) ≡ true → m ≤ f (basic code)
+  arrays : (t : Ty) (n : ℕ) → 1 ≤ n → m ≤ f t → m ≤ f (array t n)
+  structs : (ts : Tys) → Somewhere (λ t. m ≤ f t) ts → m ≤ f (struct ts)
+  unions : (ts : Tys) → Somewhere (λ t. m ≤ f t) ts → m ≤ f (union ts)
+
+none-at : (n i : ℕ) → getD (noClasses n) i NoClass ≡ NoClass
+none-at zero i = refl
+none-at (suc n) zero = refl
+none-at (suc n) (suc i) = none-at n i
+
+module _ (c : Class) (m : ℕ) (f : Ty → ℕ) (r : Brought c m f) where
+  -- it stands in eightbyte i
+  abbrev Has : List Class → ℕ → Type 0
+  Has cs i = same (getD cs i NoClass) c ≡ true
+
+  has-none : (n i : ℕ) → Has (noClasses n) i → ⊥
+  has-none n i h = false≢true (sym (r .nothing) ∙ ap (λ (a : Class). same a c) (sym (none-at n i)) ∙ h)
+
+  has-merged : (xs ys : List Class) (i : ℕ) → Has (mergeAll xs ys) i → Has xs i ⊎ Has ys i
+  has-merged xs ys i h =
+      or-cases (same (getD xs i NoClass) c) (same (getD ys i NoClass) c) (Has xs i ⊎ Has ys i)
+      (r .merged (getD xs i NoClass) (getD ys i NoClass) (rw (all-at xs ys i) at h)) (λ e. inl e) (λ e. inr e)
+
+  has-memory : (cs : List Class) (i : ℕ) → Has (memoryOf cs) i → ⊥
+  has-memory [] zero h = false≢true (sym (r .nothing) ∙ h)
+  has-memory (a ∷ cs) zero h = false≢true (sym (r .memory) ∙ h)
+  has-memory cs (suc i) h = false≢true (sym (r .nothing) ∙ ap (λ (a : Class). same a c) (sym (memory-behind cs i)) ∙ h)
+
+  has-cleaned : (cs : List Class) (i : ℕ) → Has (cleanUp cs) i → Has cs i
+  unfolding cleanUp
+  has-cleaned cs i h = by (anyMemory cs) (anyUpAlone NoClass cs) h
+    where
+      by : (a b : Bool) → Has (cond a (memoryOf cs) (cond b (memoryOf cs) (settleAll NoClass cs))) i → Has cs i
+      by true b g = absurd (has-memory cs i g)
+      by false true g = absurd (has-memory cs i g)
+      by false false g = r .settles (getD (NoClass ∷ cs) i NoClass) (getD cs i NoClass) (rw (settle-at NoClass cs i) at g)
+
+  has-put : (o : ℕ) (a : Class) (i : ℕ) → Has (put 2 o a) i → same a c ≡ true
+  unfolding put
+  has-put o a i h = by (noClasses 2) (o / 8) i (λ j. has-none 2 j) h
+    where
+      by : (cs : List Class) (k j : ℕ) → ((l : ℕ) → Has cs l → ⊥) → Has (set cs k a) j → same a c ≡ true
+      by [] k j n g = absurd (n j g)
+      by (x ∷ cs) zero zero n g = g
+      by (x ∷ cs) zero (suc j) n g = absurd (n (suc j) g)
+      by (x ∷ cs) (suc k) zero n g = absurd (n zero g)
+      by (x ∷ cs) (suc k) (suc j) n g = by cs k j (λ l e. n (suc l) e) g
+
+  has-basic : (code o i : ℕ) → Has (basicAt 2 code o) i → (same (firstClass code) c || same (secondClass code) c) ≡ true
+  unfolding basicAt
+  has-basic code o i h = by (has-merged (put 2 o (firstClass code)) (put 2 (o + gap code) (secondClass code)) i h)
+    where
+      or-first : (a b : Bool) → a ≡ true → (a || b) ≡ true
+      or-first a b e = rw e
+
+      or-second : (a b : Bool) → b ≡ true → (a || b) ≡ true
+      or-second true b e = refl
+      or-second false b e = e
+
+      by : Has (put 2 o (firstClass code)) i ⊎ Has (put 2 (o + gap code) (secondClass code)) i → (same (firstClass code) c || same (secondClass code) c) ≡ true
+      by (inl g) = or-first (same (firstClass code) c) (same (secondClass code) c) (has-put o (firstClass code) i g)
+      by (inr g) = or-second (same (firstClass code) c) (same (secondClass code) c) (has-put (o + gap code) (secondClass code) i g)
+
+  has-elements : (g : ℕ → List Class) (s i : ℕ) (P : Type 0) → ((q : ℕ) → Has (g q) i → P) → (n q : ℕ) (cs : List Class) → Has (elementsAt g s n q cs) i
+      → Has cs i ⊎ ((1 ≤ n) × P)
+  unfolding elementsAt
+  has-elements g s i P each zero q cs h = inl h
+  has-elements g s i P each (suc n) q cs h = by (has-elements g s i P each n (q + s) (mergeAll cs (g q)) h)
+    where
+      from : Has cs i ⊎ Has (g q) i → Has cs i ⊎ ((1 ≤ suc n) × P)
+      from (inl e) = inl e
+      from (inr e) = inr (omega arith, each q e)
+
+      by : Has (mergeAll cs (g q)) i ⊎ ((1 ≤ n) × P) → Has cs i ⊎ ((1 ≤ suc n) × P)
+      by (inl e) = from (has-merged cs (g q) i e)
+      by (inr e) = inr (omega arith, e .1)
+
+  -- what a merge gives the members' list
+  has-member : (cs ds : List Class) (i : ℕ) (P Q : Type 0) → (Has ds i → P) → Has (mergeAll cs ds) i ⊎ Q → Has cs i ⊎ (P ⊎ Q)
+  has-member cs ds i P Q each (inr q) = inr (inr q)
+  has-member cs ds i P Q each (inl e) = by (has-merged cs ds i e)
+    where
+      by : Has cs i ⊎ Has ds i → Has cs i ⊎ (P ⊎ Q)
+      by (inl g) = inl g
+      by (inr g) = inr (inl (each g))
+
+  none-or : (i : ℕ) (P : Type 0) → Has (noClasses 2) i ⊎ P → P
+  none-or i P (inl h) = absurd (has-none 2 i h)
+  none-or i P (inr p) = p
+
+  mutual
+    unfolding classesAt membersAt
+
+    has-type : (t : Ty) (o i : ℕ) → Has (classesAt 2 t o) i → m ≤ f t
+    has-type (basic code) o i h = r .codes code (has-basic code o i h)
+    has-type (array t n) o i h =
+        let e = none-or i _ (has-elements (classesAt 2 t) (sizeTy lp64 t) i (m ≤ f t) (λ q g. has-type t q i g) n o (noClasses 2) (has-cleaned _ i h)) in
+        r .arrays t n (e .0) (e .1)
+    has-type (struct ts) o i h = r .structs ts (none-or i _ (has-types ts false 0 o (noClasses 2) i (has-cleaned _ i h)))
+    has-type (union ts) o i h = r .unions ts (none-or i _ (has-types ts true 0 o (noClasses 2) i (has-cleaned _ i h)))
+
+    has-types : (ts : Tys) (u : Bool) (x o : ℕ) (cs : List Class) (i : ℕ) → Has (membersAt 2 ts u x o cs) i → Has cs i ⊎ Somewhere (λ t. m ≤ f t) ts
+    has-types none u x o cs i h = inl h
+    has-types (more t ts) u x o cs i h =
+        has-member cs (classesAt 2 t (o + offsetAfter u x (alignTy lp64 t))) i (m ≤ f t) (Somewhere (λ t. m ≤ f t) ts) (λ g. has-type t (o + offsetAfter u x (alignTy lp64 t)) i g)
+        (has-types ts u (endAfter u x (alignTy lp64 t) (sizeTy lp64 t)) o (mergeAll cs (classesAt 2 t (o + offsetAfter u x (alignTy lp64 t)))) i h)
+
+-- ---- X87: aligned to 16
+
+-- a rule of each code, and of what is none
+codes-by : (P : ℕ → Type 0) → ((code : ℕ) → code < 16 → P code) → ((code : ℕ) → 16 ≤ code → P code) → (code : ℕ) → P code
+codes-by P f g code = by (decLt code 16)
+  where
+    by : Dec (code < 16) → P code
+    by (yes l) = f code l
+    by (no l) = g code (omega arith)
+
+-- no code has no class
+no-code : (c : Class) → same NoClass c ≡ false → (code : ℕ) → 16 ≤ code → (same (firstClass code) c || same (secondClass code) c) ≡ true → ⊥
+unfolding firstClass secondClass
+no-code c e code l h = false≢true (sym (rw (List·getD-eq-default firsts NoClass {n = code} l, List·getD-eq-default seconds NoClass {n = code} l, e)) ∙ h)
+
+some-align : (m : ℕ) (ts : Tys) → Somewhere (λ t. m ≤ alignTy lp64 t) ts → m ≤ alignTys lp64 ts
+unfolding alignTys
+some-align m none h = absurd h
+some-align m (more t ts) (inl h) = omega arith
+some-align m (more t ts) (inr h) = omega (arith, some-align m ts h)
+
+x87-brought : Brought X87 16 (alignTy lp64)
+unfolding same isX87 mergeOf settled alignTy firstClass secondClass basicAlign
+x87-brought = record {
+  nothing = refl;
+  memory = refl;
+  merged = λ a b. if-left (same (mergeOf a b) X87) (same a X87 || same b X87) (each-two (λ x y. not (same (mergeOf x y) X87) || (same x X87 || same y X87)) refl a b);
+  settles = λ p a. if-left (same (settled p a) X87) (same a X87) (each-two (λ x y. not (same (settled x y) X87) || same y X87) refl p a);
+  codes =
+      codes-by (λ code. (same (firstClass code) X87 || same (secondClass code) X87) ≡ true → 16 ≤ basicAlign lp64 code)
+      (λ code l h. leb-true 16 (basicAlign lp64 code) (if-left _ _ (low code l) h)) (λ code l h. absurd (no-code X87 refl code l h));
+  arrays = λ t n l h. h;
+  structs = λ ts h. some-align 16 ts h;
+  unions = λ ts h. some-align 16 ts h;
+}
+  where
+    low : (code : ℕ) → code < 16 → (not (same (firstClass code) X87 || same (secondClass code) X87) || leb 16 (basicAlign lp64 code)) ≡ true
+    low =
+        each-code (λ code. (not (same (firstClass code) X87 || same (secondClass code) X87) || leb 16 (basicAlign lp64 code)) ≡ true)
+        (refl, (refl, (refl, (refl, (refl, (refl, (refl, (refl, (refl, (refl, (refl, (refl, (refl, (refl, (refl, (refl, tt))))))))))))))))
+
+-- ---- COMPLEX_X87: 32 bytes
+
+some-size : (m : ℕ) (ts : Tys) (u : Bool) (x : ℕ) → Somewhere (λ t. m ≤ sizeTy lp64 t) ts → m ≤ endOf lp64 ts u x
+unfolding endOf
+some-size m none u x h = absurd h
+some-size m (more t ts) u x (inl h) =
+    omega (arith, end-member u x (alignTy lp64 t) (sizeTy lp64 t), ends-low lp64 ts u (endAfter u x (alignTy lp64 t) (sizeTy lp64 t)))
+some-size m (more t ts) u x (inr h) = some-size m ts u (endAfter u x (alignTy lp64 t) (sizeTy lp64 t)) h
+
+complex-brought : Brought ComplexX87 32 (sizeTy lp64)
+unfolding same isX87 mergeOf settled sizeTy firstClass secondClass basicSize
+complex-brought = record {
+  nothing = refl;
+  memory = refl;
+  merged =
+      λ a b. if-left (same (mergeOf a b) ComplexX87) (same a ComplexX87 || same b ComplexX87) (each-two (λ x y. not (same (mergeOf x y) ComplexX87) || (same x ComplexX87 || same y ComplexX87)) refl a b);
+  settles = λ p a. if-left (same (settled p a) ComplexX87) (same a ComplexX87) (each-two (λ x y. not (same (settled x y) ComplexX87) || same y ComplexX87) refl p a);
+  codes =
+      codes-by (λ code. (same (firstClass code) ComplexX87 || same (secondClass code) ComplexX87) ≡ true → 32 ≤ basicSize lp64 code)
+      (λ code l h. leb-true 32 (basicSize lp64 code) (if-left _ _ (low code l) h)) (λ code l h. absurd (no-code ComplexX87 refl code l h));
+  arrays = λ t n l h. mul-le-mul {n₁ = 32} {m₁ = 1} h l;
+  structs = λ ts h. omega (arith, size-after lp64 ts false, some-size 32 ts false 0 h);
+  unions = λ ts h. omega (arith, size-after lp64 ts true, some-size 32 ts true 0 h);
+}
+  where
+    low : (code : ℕ) → code < 16 → (not (same (firstClass code) ComplexX87 || same (secondClass code) ComplexX87) || leb 32 (basicSize lp64 code)) ≡ true
+    low =
+        each-code (λ code. (not (same (firstClass code) ComplexX87 || same (secondClass code) ComplexX87) || leb 32 (basicSize lp64 code)) ≡ true)
+        (refl, (refl, (refl, (refl, (refl, (refl, (refl, (refl, (refl, (refl, (refl, (refl, (refl, (refl, (refl, (refl, tt))))))))))))))))
+
+-- ---- the whole
+
+-- a basic type's first class says its size
+basic-first : (c : Class) (size : ℕ)
+    → EachFrom (λ code. (not (same (getD (basicAt 2 code 0) 0 NoClass) c) || eqb (basicSize lp64 code) size) ≡ true) 0 16
+    → (code : ℕ) → code < 16 → same (getD (basicAt 2 code 0) 0 NoClass) c ≡ true → basicSize lp64 code ≡ size
+basic-first c size e code l h =
+    eqb-true (basicSize lp64 code) size (if-left _ _ (each-code (λ code. (not (same (getD (basicAt 2 code 0) 0 NoClass) c) || eqb (basicSize lp64 code) size) ≡ true) e code l) h)
+
+-- an aggregate, which is MEMORY where it has over 16 bytes
+aggregate-first : (c : Class) (t : Ty) → same Memory c ≡ false → isAggregate t ≡ true → same (getD (classesOf t) 0 NoClass) c ≡ true
+    → (sizeTy lp64 t ≤ 16) × (same (getD (classesAt 2 t 0) 0 NoClass) c ≡ true)
+unfolding classesOf
+aggregate-first c t m a h = by (ltb 16 (sizeTy lp64 t)) refl (rw a at h)
+  where
+    by : (b : Bool) → ltb 16 (sizeTy lp64 t) ≡ b → same (getD (cond b (Memory ∷ NoClass ∷ []) (classesAt 2 t 0)) 0 NoClass) c ≡ true
+        → (sizeTy lp64 t ≤ 16) × (same (getD (classesAt 2 t 0) 0 NoClass) c ≡ true)
+    by true e g = absurd (false≢true (sym m ∙ g))
+    by false e g = (ltb-false 16 (sizeTy lp64 t) e, g)
+
+x87-aggregate : (t : Ty) → Filled t → isAggregate t ≡ true → same (getD (classesOf t) 0 NoClass) X87 ≡ true → sizeTy lp64 t ≡ 16
+unfolding same
+x87-aggregate t f a h =
+    let p = aggregate-first X87 t refl a h in
+    omega (arith, p .0, align-within lp64 t f, has-type X87 16 (alignTy lp64) x87-brought t 0 0 (p .1))
+
+complex-aggregate : (t : Ty) → isAggregate t ≡ true → same (getD (classesOf t) 0 NoClass) ComplexX87 ≡ true → ⊥
+unfolding same
+complex-aggregate t a h =
+    let p = aggregate-first ComplexX87 t refl a h in
+    omega (arith, p .0, has-type ComplexX87 32 (sizeTy lp64) complex-brought t 0 0 (p .1))
+
+pub x87-size : (t : Ty) → Filled t → same (getD (classesOf t) 0 NoClass) X87 ≡ true → sizeTy lp64 t ≡ 16
+unfolding same isX87 mergeOf mergeAll put gap firstClass secondClass basicAt basicSize Filled sizeTy classesOf classesAt
+x87-size (basic code) f h =
+    basic-first X87 16 (refl, (refl, (refl, (refl, (refl, (refl, (refl, (refl, (refl, (refl, (refl, (refl, (refl, (refl, (refl, (refl, tt)))))))))))))))) code f h
+x87-size (array t n) f h = x87-aggregate (array t n) f refl h
+x87-size (struct ts) f h = x87-aggregate (struct ts) f refl h
+x87-size (union ts) f h = x87-aggregate (union ts) f refl h
+
+pub complex-size : (t : Ty) → Filled t → same (getD (classesOf t) 0 NoClass) ComplexX87 ≡ true → sizeTy lp64 t ≡ 32
+unfolding same isX87 mergeOf mergeAll put gap firstClass secondClass basicAt basicSize Filled sizeTy classesOf classesAt
+complex-size (basic code) f h =
+    basic-first ComplexX87 32 (refl, (refl, (refl, (refl, (refl, (refl, (refl, (refl, (refl, (refl, (refl, (refl, (refl, (refl, (refl, (refl, tt)))))))))))))))) code f h
+complex-size (array t n) f h = absurd (complex-aggregate (array t n) refl h)
+complex-size (struct ts) f h = absurd (complex-aggregate (struct ts) refl h)
+complex-size (union ts) f h = absurd (complex-aggregate (union ts) refl h)

@@ -1,0 +1,5 @@
+pub mod Moved
+pub mod Image
+pub mod Asks
+pub mod Statements
+pub mod Cases

@@ -1,0 +1,140 @@
+-- What the two calls answer and leave, from what they call. Assumes nothing.
+use mathlib.Core.Path.{_≡_, refl, sym, ap, ap₂, _∙_}
+use mathlib.Core.Bool.{Bool, true, false}
+use mathlib.Core.List.{List}
+use Prim.Native.Nat.{ℕ, _<_}
+use native.Mathlib.Omega.{arith}
+use borrow.Author.Tests.{eq-eqb, ne-eqb}
+use lib.ListN.{length, getD}
+use Rattle.description.specs.Description.{typesIn, returnIn}
+use Rattle.form.specs.declared.Refusal.{Refusal}
+use Rattle.form.specs.Reading.{refusalOf}
+use Rattle.places.specs.declared.ReturnPlace.{ReturnPlace}
+use Rattle.layout.specs.declared.Layout.{Layout}
+use Rattle.layout.specs.declared.LayoutAnswer.the-variants.{Laid, Refused}
+use Rattle.layout.specs.Arguments.{isVoid, returnPlace}
+use Rattle.layout.specs.Layout.{layoutOf, layoutAnswer}
+use Rattle.layout.specs.Verdict.{verdict}
+use Rattle.layout.proofs.Layouts.{laid-accepted, refused-verdict, refused-nonzero}
+use Rattle.moving.specs.Orders.{brokenByte}
+use Rattle.return_image.specs.Image.{lengthFor, returnImage, returnValue, returnedAddress}
+use Rattle.return_image.specs.Asks.{Returnable}
+use Rattle.returning.specs.Returned.{returnedSize, returnLength}
+use Rattle.returning.specs.Orders.{wrongLength, wrongBool, putRefusal, takeRefusal}
+use Rattle.returning.specs.Answers.{putAnswer, imageAfter, takeAnswer, valueAfter}
+use Rattle.returning.specs.Asks.{Lent}
+use Rattle.returning.specs.declared.PutAnswer.{PutAnswer}
+use Rattle.returning.specs.declared.PutAnswer.the-variants.{Put, Refused as NotPut}
+use Rattle.returning.specs.declared.TakeAnswer.{TakeAnswer}
+use Rattle.returning.specs.declared.TakeAnswer.the-variants.{Taken, Refused as NotTaken}
+use Rattle.returning.proofs.Values.{returned-known, void-short, accepted-returnable}
+use Rattle.returning.proofs.Orders.{right-lent, put-verdict, put-eleven, put-twelve, put-none, take-verdict, take-eleven, take-accepted}
+
+-- ---- 12: a value that has a byte is no void
+
+module _ (d v : List ℕ) (accepted : verdict d ≡ 0) (lent : length v ≡ returnLength d) (some : 0 < length v) where
+  not-void : isVoid d ≡ false
+  not-void = by (isVoid d) refl
+    where
+      by : (b : Bool) → isVoid d ≡ b → isVoid d ≡ false
+      by true e = absurd (omega (arith, void-short d accepted e))
+      by false e = e
+
+  pub bool-known : (k : ℕ) → k ≡ returnIn d → k < typesIn d
+  bool-known k e = rw e (returned-known d accepted not-void)
+
+  pub bool-test : (k byte : ℕ) (r : Bool) → k ≡ returnIn d → byte ≡ getD v 0 0 → r ≡ brokenByte d k byte → r ≡ wrongBool d v
+  unfolding wrongBool
+  bool-test k byte r e f g = g ∙ ap₂ (brokenByte d) e f ∙ rw not-void
+
+-- ---- the layout's part
+
+module _ (d : List ℕ) (l : Layout) (laid : layoutAnswer d ≡ Laid l) where
+  pub laid-right : verdict d ≡ 0
+  laid-right = laid-accepted d l laid .0
+
+  pub laid-place : l .returns ≡ returnPlace d
+  unfolding layoutOf
+  laid-place = ap (λ (x : Layout). x .returns) (laid-accepted d l laid .1)
+
+  laid-length : (size n : ℕ) → size ≡ returnedSize d → n ≡ lengthFor (l .returns) size → n ≡ returnLength d
+  unfolding returnLength
+  laid-length size n e f = f ∙ ap₂ lengthFor laid-place e
+
+  module _ (size n : ℕ) (e : size ≡ returnedSize d) (f : n ≡ lengthFor (l .returns) size) (v i : ℕ) (b : Bool) (w : b ≡ wrongLength n v i) where
+    pub laid-wrong : b ≡ true → wrongLength (returnLength d) v i ≡ true
+    laid-wrong t = ap (λ (m : ℕ). wrongLength m v i) (sym (laid-length size n e f)) ∙ sym w ∙ t
+
+    pub laid-lent : b ≡ false → Lent d v i
+    laid-lent t = right-lent d v i laid-right (ap (λ (m : ℕ). wrongLength m v i) (sym (laid-length size n e f)) ∙ sym w ∙ t)
+
+  -- what moving the value asks
+  pub laid-returnable : (v i : ℕ) → Lent d v i → Returnable (l .returns) v
+  laid-returnable v i h = rw (laid-place, h .value) (accepted-returnable d (h .accepted))
+
+-- ---- putting
+
+module _ (d : List ℕ) (h : ℕ) (v i : List ℕ) where
+  abbrev pub PutEnd : PutAnswer → List ℕ → Type 0
+  PutEnd x img = (x ≡ putAnswer d v (length i)) × (img ≡ imageAfter d h v i)
+
+  put-refused : (x : Refusal) (n : ℕ) → x .number ≡ n → putRefusal d v (length i) ≡ n → (n ≡ 0 → ⊥) → PutEnd (NotPut x) i
+  unfolding putAnswer imageAfter refusalOf
+  put-refused x n e f z =
+      let q = ne-eqb (putRefusal d v (length i)) 0 (λ p. z (sym f ∙ p)) in
+      let g = e ∙ sym f in
+      (rw q (λ j. NotPut (record { number = g j })), rw q)
+
+  -- 1 to 10
+  pub put-laid-not : (x y : Refusal) → layoutAnswer d ≡ Refused y → x .number ≡ y .number → PutEnd (NotPut x) i
+  unfolding refusalOf
+  put-laid-not x y a e =
+      let number : y .number ≡ verdict d = ap (λ (z : Refusal). z .number) (refused-verdict d y a) in
+      let nonzero = refused-nonzero d y a in
+      put-refused x (verdict d) (e ∙ number) (put-verdict d v (length i) nonzero) nonzero
+
+  pub put-wrong-length : (x : Refusal) → x ≡ refusalOf 11 → verdict d ≡ 0 → wrongLength (returnLength d) (length v) (length i) ≡ true → PutEnd (NotPut x) i
+  unfolding refusalOf
+  put-wrong-length x e a w = put-refused x 11 (ap (λ (z : Refusal). z .number) e) (put-eleven d v (length i) a w) (λ z. omega arith)
+
+  module _ (lent : Lent d (length v) (length i)) (b : Bool) (w : b ≡ wrongBool d v) where
+    pub put-wrong-bool : (x : Refusal) → x ≡ refusalOf 12 → b ≡ true → PutEnd (NotPut x) i
+    unfolding refusalOf
+    put-wrong-bool x e t = put-refused x 12 (ap (λ (z : Refusal). z .number) e) (put-twelve d v (length i) lent (sym w ∙ t)) (λ z. omega arith)
+
+    pub put-done : (place : ReturnPlace) (img : List ℕ) → b ≡ false → place ≡ returnPlace d → img ≡ returnImage place h v → PutEnd Put img
+    unfolding putAnswer imageAfter
+    put-done place img t p e =
+        let q = eq-eqb (putRefusal d v (length i)) 0 (put-none d v (length i) lent (sym w ∙ t)) in
+        (rw q, rw q (e ∙ ap (λ (x : ReturnPlace). returnImage x h v) p))
+
+-- ---- taking
+
+module _ (d i v : List ℕ) where
+  abbrev pub TakeEnd : TakeAnswer → List ℕ → Type 0
+  TakeEnd x w = (x ≡ takeAnswer d i (length v)) × (w ≡ valueAfter d i v)
+
+  take-refused : (x : Refusal) (n : ℕ) → x .number ≡ n → takeRefusal d i (length v) ≡ n → (n ≡ 0 → ⊥) → TakeEnd (NotTaken x) v
+  unfolding takeAnswer valueAfter refusalOf
+  take-refused x n e f z =
+      let q = ne-eqb (takeRefusal d i (length v)) 0 (λ p. z (sym f ∙ p)) in
+      let g = e ∙ sym f in
+      (rw q (λ j. NotTaken (record { number = g j })), rw q)
+
+  pub take-laid-not : (x y : Refusal) → layoutAnswer d ≡ Refused y → x .number ≡ y .number → TakeEnd (NotTaken x) v
+  unfolding refusalOf
+  take-laid-not x y a e =
+      let number : y .number ≡ verdict d = ap (λ (z : Refusal). z .number) (refused-verdict d y a) in
+      let nonzero = refused-nonzero d y a in
+      take-refused x (verdict d) (e ∙ number) (take-verdict d i (length v) nonzero) nonzero
+
+  pub take-wrong-length : (x : Refusal) → x ≡ refusalOf 11 → verdict d ≡ 0 → wrongLength (returnLength d) (length v) (length i) ≡ true → TakeEnd (NotTaken x) v
+  unfolding refusalOf
+  take-wrong-length x e a w = take-refused x 11 (ap (λ (z : Refusal). z .number) e) (take-eleven d i (length v) a w) (λ z. omega arith)
+
+  pub take-done : Lent d (length v) (length i) → (place : ReturnPlace) (n : ℕ) (w : List ℕ) → place ≡ returnPlace d → n ≡ returnedAddress place i
+      → w ≡ returnValue place (length v) i → TakeEnd (Taken n) w
+  unfolding takeAnswer valueAfter
+  take-done lent place n w p e f =
+      let q = eq-eqb (takeRefusal d i (length v)) 0 (take-accepted d i (length v) .1 lent) in
+      (rw q (ap Taken (e ∙ ap (λ (x : ReturnPlace). returnedAddress x i) p)), rw q (f ∙ ap (λ (x : ReturnPlace). returnValue x (length v) i) p))

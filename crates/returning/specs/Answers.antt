@@ -1,0 +1,45 @@
+-- What putting and taking answer, and what they leave in the lent buffers: document 01, "A refusal returns its number only and writes
+-- nothing". Assumes nothing: these are definitions.
+use mathlib.Core.Bool.{cond}
+use mathlib.Core.List.{List}
+use Prim.Native.Nat.{ℕ}
+use lib.Dec.{eqb}
+use lib.ListN.{length}
+use Rattle.form.specs.Reading.{refusalOf}
+use Rattle.layout.specs.Arguments.{returnPlace}
+use Rattle.return_image.specs.Image.{returnImage, returnValue, returnedAddress}
+use Rattle.returning.specs.Orders.{putRefusal, takeRefusal}
+use Rattle.returning.specs.declared.PutAnswer.{PutAnswer}
+use Rattle.returning.specs.declared.PutAnswer.the-variants.{Put, Refused as NotPut}
+use Rattle.returning.specs.declared.TakeAnswer.{TakeAnswer}
+use Rattle.returning.specs.declared.TakeAnswer.the-variants.{Taken, Refused as NotTaken}
+
+unfoldable pub putAnswer : List ℕ → List ℕ → ℕ → PutAnswer
+putAnswer d v image = cond (eqb (putRefusal d v image) 0) Put (NotPut (refusalOf (putRefusal d v image)))
+
+-- the image at exit, i at entry
+unfoldable pub imageAfter : List ℕ → ℕ → List ℕ → List ℕ → List ℕ
+imageAfter d h v i = cond (eqb (putRefusal d v (length i)) 0) (returnImage (returnPlace d) h v) i
+
+-- the hidden address, 0 where none is carried
+unfoldable pub takeAnswer : List ℕ → List ℕ → ℕ → TakeAnswer
+takeAnswer d img value =
+    cond (eqb (takeRefusal d img value) 0) (Taken (returnedAddress (returnPlace d) img)) (NotTaken (refusalOf (takeRefusal d img value)))
+
+-- the value at exit, v at entry
+unfoldable pub valueAfter : List ℕ → List ℕ → List ℕ → List ℕ
+valueAfter d img v = cond (eqb (takeRefusal d img (length v)) 0) (returnValue (returnPlace d) (length v) img) v
+
+-- the paper's number of an answer: 0 where it is accepted
+abbrev pub putNumber : PutAnswer → ℕ
+putNumber Put = 0
+putNumber (NotPut r) = r .number
+
+abbrev pub takeNumber : TakeAnswer → ℕ
+takeNumber (Taken h) = 0
+takeNumber (NotTaken r) = r .number
+
+-- the hidden address that taking answers, 0 where it is refused
+abbrev pub takenAddress : TakeAnswer → ℕ
+takenAddress (Taken h) = h
+takenAddress (NotTaken r) = 0

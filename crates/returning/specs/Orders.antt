@@ -1,0 +1,42 @@
+-- When putting and taking are refused: document 02, request 2026-02, "Refusals: after 1..10, 11 for lengths .., then 12 for a returned
+-- _Bool byte not 0 or 1, in putting only". Of any bytes. Assumes nothing: these are definitions.
+use mathlib.Core.Bool.{Bool, not, _&&_, _||_}
+use mathlib.Core.List.{List, [], _∷_, _++_}
+use Prim.Native.Nat.{ℕ}
+use lib.Dec.{eqb}
+use lib.ListN.{length, getD}
+use Rattle.description.specs.Description.{returnIn}
+use Rattle.form.specs.Order.{first, numbered}
+use Rattle.layout.specs.Arguments.{isVoid}
+use Rattle.layout.specs.Verdict.{verdictConditions}
+use Rattle.moving.specs.Orders.{brokenByte}
+use Rattle.returning.specs.Returned.{returnLength}
+
+-- 11: a value that has not exactly n bytes, or an image that has not exactly 80
+unfoldable pub wrongLength : ℕ → ℕ → ℕ → Bool
+wrongLength n value image = not (eqb value n) || not (eqb image 80)
+
+-- 12: the returned type's own record is that of _Bool, and the value's byte is neither 0 nor 1
+unfoldable pub wrongBool : List ℕ → List ℕ → Bool
+wrongBool d v = not (isVoid d) && brokenByte d (returnIn d) (getD v 0 0)
+
+-- what is judged behind 1 to 10: 11 in taking, and 11, then 12 in putting
+abbrev pub furtherTaking : List ℕ → List ℕ → ℕ → List Bool
+furtherTaking d img value = wrongLength (returnLength d) value (length img) ∷ []
+
+abbrev pub furtherPutting : List ℕ → List ℕ → ℕ → List Bool
+furtherPutting d v image = wrongLength (returnLength d) (length v) image ∷ wrongBool d v ∷ []
+
+abbrev pub takeConditions : List ℕ → List ℕ → ℕ → List Bool
+takeConditions d img value = verdictConditions d ++ furtherTaking d img value
+
+abbrev pub putConditions : List ℕ → List ℕ → ℕ → List Bool
+putConditions d v image = verdictConditions d ++ furtherPutting d v image
+
+-- which of them refuses taking so many value bytes from this image; or 0
+unfoldable pub takeRefusal : List ℕ → List ℕ → ℕ → ℕ
+takeRefusal d img value = first (numbered 1 (takeConditions d img value))
+
+-- and putting this value into an image of so many bytes
+unfoldable pub putRefusal : List ℕ → List ℕ → ℕ → ℕ
+putRefusal d v image = first (numbered 1 (putConditions d v image))

@@ -1,0 +1,104 @@
+-- What is said of putting and taking a returned value, of any bytes: document 02, request 2026-02. Assumes nothing: these are definitions.
+use mathlib.Core.Path.{_≡_}
+use mathlib.Core.Bool.{true, false, cond}
+use mathlib.Core.List.{List}
+use mathlib.Core.Logic.{_↔_, _≢_}
+use Prim.Native.Nat.{ℕ, _^_, _≤_, _<_}
+use lib.ListN.{length, getD}
+use Rattle.addresses.specs.Addresses.{gather, Absent}
+use Rattle.description.specs.Description.{returnIn, kindAt, aAt, IsBytes}
+use Rattle.places.specs.declared.ReturnPlace.{ReturnPlace}
+use Rattle.layout.specs.Arguments.{returnPlace, hidden}
+use Rattle.images.specs.Words.{littleEndian}
+use Rattle.return_image.specs.Moved.{sources, targets}
+use Rattle.return_image.specs.Image.{inMemory, onX87, rax, returnedAddress, trimmed}
+use Rattle.returning.specs.Returned.{returnLength}
+use Rattle.returning.specs.Orders.{putRefusal, takeRefusal}
+use Rattle.returning.specs.Answers.{putAnswer, imageAfter, takeAnswer, valueAfter, putNumber, takeNumber}
+use Rattle.returning.specs.Asks.{Lent}
+use Rattle.returning.specs.declared.TakeAnswer.the-variants.{Taken}
+
+-- the byte at k holds none of a value's n bytes, and no part of the hidden address
+pub record Unused (place : ReturnPlace) (n k : ℕ) : Type 0 where
+  pub absent : Absent k (targets place n)
+  pub past : inMemory place ≡ true → 8 ≤ k
+
+-- what every byte of the image is
+pub record IsImage (place : ReturnPlace) (h : ℕ) (v img : List ℕ) : Type 0 where
+  pub long : length img ≡ 80
+  pub values : gather img (targets place (length v)) ≡ gather v (sources place (length v))
+  pub address : inMemory place ≡ true → gather img rax ≡ littleEndian 8 h
+  pub zeros : (k : ℕ) → Unused place (length v) k → getD img k 0 ≡ 0
+
+-- accepted, the image is that, and no other
+abbrev pub PutsAll : Type 0
+PutsAll = (d : List ℕ) (h : ℕ) (v i : List ℕ) → putRefusal d v (length i) ≡ 0
+    → (img : List ℕ) → (imageAfter d h v i ≡ img) ↔ IsImage (returnPlace d) h v img
+
+-- a value is in memory exactly where a hidden address is passed for it
+abbrev pub MemoryHidden : Type 0
+MemoryHidden = (d : List ℕ) → inMemory (returnPlace d) ≡ hidden d
+
+-- the hidden address is looked at only where the value is in memory
+abbrev pub AddressUnseen : Type 0
+AddressUnseen = (d : List ℕ) (h g : ℕ) (v i : List ℕ) → inMemory (returnPlace d) ≡ false → imageAfter d h v i ≡ imageAfter d g v i
+
+-- "Putting then taking gives the same value, those six bytes apart", and the hidden address where it is carried
+abbrev pub TakesPut : Type 0
+TakesPut = (d : List ℕ) (h : ℕ) (v i w : List ℕ) → h < 2 ^ 64 → putRefusal d v (length i) ≡ 0 → length w ≡ length v
+    → (takeAnswer d (imageAfter d h v i) (length w) ≡ Taken (cond (inMemory (returnPlace d)) h 0))
+    × (valueAfter d (imageAfter d h v i) w ≡ trimmed (returnPlace d) v)
+
+-- and the very same value of every other class
+abbrev pub SameElsewhere : Type 0
+SameElsewhere = (place : ReturnPlace) (v : List ℕ) → onX87 place ≡ false → trimmed place v ≡ v
+
+-- the returned type's own record is that of _Bool
+pub record ReturnsBool (d : List ℕ) : Type 0 where
+  pub some : returnIn d ≢ 255
+  pub kind : kindAt d (returnIn d) ≡ 0
+  pub code : aAt d (returnIn d) ≡ 0
+
+-- unused bytes are zero, and a _Bool's byte, the first of rax, is 0 or 1
+pub record Clean (d img : List ℕ) : Type 0 where
+  pub zeros : (k : ℕ) → k < length img → Unused (returnPlace d) (returnLength d) k → getD img k 0 ≡ 0
+  pub bool : ReturnsBool d → getD img 0 0 ≤ 1
+
+-- the image comes back where the value v is put into i
+pub record ComesBack (d : List ℕ) (h : ℕ) (v img i : List ℕ) : Type 0 where
+  pub accepted : putRefusal d v (length i) ≡ 0
+  pub image : imageAfter d h v i ≡ img
+
+-- a value taken and put again, with the hidden address that was taken, is accepted and gives the same image exactly when that is clean
+abbrev pub PutsTaken : Type 0
+PutsTaken = (d img v i : List ℕ) → IsBytes img → takeRefusal d img (length v) ≡ 0 → length i ≡ length img
+    → ComesBack d (returnedAddress (returnPlace d) img) (valueAfter d img v) img i ↔ Clean d img
+
+-- taking looks at no unused byte: neither at those, nor at the six of a long double
+abbrev pub UnusedUnseen : Type 0
+UnusedUnseen = (d img jmg v : List ℕ) → length img ≡ length jmg
+    → ((k : ℕ) → (Unused (returnPlace d) (returnLength d) k → ⊥) → getD img k 0 ≡ getD jmg k 0)
+    → (takeAnswer d img (length v) ≡ takeAnswer d jmg (length v)) × (valueAfter d img v ≡ valueAfter d jmg v)
+
+-- the number of an answer is the order's, and a refusal writes nothing
+pub record Refuses (d : List ℕ) (h : ℕ) (v i : List ℕ) : Type 0 where
+  pub put : putNumber (putAnswer d v (length i)) ≡ putRefusal d v (length i)
+  pub unput : putRefusal d v (length i) ≢ 0 → imageAfter d h v i ≡ i
+  pub take : takeNumber (takeAnswer d i (length v)) ≡ takeRefusal d i (length v)
+  pub untaken : takeRefusal d i (length v) ≢ 0 → valueAfter d i v ≡ v
+
+abbrev pub RefusalsTold : Type 0
+RefusalsTold = (d : List ℕ) (h : ℕ) (v i : List ℕ) → Refuses d h v i
+
+-- 12 exactly when 1 to 11 do not hold and a _Bool is returned whose byte is neither 0 nor 1
+abbrev pub TwelveExactly : Type 0
+TwelveExactly = (d v : List ℕ) (image : ℕ) → (putRefusal d v image ≡ 12) ↔ (Lent d (length v) image × (ReturnsBool d × (1 < getD v 0 0)))
+
+-- taking is refused under 12 by nothing
+abbrev pub NeverTwelve : Type 0
+NeverTwelve = (d img : List ℕ) (value : ℕ) → takeRefusal d img value ≢ 12
+
+-- different values never give the same image, those six bytes apart
+abbrev pub NoSharedImage : Type 0
+NoSharedImage = (d : List ℕ) (h : ℕ) (v w i j : List ℕ) → putRefusal d v (length i) ≡ 0 → putRefusal d w (length j) ≡ 0
+    → imageAfter d h v i ≡ imageAfter d h w j → trimmed (returnPlace d) v ≡ trimmed (returnPlace d) w
