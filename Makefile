@@ -8,9 +8,18 @@ LIB = $(DESTDIR)$(PREFIX)/lib
 INCLUDE = $(DESTDIR)$(PREFIX)/include
 MAN = $(DESTDIR)$(PREFIX)/share/man
 
-all:
-	rt check callbridge lister
+LIBRARY = target/staticlib/libcallbridge.a
+LISTER = target/bin/lister
+SOURCES = crates.txt $(shell find crates -name '*.rt' -o -name '*.antt')
+
+all: $(LIBRARY) $(LISTER)
+
+$(LIBRARY): $(SOURCES)
 	rt staticlib callbridge
+
+$(LISTER): $(SOURCES)
+	rt check lister
+	touch $(LISTER)
 
 test:
 	./test
@@ -21,9 +30,9 @@ bench: all
 install: all
 	install -d $(BIN) $(LIB)/pkgconfig $(INCLUDE) $(MAN)/man1 $(MAN)/man3
 	install -m 644 include/callbridge.h $(INCLUDE)/callbridge.h
-	install -m 644 target/staticlib/libcallbridge.a $(LIB)/libcallbridge.a
+	install -m 644 $(LIBRARY) $(LIB)/libcallbridge.a
 	sed -e 's|@PREFIX@|$(PREFIX)|' -e 's|@VERSION@|$(VERSION)|' callbridge.pc.in > $(LIB)/pkgconfig/callbridge.pc
-	install -m 755 target/bin/lister $(BIN)/kcb-list
+	install -m 755 $(LISTER) $(BIN)/kcb-list
 	install -m 644 man/kcb-list.1 $(MAN)/man1/kcb-list.1
 	install -m 644 man/callbridge.3 $(MAN)/man3/callbridge.3
 
