@@ -23,7 +23,7 @@ use Rattle.places.specs.declared.ReturnPlace.the-variants.{Void, Memory as InMe
 use Rattle.places.specs.Shapes.{kindOf, kindsIn, kindsOf}
 use Rattle.places.specs.Places.{registerFor, place, next, generalFor, vectorFor}
 use Rattle.places.specs.Returns.{outside, returnBy, returnOf, hiddenBy, hiddenFor}
-use Rattle.places.proofs.Guaranteed.{length-classes}
+use Rattle.classify.proofs.Lengths.{length-classes}
 use Rattle.images.specs.Asks.{Inside}
 use Rattle.images.proofs.Inside.{place-inside}
 use Rattle.layout.specs.declared.Placement.{Placement as Record}

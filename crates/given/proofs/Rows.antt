@@ -6,7 +6,6 @@ use Prim.Native.Nat.{ℕ, _+_, _<_}
 use native.Mathlib.Omega.{arith}
 use lib.Dec.{eqb}
 use lib.ListN.{replicate}
-use Rattle.types.specs.Table.{sizesAfter}
 use Rattle.description.specs.Description.{argumentsIn}
 use Rattle.form.specs.declared.Refusal.{Refusal}
 use Rattle.form.specs.Reading.{refusalOf}
@@ -16,7 +15,7 @@ use Rattle.layout.specs.declared.Placement.{Placement as Record}
 use Rattle.layout.specs.declared.Begun.{Begun}
 use Rattle.layout.specs.declared.LayoutAnswer.{LayoutAnswer}
 use Rattle.layout.specs.declared.LayoutAnswer.the-variants.{Laid, Refused}
-use Rattle.layout.specs.Layout.{layoutOf as wholeOf}
+use Rattle.layout.specs.Layout.{layoutOf as wholeOf, tableAfter}
 use Rattle.layout.specs.Asks.{AskArgument}
 use Rattle.layout.specs.Verdict.{verdict}
 use Rattle.layout.specs.Placements.{stepAt, listRefusal, listAnswer, listCount, listUsed, begunOf}
@@ -40,7 +39,7 @@ module _ (d : List ℕ) (room : ℕ) where
       by true q z = refl
       by false q z = absurd (let f : _≡_ {A = ℕ} 0 1 = cc in omega arith)
 
-  module _ (before : Layout) (b : Begun) (is : b ≡ begunOf d room) (r : ListBegun) (count : r .count ≡ b .count) (used : r .used ≡ b .used) (table : r .table ≡ sizesAfter d (replicate 64 0)) where
+  module _ (before : Layout) (b : Begun) (is : b ≡ begunOf d room) (r : ListBegun) (count : r .count ≡ b .count) (used : r .used ≡ b .used) (table : r .table ≡ tableAfter d (replicate 64 0)) where
     answer-is : listAnswer d room ≡ b .answer
     answer-is = sym (begun-answer d room) ∙ ap (λ (c : Begun). c .answer) (sym is)
 

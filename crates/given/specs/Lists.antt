@@ -3,7 +3,7 @@ use mathlib.Core.List.{List}
 use Prim.Native.Nat.{ℕ}
 use Rattle.description.specs.Description.{argumentsIn}
 use lib.ListN.{replicate}
-use Rattle.types.specs.Table.{sizesAfter}
+use Rattle.layout.specs.Layout.{tableAfter}
 use Rattle.places.specs.declared.Used.{Used}
 use Rattle.layout.specs.Placements.{stepAt, placementAt, listAnswer, listCount, listUsed}
 use Rattle.flat.specs.declared.Layout.{Layout}
@@ -29,7 +29,7 @@ listBegun d before room = record {
   refusal = refusalIn (listGiven d room);
   count = listCount d room;
   used = listUsed d room 0;
-  table = sizesAfter d (replicate 64 0);
+  table = tableAfter d (replicate 64 0);
 }
 
 -- one record where u is used before it, and what is used after it

@@ -8,9 +8,11 @@ use native.Mathlib.Omega.{arith}
 use borrow.Author.Tests.{eq-eqb, ne-eqb, eqb-true, ltb-true, ltb-false}
 use lib.Dec.{ltb, eqb}
 use Rattle.units.specs.Raise.{raise}
-use Rattle.description.specs.Description.{namedIn, argumentsIn}
+use Rattle.description.specs.Description.{typesIn, namedIn, argumentsIn}
 use Rattle.form.specs.declared.Refusal.{Refusal}
 use Rattle.form.specs.Reading.{refusalOf}
+use Rattle.types.specs.Table.{filled, sizesAfter}
+use Rattle.classify.specs.Table.{fullEntry}
 use Rattle.uses.specs.Uses.{usesRefusal}
 use Rattle.uses.proofs.Uses.{accepted-typed}
 use Rattle.places.specs.declared.Used.{Used}
@@ -22,7 +24,7 @@ use Rattle.places.proofs.Prefix.{total-append}
 use Rattle.layout.specs.Arguments.{shapesFrom, shapes, returnPlace, hidden, usedFirst, usedAt, areaOf}
 use Rattle.layout.specs.Asks.{Before, AskArguments, IsLaid}
 use Rattle.layout.specs.Verdict.{verdict}
-use Rattle.layout.specs.Layout.{valuesOf, layoutOf, layoutAnswer}
+use Rattle.layout.specs.Layout.{valuesOf, layoutOf, layoutAnswer, tableAfter}
 use Rattle.layout.specs.declared.LayoutAnswer.the-variants.{Laid, Refused}
 use Rattle.layout.specs.declared.Layout.{Layout}
 use Rattle.layout.specs.declared.Laying.{Laying}
@@ -172,3 +174,13 @@ refused-nonzero d r e v =
   where
     e′ : Refused r ≡ Laid (layoutOf d)
     e′ = sym e ∙ answered d true (eq-eqb (verdict d) 0 v)
+
+-- the table once it is worked out
+module _ (d t u : List ℕ) (e : u ≡ sizesAfter d t) where
+  pub table-refused : (usesRefusal d ≡ 0 → ⊥) → u ≡ tableAfter d t
+  unfolding tableAfter
+  table-refused h = e ∙ rw (ne-eqb (usesRefusal d) 0 h)
+
+  pub table-worked : usesRefusal d ≡ 0 → (v : List ℕ) → v ≡ filled (fullEntry d) (typesIn d) u → v ≡ tableAfter d t
+  unfolding tableAfter
+  table-worked h v ev = ev ∙ ap (filled (fullEntry d) (typesIn d)) e ∙ rw (eq-eqb (usesRefusal d) 0 h)

@@ -8,7 +8,6 @@ use native.Mathlib.Omega.{arith}
 use borrow.Author.Tests.{eq-eqb, ne-eqb, eqb-true, lt-ltb, le-ltb, ltb-false}
 use lib.Dec.{ltb, eqb}
 use lib.ListN.{getD, replicate}
-use Rattle.types.specs.Table.{sizesAfter}
 use Rattle.description.specs.Description.{argumentsIn}
 use Rattle.form.specs.Order.{FirstAt}
 use Rattle.form.specs.Reading.{refusalOf}
@@ -18,7 +17,7 @@ use Rattle.places.specs.declared.Used.{Used}
 use Rattle.places.specs.Places.{fresh, next}
 use Rattle.layout.specs.Arguments.{shapeAt, usedFirst, usedAt, hidden}
 use Rattle.layout.specs.Verdict.{verdictConditions, verdict}
-use Rattle.layout.specs.Layout.{layoutOf, layoutAnswer}
+use Rattle.layout.specs.Layout.{layoutOf, layoutAnswer, tableAfter}
 use Rattle.layout.specs.Asks.{AskArgument}
 use Rattle.layout.specs.Placements.{placementAt, stepAt, shortList, listRefusal, listAnswer, listCount, listUsed, begunOf, openedOf}
 use Rattle.layout.specs.declared.Layout.{Layout}
@@ -106,7 +105,7 @@ module _ (d : List ℕ) (room : ℕ) where
   begun-used = refl
 
   -- what `open_list` answers
-  pub opened-is : (h : Begun) (t : List ℕ) (r : Opened) → h ≡ begunOf d room → t ≡ sizesAfter d (replicate 64 0) → r .answer ≡ h .answer → r .count ≡ h .count → r .used ≡ h .used → r .table ≡ t
+  pub opened-is : (h : Begun) (t : List ℕ) (r : Opened) → h ≡ begunOf d room → t ≡ tableAfter d (replicate 64 0) → r .answer ≡ h .answer → r .count ≡ h .count → r .used ≡ h .used → r .table ≡ t
       → r ≡ openedOf d room
   unfolding begunOf openedOf
   opened-is h t r eh et a n u w = λ i. record {

@@ -23,7 +23,7 @@ use Rattle.places.specs.Places.{place, next}
 use Rattle.places.specs.Recorded.{asked, recorded, IsPlaced}
 use Rattle.places.specs.Returns.{returnOf, hiddenFor}
 use Rattle.places.proofs.Records.{place-is}
-use Rattle.places.proofs.Guaranteed.{length-classes}
+use Rattle.classify.proofs.Lengths.{length-classes}
 use Rattle.layout.specs.Arguments.{shapeAt, isVoid, returnClasses, returnPlace, hidden}
 use Rattle.layout.specs.Placements.{stepAt}
 use Rattle.layout.specs.declared.Step.{Step}

@@ -4,8 +4,11 @@ use mathlib.Core.Bool.{cond}
 use mathlib.Core.List.{List}
 use Prim.Native.Nat.{ℕ}
 use lib.Dec.{eqb}
-use Rattle.description.specs.Description.{namedIn, argumentsIn}
+use Rattle.description.specs.Description.{typesIn, namedIn, argumentsIn}
 use Rattle.form.specs.Reading.{refusalOf}
+use Rattle.types.specs.Table.{filled, sizesAfter}
+use Rattle.classify.specs.Table.{fullEntry}
+use Rattle.uses.specs.Uses.{usesRefusal}
 use Rattle.places.specs.Images.{total}
 use Rattle.layout.specs.Arguments.{shapes, returnPlace, hidden, usedAt, areaOf}
 use Rattle.layout.specs.Verdict.{verdict}
@@ -32,6 +35,10 @@ layoutOf d = record {
 -- "1..10"
 unfoldable pub layoutAnswer : List ℕ → LayoutAnswer
 layoutAnswer d = cond (eqb (verdict d) 0) (Laid (layoutOf d)) (Refused (refusalOf (verdict d)))
+
+-- the table once it is worked out: classes too, where none of 1 to 9 refuses
+unfoldable pub tableAfter : List ℕ → List ℕ → List ℕ
+tableAfter d table = cond (eqb (usesRefusal d) 0) (filled (fullEntry d) (typesIn d) (sizesAfter d table)) (sizesAfter d table)
 
 -- the paper's number of an answer: 0 where it is accepted
 abbrev pub numberOf : LayoutAnswer → ℕ

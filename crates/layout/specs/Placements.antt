@@ -8,14 +8,13 @@ use lib.ListN.{replicate}
 use Rattle.description.specs.Description.{argumentsIn, argumentAt}
 use Rattle.form.specs.Order.{first, numbered}
 use Rattle.form.specs.Reading.{refusalOf}
-use Rattle.types.specs.Table.{sizesAfter}
 unfoldable pub use Rattle.types.specs.Table.{filled}
 use Rattle.places.specs.declared.Used.{Used}
 use Rattle.places.specs.Places.{fresh, place, next}
 use Rattle.places.specs.Recorded.{recorded}
 use Rattle.layout.specs.Arguments.{shapeAt, usedAt}
 use Rattle.layout.specs.Verdict.{verdictConditions}
-use Rattle.layout.specs.Layout.{layoutOf}
+use Rattle.layout.specs.Layout.{layoutOf, tableAfter}
 use Rattle.layout.specs.declared.Placement.{Placement}
 use Rattle.layout.specs.declared.Step.{Step}
 use Rattle.layout.specs.declared.Begun.{Begun}
@@ -65,4 +64,4 @@ begunOf d room = record { answer = listAnswer d room; count = listCount d room; 
 
 -- the same, and the table that the records are made by
 unfoldable pub openedOf : List ℕ → ℕ → Opened
-openedOf d room = record { answer = listAnswer d room; count = listCount d room; used = listUsed d room 0; table = sizesAfter d (replicate 64 0) }
+openedOf d room = record { answer = listAnswer d room; count = listCount d room; used = listUsed d room 0; table = tableAfter d (replicate 64 0) }

@@ -9,12 +9,11 @@ ghost use Prim.Native.Nat.{_-_, _≤_};
 ghost use lib.ListN.{length};
 ghost use Rattle.description.specs.Description.{argumentsIn};
 ghost use Rattle.form.specs.Reading.{refusalOf};
-ghost use Rattle.types.specs.Table.{sizesAfter};
 ghost use Rattle.classify.specs.Table.{Tabled};
 ghost use Rattle.uses.specs.Uses.{usesRefusal};
 ghost use Rattle.layout.specs.Arguments.{shapesFrom, returnPlace, hidden, usedAt};
 ghost use Rattle.layout.specs.Verdict.{verdict};
-ghost use Rattle.layout.specs.Layout.{layoutOf, layoutAnswer};
+ghost use Rattle.layout.specs.Layout.{layoutOf, layoutAnswer, tableAfter};
 ghost use Rattle.layout.specs.Placements.{placementAt, stepAt, listAnswer, listCount, begunOf, openedOf, filled};
 ghost use Rattle.layout.specs.Asks.{AskArgument, AskArguments, IsLaid};
 
@@ -90,7 +89,7 @@ fn return_of(d: &[u8], table: &[u32; 64]) -> Returned
             hidden: false,
         };
     }
-    let classes = classify::classes_of(d, k, table);
+    let classes = classify::classes_in(table, k);
     let first = classes[0];
     let second = classes[1];
     Returned {
@@ -105,7 +104,7 @@ pub fn place_argument(d: &[u8], used: Used, i: usize, table: &[u32; 64]) -> Step
     ensures { λ r. ⌜ r ≡ stepAt (now (d .entry)) used i ⌝ }
 {
     let k = description::argument_at(d, i);
-    let shape = places::shape_of(d, k, table);
+    let shape = places::shape_in(table, k);
     let size = shape.size;
     let align = shape.align;
     let placed = places::place_next(used, shape);
@@ -189,13 +188,14 @@ fn lay(d: &[u8], table: &[u32; 64]) -> Layout
 // The layout of any bytes, or which of 1 to 10 refuses them. Where none does, the table holds what is known of each type.
 pub fn layout_with(d: &[u8], table: &mut [u32; 64]) -> LayoutAnswer
     ensures { λ r. ⌜ (r ≡ layoutAnswer (now (d .entry)))
-        × (now (table .exit) ≡ sizesAfter (now (d .entry)) (now (table .entry)))
+        × (now (table .exit) ≡ tableAfter (now (d .entry)) (now (table .entry)))
         × (verdict (now (d .entry)) ≡ 0 → Tabled (now (d .entry)) (now (table .exit))) ⌝ }
 {
     let number = uses::uses_refusal_with(d, table);
     if number != 0 {
         return LayoutAnswer::Refused(form::refusal_of(number));
     }
+    classify::fill_classes(d, table);
     let layout = lay(d, table);
     let area = layout.area;
     if units::over(area, Bytes(16384)) {
@@ -227,7 +227,7 @@ pub fn check(d: &[u8]) -> Refusal
 // `place_argument` it serves a caller that has no list to lend: that caller's table has what the records are made of.
 pub fn begin_with(d: &[u8], room: usize, table: &mut [u32; 64]) -> Begun
     ensures { λ r. ⌜ (r ≡ begunOf (now (d .entry)) room) × (r .count ≤ room)
-        × (now (table .exit) ≡ sizesAfter (now (d .entry)) (now (table .entry)))
+        × (now (table .exit) ≡ tableAfter (now (d .entry)) (now (table .entry)))
         × (verdict (now (d .entry)) ≡ 0 → Tabled (now (d .entry)) (now (table .exit))) ⌝ }
 {
     let answer = layout_with(d, table);

@@ -24,77 +24,13 @@ use Rattle.types.proofs.Laws.{size-low, type-filled}
 use Rattle.types.proofs.Large.{accepted-sized, accepted-small}
 use Rattle.classify.specs.Classify.{put, basicAt, elementsAt, classesAt, membersAt, isAggregate, classesOf}
 use Rattle.classify.specs.Shaped.{Shaped as Classed}
+use Rattle.classify.proofs.Lengths.{length-classes}
 use Rattle.classify.proofs.Shaped.{type-shaped}
 use Rattle.places.specs.declared.Kind.{Kind}
 use Rattle.places.specs.declared.Kind.the-variants.{General as general, Vector as vector, Upper as upper}
 use Rattle.places.specs.Shapes.{kindsIn, kindsOf, shapeOf, some?, Led, Alignment, one as byOne, two as byTwo, four as byFour, eight as byEight, sixteen as bySixteen, Shaped}
 use Rattle.places.specs.Recorded.{Small}
 use Rattle.places.proofs.Fits.{clash}
-
--- ---- a type has two classes
-
-length-merge : (xs ys : List Class) → length xs ≡ 2 → length ys ≡ 2 → length (mergeAll xs ys) ≡ 2
-unfolding mergeAll
-length-merge [] ys p q = q
-length-merge (x ∷ xs) [] p q = p
-length-merge (x ∷ []) (y ∷ ys) p q = absurd (omega arith)
-length-merge (x ∷ w ∷ xs) (y ∷ []) p q = absurd (omega arith)
-length-merge (x ∷ w ∷ []) (y ∷ v ∷ []) p q = refl
-length-merge (x ∷ w ∷ []) (y ∷ v ∷ z ∷ ys) p q = absurd (omega arith)
-length-merge (x ∷ w ∷ z ∷ xs) (y ∷ v ∷ ys) p q = absurd (omega arith)
-
-length-blank : (cs : List Class) → length (blank cs) ≡ length cs
-length-blank [] = refl
-length-blank (c ∷ cs) = ap suc (length-blank cs)
-
-length-memory : (cs : List Class) → length (memoryOf cs) ≡ length cs
-length-memory [] = refl
-length-memory (c ∷ cs) = ap suc (length-blank cs)
-
-length-settle : (p : Class) (cs : List Class) → length (settleAll p cs) ≡ length cs
-length-settle p [] = refl
-length-settle p (c ∷ cs) = ap suc (length-settle c cs)
-
-length-clean : (cs : List Class) → length cs ≡ 2 → length (cleanUp cs) ≡ 2
-unfolding cleanUp
-length-clean cs e = by (anyMemory cs) (anyUpAlone NoClass cs)
-  where
-    by : (a b : Bool) → length (cond a (memoryOf cs) (cond b (memoryOf cs) (settleAll NoClass cs))) ≡ 2
-    by true b = length-memory cs ∙ e
-    by false true = length-memory cs ∙ e
-    by false false = length-settle NoClass cs ∙ e
-
-length-put : (o : ℕ) (c : Class) → length (put 2 o c) ≡ 2
-unfolding put
-length-put o c = length-set (noClasses 2) (o / 8) c
-
-length-elements : (f : ℕ → List Class) (s : ℕ) → ((q : ℕ) → length (f q) ≡ 2) → (n q : ℕ) (cs : List Class) → length cs ≡ 2 → length (elementsAt f s n q cs) ≡ 2
-unfolding elementsAt
-length-elements f s each zero q cs e = e
-length-elements f s each (suc n) q cs e = length-elements f s each n (q + s) (mergeAll cs (f q)) (length-merge cs (f q) e (each q))
-
-mutual
-  unfolding classesAt basicAt
-
-  length-at : (t : Ty) (o : ℕ) → length (classesAt 2 t o) ≡ 2
-  length-at (basic code) o = length-merge _ _ (length-put o _) (length-put _ _)
-  length-at (array t n) o = length-clean _ (length-elements (classesAt 2 t) (sizeTy lp64 t) (λ q. length-at t q) n o (noClasses 2) refl)
-  length-at (struct ts) o = length-clean _ (length-members ts false 0 o (noClasses 2) refl)
-  length-at (union ts) o = length-clean _ (length-members ts true 0 o (noClasses 2) refl)
-
-  length-members : (ts : Tys) (u : Bool) (x o : ℕ) (cs : List Class) → length cs ≡ 2 → length (membersAt 2 ts u x o cs) ≡ 2
-  length-members none u x o cs e = e
-  length-members (more t ts) u x o cs e =
-      length-members ts u (endAfter u x (alignTy lp64 t) (sizeTy lp64 t)) o (mergeAll cs (classesAt 2 t (o + offsetAfter u x (alignTy lp64 t))))
-      (length-merge cs (classesAt 2 t (o + offsetAfter u x (alignTy lp64 t))) e (length-at t (o + offsetAfter u x (alignTy lp64 t))))
-
-pub length-classes : (t : Ty) → length (classesOf t) ≡ 2
-unfolding classesOf
-length-classes t = by (isAggregate t && ltb 16 (sizeTy lp64 t))
-  where
-    by : (b : Bool) → length (cond b (Memory ∷ NoClass ∷ []) (classesAt 2 t 0)) ≡ 2
-    by true = refl
-    by false = length-at t 0
 
 -- ---- its kinds
 

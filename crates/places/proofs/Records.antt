@@ -2,19 +2,21 @@
 use mathlib.Core.Path.{_≡_, refl, sym, ap, ap₂, _∙_}
 use mathlib.Core.Bool.{Bool, true, false, cond, _||_}
 use mathlib.Core.List.{List, [], _∷_, _++_}
-use Prim.Native.Nat.{ℕ, suc, _+_, _-_, _≤_, max}
+use Prim.Native.Nat.{ℕ, suc, _+_, _-_, _/_, _%_, _≤_, _<_, max}
 use native.Mathlib.Omega.{arith}
-use lib.ListN.{length}
+use lib.ListN.{length, getD}
+use Rattle.description.specs.Description.{typesIn}
 use Rattle.units.specs.Raise.{raise}
 use Rattle.units.specs.declared.Registers.{Registers}
 use Rattle.units.specs.declared.Bytes.{Bytes}
 use Rattle.classes.specs.declared.Class.{Class}
 use Rattle.classes.specs.declared.Class.the-variants.{NoClass, Integer, Sse, SseUp, X87, X87Up, ComplexX87, Memory}
 use Rattle.classes.specs.Classes.{same, isX87}
-use Rattle.types.specs.Tree.{Ty}
-use Rattle.types.specs.Basic.{lp64}
-use Rattle.types.specs.Size.{sizeTy, alignTy}
-use Rattle.classify.specs.Classify.{classesOf}
+use Rattle.types.specs.Decode.{tyAt}
+use Rattle.types.specs.Table.{IsEntry}
+use Rattle.types.specs.declared.Extent.{Extent}
+use Rattle.types.proofs.Table.{entry-extent}
+use Rattle.classify.specs.Table.{unpackedOf, Tabled}
 use Rattle.places.specs.declared.Kind.{Kind}
 use Rattle.places.specs.declared.Kind.the-variants.{General as general, Vector as vector, Upper as upper}
 use Rattle.places.specs.declared.Kinds.{Kinds}
@@ -31,7 +33,7 @@ use Rattle.places.specs.declared.Taken.{Taken}
 use Rattle.places.specs.declared.Placed.{Placed}
 use Rattle.places.specs.declared.Found.{Found}
 use Rattle.places.specs.declared.Found.the-variants.{Here, Nowhere}
-use Rattle.places.specs.Shapes.{Shape, kindOf, kindsOf, shapeOf, some?, Shaped}
+use Rattle.places.specs.Shapes.{Shape, kindOf, kindsOf, shapeOf, shapeIn, some?, Shaped}
 use Rattle.places.specs.Places.{Place, inRegisters, onStack, generalFor, vectorFor, registerFor, registersFor, taking, enough, fits, start, placeIf, place, next}
 use Rattle.places.specs.Recorded.{listed, asked, placeOf, recorded, IsPlaced}
 use Rattle.places.specs.Steps.{eightbyteOf, IsTaken, foundIf, IsFound, stackedAt}
@@ -141,10 +143,18 @@ unfolding kindsOf
 pair-kinds a b x y p q =
     rw (← p, ← q) (rw (stack-part a, stack-part b, kind-part a, kind-part b))
 
-pub shape-is : (t : Ty) (cs : List Class) (ks : List Kind) (size align : ℕ) → cs ≡ classesOf t → ks ≡ kindsOf cs → size ≡ sizeTy lp64 t → align ≡ alignTy lp64 t
-    → _≡_ {A = Shape} (record { kinds = ks; size = size; align = align }) (shapeOf t)
-unfolding shapeOf
-shape-is t cs ks size align c k s a = λ i. record { kinds = (k ∙ ap kindsOf c) i; size = s i; align = a i }
+-- by its entry
+pub entry-shape : (entry : ℕ) (cs : List Class) (ks : List Kind) (e : Extent) → cs ≡ unpackedOf (entry / 262144) → ks ≡ kindsOf cs → IsEntry entry e
+    → _≡_ {A = Shape} (record { kinds = ks; size = e .size .0; align = e .align .0 }) (shapeIn entry)
+unfolding shapeIn
+entry-shape entry cs ks e c k h = λ i. record { kinds = (k ∙ ap kindsOf c) i; size = h .size i; align = h .align i }
+
+-- the entry of a type in a table that is worked out has its shape
+pub shape-known : (d t : List ℕ) → Tabled d t → (k : ℕ) → k < typesIn d → shapeIn (getD t k 0) ≡ shapeOf (tyAt d k)
+unfolding shapeIn shapeOf
+shape-known d t w k l =
+    let x = entry-extent d t (typesIn d) (w .sizes) k l (record { size = record { 0 = getD t k 0 % 8192 }; align = record { 0 = getD t k 0 / 8192 % 32 } }) (record { size = refl; align = refl }) in
+    λ i. record { kinds = kindsOf (w .classes k l i); size = x .size i; align = x .align i }
 
 -- ---- registers, one eightbyte after the other
 

@@ -2,7 +2,7 @@
 use mathlib.Core.Path.{_≡_}
 use mathlib.Core.Bool.{Bool, true, false, cond}
 use mathlib.Core.List.{List, [], _∷_, _++_}
-use Prim.Native.Nat.{ℕ, _+_, _*_, _≤_, _<_}
+use Prim.Native.Nat.{ℕ, _+_, _*_, _/_, _%_, _≤_, _<_}
 use lib.ListN.{length}
 use Rattle.classes.specs.declared.Class.{Class}
 use Rattle.classes.specs.declared.Class.the-variants.{NoClass, Integer, Sse, SseUp, X87, X87Up, ComplexX87, Memory}
@@ -11,6 +11,7 @@ use Rattle.types.specs.Tree.{Ty}
 use Rattle.types.specs.Basic.{lp64}
 use Rattle.types.specs.Size.{sizeTy, alignTy}
 use Rattle.classify.specs.Classify.{classesOf}
+use Rattle.classify.specs.Table.{unpackedOf}
 use Rattle.places.specs.declared.Kind.{Kind}
 use Rattle.places.specs.declared.Kind.the-variants.{General as general, Vector as vector, Upper as upper}
 
@@ -42,6 +43,10 @@ kindsOf cs = cond (onStack cs) [] (kindsIn cs)
 -- of a type written out
 unfoldable pub shapeOf : Ty → Shape
 shapeOf t = record { kinds = kindsOf (classesOf t); size = sizeTy lp64 t; align = alignTy lp64 t }
+
+-- of a type's entry in a table
+unfoldable pub shapeIn : ℕ → Shape
+shapeIn entry = record { kinds = kindsOf (unpackedOf (entry / 262144)); size = entry % 8192; align = entry / 8192 % 32 }
 
 -- ---- what classification guarantees
 

@@ -4,11 +4,9 @@ use units::Bytes;
 use units::Registers;
 ghost use mathlib.Core.Path.{_≡_};
 ghost use mathlib.Core.List.{[], _∷_};
-ghost use Prim.Native.Nat.{_^_, _≤_};
-ghost use Rattle.types.specs.Decode.{tyAt};
-ghost use Rattle.classify.specs.Asks.{AskType};
-ghost use Rattle.classify.specs.Table.{Tabled};
-ghost use Rattle.places.specs.Shapes.{kindsOf, shapeOf};
+ghost use Prim.Native.Nat.{_^_, _≤_, _<_};
+ghost use lib.ListN.{getD};
+ghost use Rattle.places.specs.Shapes.{kindsOf, shapeIn};
 ghost use Rattle.places.specs.Places.{fresh, enough, place, next};
 ghost use Rattle.places.specs.Recorded.{listed, asked, Room, Small, IsPlaced};
 ghost use Rattle.places.specs.Steps.{eightbyteOf, IsTaken, foundIf, IsFound, stackedAt};
@@ -128,12 +126,12 @@ fn kinds_of(first: Class, second: Class) -> Kinds
     }
 }
 
-// What places an argument of type k.
-pub fn shape_of(d: &[u8], k: usize, table: &[u32; 64]) -> Shape
-    requires { ⌜ AskType (now d) k 0 × Tabled (now d) (now table) ⌝ }
-    ensures { λ r. ⌜ asked r ≡ shapeOf (tyAt (now (d .entry)) k) ⌝ }
+// What places an argument of type k, by the table.
+pub fn shape_in(table: &[u32; 64], k: usize) -> Shape
+    requires { ⌜ k < 64 ⌝ }
+    ensures { λ r. ⌜ asked r ≡ shapeIn (getD (now (table .entry)) k 0) ⌝ }
 {
-    let classes = classify::classes_of(d, k, table);
+    let classes = classify::classes_in(table, k);
     let first = classes[0];
     let second = classes[1];
     let kinds = kinds_of(first, second);

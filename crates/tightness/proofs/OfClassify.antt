@@ -1,22 +1,25 @@
 -- Each public function of `classify` meets its contract, and the contract is tight. Assumes nothing.
-use mathlib.Core.Path.{refl}
+use mathlib.Core.Path.{_≡_, refl, sym, _∙_}
 use Rattle.tightness.specs.Tight.{Meets, Tight}
-use Rattle.tightness.proofs.Laws.{equal, result}
-use Rattle.classify.proofs.classes_of
-use Rattle.classify.proofs.classes_of.Met as classes-of-met
-use Rattle.classify.proofs.classes_of.Symbol as classes-of-symbol
-use Rattle.classify.proofs.classify_type
-use Rattle.classify.proofs.classify_type.Met as classify-type-met
-use Rattle.classify.proofs.classify_type.Symbol as classify-type-symbol
+use Rattle.tightness.proofs.Laws.{bytes, equal, result, settle}
+use Rattle.classify.proofs.classes_in
+use Rattle.classify.proofs.classes_in.Met as classes-in-met
+use Rattle.classify.proofs.classes_in.Symbol as classes-in-symbol
+use Rattle.classify.proofs.fill_classes
+use Rattle.classify.proofs.fill_classes.Met as fill-classes-met
+use Rattle.classify.proofs.fill_classes.Symbol as fill-classes-symbol
 
-pub meets-classify-classify-type : Meets classify_type.ended (λ M. classify_type.clauses {M = M}) classify-type-symbol.routine
-meets-classify-classify-type M = classify-type-met.met
+pub meets-classify-fill-classes : Meets fill_classes.ended (λ M. fill_classes.clauses {M = M}) fill-classes-symbol.routine
+meets-classify-fill-classes M = fill-classes-met.met
 
-pub tight-classify-classify-type : Tight classify_type.ended (λ M. classify_type.clauses {M = M})
-tight-classify-classify-type c r q w v a b = (equal (result classify_type.ended c) (a .ensured) (b .ensured), refl)
+pub tight-classify-fill-classes : Tight fill_classes.ended (λ M. fill_classes.clauses {M = M})
+tight-classify-fill-classes c r q w v a b = (refl, λ i. (tt, (table i, tt)))
+  where
+    table : w .1 .0 ≡ v .1 .0
+    table = settle bytes (a .ensured) (b .ensured) (λ e f. e .0 ∙ sym (f .0))
 
-pub meets-classify-classes-of : Meets classes_of.ended (λ M. classes_of.clauses {M = M}) classes-of-symbol.routine
-meets-classify-classes-of M = classes-of-met.met
+pub meets-classify-classes-in : Meets classes_in.ended (λ M. classes_in.clauses {M = M}) classes-in-symbol.routine
+meets-classify-classes-in M = classes-in-met.met
 
-pub tight-classify-classes-of : Tight classes_of.ended (λ M. classes_of.clauses {M = M})
-tight-classify-classes-of c r q w v a b = (equal (result classes_of.ended c) (a .ensured) (b .ensured), refl)
+pub tight-classify-classes-in : Tight classes_in.ended (λ M. classes_in.clauses {M = M})
+tight-classify-classes-in c r q w v a b = (equal (result classes_in.ended c) (a .ensured) (b .ensured), refl)

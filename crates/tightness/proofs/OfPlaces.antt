@@ -15,15 +15,15 @@ use Rattle.places.proofs.place_next.Symbol as place-next-symbol
 use Rattle.places.proofs.return_place
 use Rattle.places.proofs.return_place.Met as return-place-met
 use Rattle.places.proofs.return_place.Symbol as return-place-symbol
-use Rattle.places.proofs.shape_of
-use Rattle.places.proofs.shape_of.Met as shape-of-met
-use Rattle.places.proofs.shape_of.Symbol as shape-of-symbol
+use Rattle.places.proofs.shape_in
+use Rattle.places.proofs.shape_in.Met as shape-in-met
+use Rattle.places.proofs.shape_in.Symbol as shape-in-symbol
 
-pub meets-places-shape-of : Meets shape_of.ended (λ M. shape_of.clauses {M = M}) shape-of-symbol.routine
-meets-places-shape-of M = shape-of-met.met
+pub meets-places-shape-in : Meets shape_in.ended (λ M. shape_in.clauses {M = M}) shape-in-symbol.routine
+meets-places-shape-in M = shape-in-met.met
 
-pub tight-places-shape-of : Tight shape_of.ended (λ M. shape_of.clauses {M = M})
-tight-places-shape-of c r q w v a b = (settle (result shape_of.ended c) (a .ensured) (b .ensured) (λ e f. asked-same r q (e ∙ sym f)), refl)
+pub tight-places-shape-in : Tight shape_in.ended (λ M. shape_in.clauses {M = M})
+tight-places-shape-in c r q w v a b = (settle (result shape_in.ended c) (a .ensured) (b .ensured) (λ e f. asked-same r q (e ∙ sym f)), refl)
 
 pub meets-places-fresh : Meets fresh.ended (λ M. fresh.clauses {M = M}) fresh-symbol.routine
 meets-places-fresh M = fresh-met.met

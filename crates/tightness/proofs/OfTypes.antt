@@ -8,6 +8,9 @@ use Rattle.types.proofs.basic_extent.Symbol as basic-extent-symbol
 use Rattle.types.proofs.end_after
 use Rattle.types.proofs.end_after.Met as end-after-met
 use Rattle.types.proofs.end_after.Symbol as end-after-symbol
+use Rattle.types.proofs.entries
+use Rattle.types.proofs.entries.Met as entries-met
+use Rattle.types.proofs.entries.Symbol as entries-symbol
 use Rattle.types.proofs.extent_in
 use Rattle.types.proofs.extent_in.Met as extent-in-met
 use Rattle.types.proofs.extent_in.Symbol as extent-in-symbol
@@ -20,6 +23,9 @@ use Rattle.types.proofs.types_refusal.Symbol as types-refusal-symbol
 use Rattle.types.proofs.types_refusal_with
 use Rattle.types.proofs.types_refusal_with.Met as types-refusal-with-met
 use Rattle.types.proofs.types_refusal_with.Symbol as types-refusal-with-symbol
+use Rattle.types.proofs.wide
+use Rattle.types.proofs.wide.Met as wide-met
+use Rattle.types.proofs.wide.Symbol as wide-symbol
 
 pub meets-types-basic-extent : Meets basic_extent.ended (λ M. basic_extent.clauses {M = M}) basic-extent-symbol.routine
 meets-types-basic-extent M = basic-extent-met.met
@@ -38,6 +44,18 @@ meets-types-end-after M = end-after-met.met
 
 pub tight-types-end-after : Tight end_after.ended (λ M. end_after.clauses {M = M})
 tight-types-end-after c r q w v a b = (settle (result end_after.ended c) (a .ensured) (b .ensured) (λ e f i. record { 0 = (e ∙ sym f) i }), refl)
+
+pub meets-types-entries : Meets entries.ended (λ M. entries.clauses {M = M}) entries-symbol.routine
+meets-types-entries M = entries-met.met
+
+pub tight-types-entries : Tight entries.ended (λ M. entries.clauses {M = M})
+tight-types-entries c r q w v a b = (settle (result entries.ended c) (a .ensured) (b .ensured) (λ e f. e .0 ∙ sym (f .0)), refl)
+
+pub meets-types-wide : Meets wide.ended (λ M. wide.clauses {M = M}) wide-symbol.routine
+meets-types-wide M = wide-met.met
+
+pub tight-types-wide : Tight wide.ended (λ M. wide.clauses {M = M})
+tight-types-wide c r q w v a b = (equal (result wide.ended c) (a .ensured) (b .ensured), refl)
 
 pub meets-types-extent-in : Meets extent_in.ended (λ M. extent_in.clauses {M = M}) extent-in-symbol.routine
 meets-types-extent-in M = extent-in-met.met

@@ -20,6 +20,7 @@ use Rattle.types.specs.Large.{firstLarge}
 use Rattle.types.specs.Asks.{Sized, IsExtent}
 use Rattle.types.specs.Table.{packed, IsEntry, entryAt, filled, sizesAfter, Sizes}
 use Rattle.types.specs.declared.Extent.{Extent}
+use Rattle.types.proofs.Sizes.{align-high}
 
 -- what a filled list holds
 module _ {X : Type 0} where
@@ -52,13 +53,21 @@ module _ {X : Type 0} where
       by (inr less) rec = getD-set-other (filled f n l) n j (f n) x (λ e. omega (arith, e)) ∙ rec less
 
 -- size and alignment come out of an entry again
-packed-size : (s a : ℕ) → s ≤ 4096 → packed s a % 8192 ≡ s
+packed-size : (x s a : ℕ) → s ≤ 4096 → x % 262144 ≡ packed s a → x % 8192 ≡ s
 unfolding packed
-packed-size s a h = omega arith
+packed-size x s a h e = omega arith
 
-packed-align : (s a : ℕ) → s ≤ 4096 → packed s a / 8192 ≡ a
+packed-align : (x s a : ℕ) → s ≤ 4096 → a ≤ 16 → x % 262144 ≡ packed s a → x / 8192 % 32 ≡ a
 unfolding packed
-packed-align s a h = omega arith
+packed-align x s a h l e = omega arith
+
+packed-low : (s a : ℕ) → s ≤ 4096 → a ≤ 16 → packed s a < 262144
+unfolding packed
+packed-low s a h l = omega arith
+
+pub entry-small : (d : List ℕ) (k : ℕ) → sizeTy lp64 (tyAt d k) ≤ 4096 → entryAt d k < 262144
+unfolding entryAt
+entry-small d k h = packed-low (sizeTy lp64 (tyAt d k)) (alignTy lp64 (tyAt d k)) h (align-high lp64 (tyAt d k))
 
 -- no entry is asked for
 pub sizes-none : (d t : List ℕ) → Sizes d 0 t
@@ -66,7 +75,10 @@ sizes-none d t = record { few = omega arith; small = λ k l. absurd (omega arith
 
 -- the entries that were filled
 pub sizes-filled : (d t : List ℕ) (n : ℕ) → length t ≡ 64 → n ≤ 64 → ((k : ℕ) → k < n → sizeTy lp64 (tyAt d k) ≤ 4096) → Sizes d n (filled (entryAt d) n t)
-sizes-filled d t n e l s = record { few = l; small = s; right = λ k h. filled-below (entryAt d) n t k 0 (omega arith) h }
+sizes-filled d t n e l s = record { few = l; small = s; right = λ k h. ap (λ (x : ℕ). x % 262144) (filled-below (entryAt d) n t k 0 (omega arith) h) ∙ rest (entryAt d k) (entry-small d k (s k h)) }
+  where
+    rest : (x : ℕ) → x < 262144 → x % 262144 ≡ x
+    rest x l = omega arith
 
 -- what an entry says is what the type has
 module _ (d t : List ℕ) (n : ℕ) (sizes : Sizes d n t) (k : ℕ) (l : k < n) where
@@ -76,8 +88,8 @@ module _ (d t : List ℕ) (n : ℕ) (sizes : Sizes d n t) (k : ℕ) (l : k < n) 
   pub entry-extent : (r : Extent) → IsEntry (getD t k 0) r → IsExtent (tyAt d k) r
   unfolding entryAt
   entry-extent r e = record {
-    size = e .size ∙ ap (λ (x : ℕ). x % 8192) (sizes .right k l) ∙ packed-size (sizeTy lp64 (tyAt d k)) (alignTy lp64 (tyAt d k)) (sizes .small k l);
-    align = e .align ∙ ap (λ (x : ℕ). x / 8192) (sizes .right k l) ∙ packed-align (sizeTy lp64 (tyAt d k)) (alignTy lp64 (tyAt d k)) (sizes .small k l);
+    size = e .size ∙ packed-size (getD t k 0) (sizeTy lp64 (tyAt d k)) (alignTy lp64 (tyAt d k)) (sizes .small k l) (sizes .right k l);
+    align = e .align ∙ packed-align (getD t k 0) (sizeTy lp64 (tyAt d k)) (alignTy lp64 (tyAt d k)) (sizes .small k l) (align-high lp64 (tyAt d k)) (sizes .right k l);
   }
 
 -- the same of a type that can be asked, in a table of all types

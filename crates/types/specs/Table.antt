@@ -13,14 +13,15 @@ use Rattle.types.specs.Decode.{tyAt}
 use Rattle.types.specs.Large.{firstLarge}
 use Rattle.types.specs.declared.Extent.{Extent}
 
--- size and alignment in one number: the size, at most 4,096, and 8,192 times the alignment
+-- size and alignment in one number: the size, at most 4,096, and 8,192 times the alignment, at most 16; what an entry has from
+-- 262,144 on is not of these
 unfoldable pub packed : ℕ → ℕ → ℕ
 packed size align = size + 8192 * align
 
 -- what an entry says
 pub record IsEntry (entry : ℕ) (r : Extent) : Type 0 where
   pub size : r .size .0 ≡ entry % 8192
-  pub align : r .align .0 ≡ entry / 8192
+  pub align : r .align .0 ≡ entry / 8192 % 32
 
 -- the entry of type k
 unfoldable pub entryAt : List ℕ → ℕ → ℕ
@@ -40,4 +41,4 @@ sizesAfter d table = cond (eqb (formRefusal d) 0) (filled (entryAt d) (firstLarg
 pub record Sizes (d : List ℕ) (n : ℕ) (table : List ℕ) : Type 0 where
   pub few : n ≤ 64
   pub small : (k : ℕ) → k < n → sizeTy lp64 (tyAt d k) ≤ 4096
-  pub right : (k : ℕ) → k < n → getD table k 0 ≡ entryAt d k
+  pub right : (k : ℕ) → k < n → getD table k 0 % 262144 ≡ entryAt d k

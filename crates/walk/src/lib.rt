@@ -314,7 +314,7 @@ fn stands(station: Station, d: &[u8], walk: Walk, stack: &[u8], asked: u8) -> St
             if !units::same(Bytes(stack.len()), area) {
                 return Standing::Refused(form::refusal_of(11));
             }
-            Standing::Before(places::shape_of(d, ty, &table))
+            Standing::Before(places::shape_in(&table, ty))
         }
     }
 }

@@ -16,7 +16,6 @@ pub mod listing;
 
 pub mod returning;
 
-pub mod visits;
 pub mod random;
 pub mod draft;
 pub mod notation;

@@ -8,7 +8,6 @@ use crate::listing::listing;
 use crate::mixture::Mixture;
 use crate::notation::description;
 use crate::random::Random;
-use crate::visits::{visits, MOST_VISITS};
 use std::io::Write;
 use std::process::{Command, Stdio};
 
@@ -17,22 +16,21 @@ use std::process::{Command, Stdio};
 pub struct Outcome {
     pub compared: usize,
     pub refused: usize,
-    pub left_out: usize,
     pub different: usize,
 }
 
 /// Runs the program on what document 01 prints, on the limits, on each refusal
 /// and pair of them, and on `count` random inputs.
-pub fn compare(program: &str, count: usize, seed: u64, towers: bool) -> Outcome {
+pub fn compare(program: &str, count: usize, seed: u64) -> Outcome {
     let mut random = Random::new(seed);
     let mixture = Mixture::new();
     let mut outcome = Outcome::default();
     for bytes in by_hand(&mut random) {
-        compare_one(program, &bytes, towers, &mut outcome);
+        compare_one(program, &bytes, &mut outcome);
     }
     for index in 0..count {
         let bytes = mixture.draw(&mut random);
-        compare_one(program, &bytes, towers, &mut outcome);
+        compare_one(program, &bytes, &mut outcome);
         if (index + 1) % 5000 == 0 {
             eprintln!("lister: {} of {count}, {} different", index + 1, outcome.different);
         }
@@ -52,11 +50,7 @@ fn by_hand(random: &mut Random) -> Vec<Vec<u8>> {
     all
 }
 
-fn compare_one(program: &str, bytes: &[u8], towers: bool, outcome: &mut Outcome) {
-    if !towers && visits(bytes) > MOST_VISITS {
-        outcome.left_out += 1;
-        return;
-    }
+fn compare_one(program: &str, bytes: &[u8], outcome: &mut Outcome) {
     let expected = listing(bytes);
     let printed = print_of(program, bytes);
     outcome.compared += 1;

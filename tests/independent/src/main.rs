@@ -4,19 +4,17 @@ use independent::cases;
 use independent::lister;
 use independent::listing::listing;
 use independent::vectors::all_pairs;
-use independent::visits::visits;
 use std::io::{Read, Write};
 use std::path::Path;
 use std::process::ExitCode;
 
 const HELP: &str = "\
 independent list                    description on standard input, the lister's text
-independent visits                  description on standard input, visits of plain recursion
 independent cases                   the lister's case and P1 to P11, as document 01 prints them
-independent lister PROGRAM [--count N] [--seed N] [--towers]
+independent lister PROGRAM [--count N] [--seed N]
                                     runs PROGRAM on the cases, on each refusal and on N random inputs
-independent vectors write DIRECTORY [--seed N] [--towers]
-independent vectors check DIRECTORY [--seed N] [--towers]
+independent vectors write DIRECTORY [--seed N]
+independent vectors check DIRECTORY [--seed N]
 ";
 
 /// The seed of the committed vectors.
@@ -27,7 +25,6 @@ fn main() -> ExitCode {
     let words: Vec<&str> = arguments.iter().map(String::as_str).collect();
     match words.as_slice() {
         ["list"] => print_and_succeed(&listing(&standard_input())),
-        ["visits"] => print_and_succeed(&format!("{}\n", visits(&standard_input()))),
         ["cases"] => print_cases(),
         ["lister", program, options @ ..] => compare_lister(program, options),
         ["vectors", "write", directory, options @ ..] => write_vectors(directory, options),
@@ -69,18 +66,17 @@ fn number_of(options: &[&str], word: &str, default: u64) -> u64 {
     position.map_or(default, |at| options[at + 1].parse().expect("a number"))
 }
 
-/// The seed, and whether towers of unions are let in.
-fn options_of(options: &[&str]) -> (u64, bool) {
-    (number_of(options, "--seed", SEED), options.contains(&"--towers"))
+fn seed_of(options: &[&str]) -> u64 {
+    number_of(options, "--seed", SEED)
 }
 
 fn compare_lister(program: &str, options: &[&str]) -> ExitCode {
-    let (seed, towers) = options_of(options);
+    let seed = seed_of(options);
     let count = number_of(options, "--count", 1000) as usize;
-    let outcome = lister::compare(program, count, seed, towers);
+    let outcome = lister::compare(program, count, seed);
     println!(
-        "lister: seed {seed}, {} inputs, {} of them refused, {} left out for plain recursion, {} different",
-        outcome.compared, outcome.refused, outcome.left_out, outcome.different
+        "lister: seed {seed}, {} inputs, {} of them refused, {} different",
+        outcome.compared, outcome.refused, outcome.different
     );
     if outcome.different == 0 {
         ExitCode::SUCCESS
@@ -90,8 +86,8 @@ fn compare_lister(program: &str, options: &[&str]) -> ExitCode {
 }
 
 fn write_vectors(directory: &str, options: &[&str]) -> ExitCode {
-    let (seed, towers) = options_of(options);
-    let (pairs, left_out) = all_pairs(seed, towers);
+    let seed = seed_of(options);
+    let pairs = all_pairs(seed);
     for pair in &pairs {
         let path = |ending: &str| Path::new(directory).join(format!("{}.{ending}", pair.name));
         std::fs::write(path("in"), &pair.input).expect("write");
@@ -99,13 +95,12 @@ fn write_vectors(directory: &str, options: &[&str]) -> ExitCode {
         let (input, output) = (pair.input.len(), pair.output.len());
         println!("{}: {} records, {input} bytes in, {output} bytes out", pair.name, pair.records);
     }
-    println!("seed {seed}: {left_out} records left out for plain recursion");
     ExitCode::SUCCESS
 }
 
 fn check_vectors(directory: &str, options: &[&str]) -> ExitCode {
-    let (seed, towers) = options_of(options);
-    let (pairs, left_out) = all_pairs(seed, towers);
+    let seed = seed_of(options);
+    let pairs = all_pairs(seed);
     let mut all_equal = true;
     for pair in &pairs {
         let read = |ending: &str| {
@@ -118,7 +113,7 @@ fn check_vectors(directory: &str, options: &[&str]) -> ExitCode {
         let verdict = if equal { "equal" } else { "DIFFERENT" };
         println!("{}: {} records, {verdict}", pair.name, pair.records);
     }
-    println!("vectors: seed {seed}, {left_out} records left out for plain recursion");
+    println!("vectors: seed {seed}");
     if all_equal {
         ExitCode::SUCCESS
     } else {

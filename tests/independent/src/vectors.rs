@@ -16,7 +16,6 @@ use crate::returning::{putting, taking, value_length, RETURN_IMAGE};
 use crate::station::Station;
 use crate::types::{asked, run_range};
 use crate::units::Bytes;
-use crate::visits::{visits, MOST_VISITS};
 use crate::walk::Walk;
 
 /// One file pair.
@@ -30,24 +29,12 @@ pub struct Pair {
 /// Collects the records of one pair.
 struct Writer {
     pair: Pair,
-    towers: bool,
-    left_out: usize,
 }
 
 impl Writer {
-    fn new(name: &'static str, towers: bool) -> Writer {
+    fn new(name: &'static str) -> Writer {
         let pair = Pair { name, input: Vec::new(), output: String::new(), records: 0 };
-        Writer { pair, towers, left_out: 0 }
-    }
-
-    /// Descriptions over a million visits of plain recursion are left out
-    /// unless they are let in.
-    fn admits(&mut self, description: &[u8]) -> bool {
-        let admitted = self.towers || visits(description) <= MOST_VISITS;
-        if !admitted {
-            self.left_out += 1;
-        }
-        admitted
+        Writer { pair }
     }
 
     fn part(&mut self, part: &[u8]) {
@@ -56,24 +43,21 @@ impl Writer {
     }
 }
 
-/// All six pairs, and how many records were left out.
-pub fn all_pairs(seed: u64, towers: bool) -> (Vec<Pair>, usize) {
+/// All six pairs.
+pub fn all_pairs(seed: u64) -> Vec<Pair> {
     let makers = [questions, layouts, moves, histories, listings, returns];
-    let mut pairs = Vec::new();
-    let mut left_out = 0;
-    for (index, make) in makers.iter().enumerate() {
+    let numbered = makers.iter().enumerate();
+    let made = numbered.map(|(index, make)| {
         let mut random = Random::new(seed.wrapping_add(index as u64));
-        let writer = make(&mut random, towers);
-        left_out += writer.left_out;
-        pairs.push(writer.pair);
-    }
-    (pairs, left_out)
+        make(&mut random).pair
+    });
+    made.collect()
 }
 
 // ---- questions
 
-fn questions(random: &mut Random, towers: bool) -> Writer {
-    let mut writer = Writer::new("questions", towers);
+fn questions(random: &mut Random) -> Writer {
+    let mut writer = Writer::new("questions");
     for code in 0..=15 {
         let mut draft = Draft::new();
         draft.basic(code);
@@ -115,9 +99,6 @@ fn ask_most(random: &mut Random, writer: &mut Writer, bytes: &[u8], count: usize
 }
 
 fn ask(writer: &mut Writer, bytes: &[u8], type_number: u8) {
-    if !writer.admits(bytes) {
-        return;
-    }
     writer.part(bytes);
     writer.pair.input.push(type_number);
     writer.pair.output.push_str(&question_line(bytes, type_number));
@@ -145,8 +126,8 @@ pub fn question_line(bytes: &[u8], type_number: u8) -> String {
 
 // ---- layouts
 
-fn layouts(random: &mut Random, towers: bool) -> Writer {
-    let mut writer = Writer::new("layouts", towers);
+fn layouts(random: &mut Random) -> Writer {
+    let mut writer = Writer::new("layouts");
     lay_out(&mut writer, &bytes_of_hex(LISTER), 64);
     for case in &CASES {
         lay_out(&mut writer, &description(case.function), 64);
@@ -187,9 +168,6 @@ fn empty_placement() -> Placement {
 }
 
 fn lay_out(writer: &mut Writer, bytes: &[u8], lent: u8) {
-    if !writer.admits(bytes) {
-        return;
-    }
     writer.part(bytes);
     writer.pair.input.push(lent);
     writer.pair.output.push_str(&layout_text(bytes, lent));
@@ -217,8 +195,8 @@ struct Move {
     out: u16,
 }
 
-fn moves(random: &mut Random, towers: bool) -> Writer {
-    let mut writer = Writer::new("moves", towers);
+fn moves(random: &mut Random) -> Writer {
+    let mut writer = Writer::new("moves");
     for one in printed_moves() {
         add_move(&mut writer, &one);
     }
@@ -390,9 +368,6 @@ fn spoilt_move(random: &mut Random) -> Move {
 }
 
 fn add_move(writer: &mut Writer, one: &Move) {
-    if !writer.admits(&one.description) {
-        return;
-    }
     writer.part(&one.description);
     writer.pair.input.extend(one.hidden_address.to_le_bytes());
     writer.part(&one.values);
@@ -428,18 +403,14 @@ fn move_text(one: &Move) -> String {
 
 // ---- histories
 
-fn histories(random: &mut Random, towers: bool) -> Writer {
-    let mut writer = Writer::new("histories", towers);
+fn histories(random: &mut Random) -> Writer {
+    let mut writer = Writer::new("histories");
     let mut script = Script::new();
     printed_histories(random, &mut script);
     for _ in 0..30 {
         random_history(random, &mut script, 26);
     }
     for (command, line) in script.commands.iter().zip(&script.lines) {
-        if let Command::Attach(bytes) = command {
-            // A history cannot lose a command, so none may be too dear.
-            assert!(visits(bytes) <= MOST_VISITS, "draw another seed");
-        }
         command.encode(&mut writer.pair.input);
         writer.pair.output.push_str(line);
         writer.pair.output.push('\n');
@@ -731,8 +702,8 @@ fn every_call(script: &mut Script, description: &[u8]) {
 
 // ---- listings
 
-fn listings(random: &mut Random, towers: bool) -> Writer {
-    let mut writer = Writer::new("listings", towers);
+fn listings(random: &mut Random) -> Writer {
+    let mut writer = Writer::new("listings");
     list(&mut writer, &[]);
     list(&mut writer, &bytes_of_hex(LISTER));
     let mut with_newline = bytes_of_hex(LISTER);
@@ -756,9 +727,6 @@ fn listings(random: &mut Random, towers: bool) -> Writer {
 }
 
 fn list(writer: &mut Writer, bytes: &[u8]) {
-    if !writer.admits(bytes) {
-        return;
-    }
     writer.part(bytes);
     writer.pair.output.push_str(&listing(bytes));
     writer.pair.records += 1;
@@ -776,8 +744,8 @@ struct Return {
     out: u16,
 }
 
-fn returns(random: &mut Random, towers: bool) -> Writer {
-    let mut writer = Writer::new("returns", towers);
+fn returns(random: &mut Random) -> Writer {
+    let mut writer = Writer::new("returns");
     for one in printed_returns() {
         add_return(&mut writer, &one);
     }
@@ -910,9 +878,6 @@ fn spoil_return(random: &mut Random, one: &mut Return) {
 }
 
 fn add_return(writer: &mut Writer, one: &Return) {
-    if !writer.admits(&one.description) {
-        return;
-    }
     writer.part(&one.description);
     writer.pair.input.extend(one.hidden_address.to_le_bytes());
     writer.part(&one.value);

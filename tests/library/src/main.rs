@@ -7,12 +7,11 @@ mod histories;
 use comparison::Comparison;
 use independent::mixture::Mixture;
 use independent::random::Random;
-use independent::visits::{visits, MOST_VISITS};
 use std::process::ExitCode;
 
 const HELP: &str = "\
-library descriptions COUNT [--seed N] [--towers]   every call about COUNT random descriptions
-library histories COUNT [--seed N]                 COUNT random histories of some 40 calls
+library descriptions COUNT [--seed N]   every call about COUNT random descriptions
+library histories COUNT [--seed N]      COUNT random histories of some 40 calls
 ";
 
 fn main() -> ExitCode {
@@ -43,22 +42,16 @@ fn seed_of(options: &[&str]) -> u64 {
 
 fn run_descriptions(count: u64, options: &[&str]) -> ExitCode {
     let seed = seed_of(options);
-    let towers = options.contains(&"--towers");
     let mut random = Random::new(seed);
     let mixture = Mixture::new();
     let mut comparison = Comparison::default();
-    let mut left_out = 0;
     for index in 1..=count {
         let bytes = mixture.draw(&mut random);
-        if !towers && visits(&bytes) > MOST_VISITS {
-            left_out += 1;
-        } else {
-            descriptions::compare(&mut random, &bytes, &mut comparison);
-        }
+        descriptions::compare(&mut random, &bytes, &mut comparison);
         progress("descriptions", index, count, &comparison);
     }
     println!(
-        "library {}: {count} descriptions, seed {seed}, {left_out} left out for plain recursion, {} comparisons, {} different",
+        "library {}: {count} descriptions, seed {seed}, {} comparisons, {} different",
         callbridge::version(),
         comparison.made,
         comparison.different

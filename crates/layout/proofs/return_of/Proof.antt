@@ -20,8 +20,8 @@ byte-at-requires c κs = omega (arith, accepted-typed (now (c .before .args .d))
 returns : tie.Need-returns
 returns c = return-void (now (c .before .before .before .args .d)) (sym (c .before .byte-at .ensures .0) ∙ c .if1 .taken)
 
-classes-of-requires : tie.Need-classes-of-requires
-classes-of-requires c κs = (rw (c .before .byte-at .ensures .0) (type-asked (now (c .before .before .before .args .d)) (c .before .before .before .pre .0) _ (return-known (now (c .before .before .before .args .d)) (c .before .before .before .pre .0) (λ e. c .if1 .left (c .before .byte-at .ensures .0 ∙ e)))), c .before .before .before .pre .1)
+classes-in-requires : tie.Need-classes-in-requires
+classes-in-requires c κs = omega (arith, c .before .byte-at .ensures .0, return-known (now (c .before .before .before .args .d)) (c .before .before .before .pre .0) (λ e. c .if1 .left (c .before .byte-at .ensures .0 ∙ e)), c .before .before .before .pre .1 .sizes .few)
 
 array-copy-out-first : tie.Need-array-copy-out-first
 array-copy-out-first c = search needs
@@ -39,8 +39,8 @@ returns-2 : tie.Need-returns-2
 returns-2 c =
     let d = now (c .before .before .before .before .before .before .before .before .args .d) in
     let n : returnIn d ≡ 255 → ⊥ = λ e. c .before .before .before .before .before .if1 .left (c .before .before .before .before .before .before .byte-at .ensures .0 ∙ e) in
-    let is = c .before .before .before .before .classes-of .ensures ∙ ap (λ (k : ℕ). classesOf (tyAt d k)) (c .before .before .before .before .before .before .byte-at .ensures .0) in
-    (return-some d n (c .before .before .before .before .classes-of .result) is _ (c .before .return-place .ensures), hidden-some d n (c .before .before .before .before .classes-of .result) is _ (c .hidden-for .ensures))
+    let is = c .before .before .before .before .classes-in .ensures ∙ c .before .before .before .before .before .before .before .before .pre .1 .classes (c .before .before .before .before .before .before .byte-at .result) (omega (arith, c .before .before .before .before .before .before .byte-at .ensures .0, return-known (now (c .before .before .before .before .before .before .before .before .args .d)) (c .before .before .before .before .before .before .before .before .pre .0) (λ e. c .before .before .before .before .before .if1 .left (c .before .before .before .before .before .before .byte-at .ensures .0 ∙ e)))) ∙ ap (λ (k : ℕ). classesOf (tyAt d k)) (c .before .before .before .before .before .before .byte-at .ensures .0) in
+    (return-some d n (c .before .before .before .before .classes-in .result) is _ (c .before .return-place .ensures), hidden-some d n (c .before .before .before .before .classes-in .result) is _ (c .hidden-for .ensures))
 
 pub return-of-spec : {M : Type 1} → statement M
 return-of-spec =
@@ -48,7 +48,7 @@ return-of-spec =
     (tie.spec
     byte-at-requires
     returns
-    classes-of-requires
+    classes-in-requires
     array-copy-out-first
     array-copy-out-second
     return-place-requires
