@@ -1,0 +1,213 @@
+/* Descriptions made to be slow: what the worst of strangers can cost a call. Each has 63 types over type 0 and, where that is accepted, 64 unnamed
+   arguments. */
+#include "callbridge.h"
+#include "count.h"
+#include <stdio.h>
+#include <string.h>
+
+enum { CASES = 12, BASIC = 0, ARRAY = 1, STRUCT = 2, UNION = 3, CHAR = 1, FLOAT = 6, DOUBLE = 7, NOTHING = 255 };
+
+typedef struct hostile {
+    const char *name;
+    uint8_t bytes[CB_MAX_DESCRIPTION];
+    size_t length;
+    cb_layout layout;
+} hostile;
+
+static hostile cases[CASES];
+static int made;
+
+/* A description in the making. */
+static uint8_t records[64][4], members[255];
+static int types, runs;
+
+static void begin(uint8_t code)
+{
+    memset(records, 0, sizeof records);
+    records[0][1] = code;
+    types = 1;
+    runs = 0;
+}
+
+static void add_type(uint8_t kind, int a, int n)
+{
+    records[types][0] = kind;
+    records[types][1] = (uint8_t)a;
+    records[types][2] = (uint8_t)(n & 255);
+    records[types][3] = (uint8_t)(n >> 8);
+    types++;
+}
+
+static void add_member(int type)
+{
+    members[runs++] = (uint8_t)type;
+}
+
+/* Writes it down with `arguments` arguments: the types from the last one down, over and over; type 0 is no unnamed argument. */
+static void end(const char *name, int arguments)
+{
+    hostile *h = &cases[made++];
+    uint8_t *at = h->bytes;
+    const uint8_t header[11] = { 'K', 'C', 'B', 1, 0, (uint8_t)types, 1, 0, (uint8_t)arguments, NOTHING, (uint8_t)runs };
+    memcpy(at, header, 11);
+    at += 11;
+    memcpy(at, records, (size_t)types * 4);
+    at += types * 4;
+    memcpy(at, members, (size_t)runs);
+    at += runs;
+    for (int i = 0; i < arguments; i++) {
+        *at++ = (uint8_t)(types - 1 - i % (types - 1));
+    }
+    h->name = name;
+    h->length = (size_t)(at - h->bytes);
+}
+
+/* Type k = union {k-1, k-1}. */
+static void double_tower(void)
+{
+    begin(CHAR);
+    for (int k = 1; k < 64; k++) {
+        add_member(k - 1);
+        add_member(k - 1);
+        add_type(UNION, 2 * (k - 1), 2);
+    }
+    end("union {k-1, k-1}", 64);
+}
+
+/* Type k = a union, or a struct, of all types below it, by overlapping runs of one member list. */
+static void overlapping_tower(uint8_t kind, const char *name)
+{
+    begin(CHAR);
+    for (int k = 1; k < 64; k++) {
+        add_member(k - 1);
+        add_type(kind, 0, k);
+    }
+    end(name, 64);
+}
+
+/* The same behind as many chars as there is room for: 255 members in the last union, 63 of them different. */
+static void full_tower(void)
+{
+    begin(CHAR);
+    for (int i = 0; i < 192; i++) {
+        add_member(0);
+    }
+    for (int k = 1; k < 64; k++) {
+        add_member(k - 1);
+        add_type(UNION, 0, 192 + k);
+    }
+    end("union {192 chars, 0 .. k-1}", 64);
+}
+
+static void chain(uint8_t kind, const char *name)
+{
+    begin(CHAR);
+    for (int k = 1; k < 64; k++) {
+        add_member(k - 1);
+        add_type(kind, k - 1, 1);
+    }
+    end(name, 64);
+}
+
+/* Arrays of arrays: 2 x 2 x .. to 16 bytes, then of one element; a struct on top, since an array is no argument. */
+static void arrays(void)
+{
+    begin(CHAR);
+    for (int k = 1; k < 63; k++) {
+        add_type(ARRAY, k - 1, k <= 4 ? 2 : 1);
+    }
+    add_member(62);
+    add_type(STRUCT, 0, 1);
+    end("arrays of arrays", 1);
+}
+
+/* 63 types over one run of 255 members of type 0. */
+static void wide(uint8_t kind, uint8_t code, int arguments, const char *name)
+{
+    begin(code);
+    for (int i = 0; i < 255; i++) {
+        add_member(0);
+    }
+    for (int k = 1; k < 64; k++) {
+        add_type(kind, 0, 255);
+    }
+    end(name, arguments);
+}
+
+/* 255 members in 63 runs that overlap as far as they can: run k begins one later than the one before. */
+static void shifted(void)
+{
+    begin(CHAR);
+    for (int i = 0; i < 255; i++) {
+        add_member(0);
+    }
+    for (int k = 1; k < 64; k++) {
+        add_type(UNION, k - 1, 255 - (k - 1));
+    }
+    end("63 shifted runs of 255 chars", 64);
+}
+
+/* ---- what is counted */
+
+static cb_placement list[CB_MAX_ARGUMENTS];
+static uint8_t values[CB_MAX_ARGUMENTS * CB_MAX_TYPE], registers[CB_REGISTER_IMAGE], stack[CB_MAX_AREA], seat[CB_SEAT_LENGTH], out[CB_MAX_TYPE];
+static cb_station station;
+static cb_walk walk;
+
+static void check(int which)
+{
+    cb_check(cases[which].bytes, cases[which].length);
+}
+
+static void lay_out(int which)
+{
+    cb_lay_out(cases[which].bytes, cases[which].length, &cases[which].layout, list, CB_MAX_ARGUMENTS);
+}
+
+static void place(int which)
+{
+    hostile *h = &cases[which];
+    cb_placed placed;
+    cb_place_values(h->bytes, h->length, 0, values, h->layout.values, registers, CB_REGISTER_IMAGE, stack, h->layout.area, &placed);
+}
+
+static void step(int which)
+{
+    hostile *h = &cases[which];
+    cb_walk copy = walk;
+    cb_step(&station, seat, CB_SEAT_LENGTH, &copy, registers, CB_REGISTER_IMAGE, stack, h->layout.area, list[0].type, out, list[0].size);
+}
+
+static void count_case(int which)
+{
+    hostile *h = &cases[which];
+    cb_refusal refusal = cb_lay_out(h->bytes, h->length, &h->layout, list, CB_MAX_ARGUMENTS);
+    printf("%d/%s/%zu/%d\n", which, h->name, h->length, refusal.number);
+    station = cb_new_station();
+    cb_attach(&station, seat, CB_SEAT_LENGTH, h->bytes, h->length);
+    cb_open_walk(&station, seat, CB_SEAT_LENGTH, &walk);
+    count("cb_check", which, 1, check);
+    count("cb_lay_out", which, 1, lay_out);
+    count("cb_place_values", which, 1, place);
+    count("cb_step", which, 1, step);
+}
+
+int main(void)
+{
+    double_tower();
+    overlapping_tower(UNION, "union {0 .. k-1}");
+    full_tower();
+    overlapping_tower(STRUCT, "struct {0 .. k-1}");
+    chain(STRUCT, "struct {k-1}");
+    chain(UNION, "union {k-1}");
+    arrays();
+    wide(STRUCT, CHAR, 64, "63 structs of 255 chars");
+    wide(UNION, CHAR, 64, "63 unions of 255 chars");
+    wide(UNION, FLOAT, 64, "63 unions of 255 floats");
+    wide(UNION, DOUBLE, 64, "63 unions of 255 doubles");
+    shifted();
+    for (int which = 0; which < made; which++) {
+        count_case(which);
+    }
+    return 0;
+}
