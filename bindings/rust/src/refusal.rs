@@ -8,7 +8,7 @@ use std::num::NonZeroU8;
 #[derive(Clone, Copy, PartialEq, Eq, Hash)]
 pub struct Refusal(NonZeroU8);
 
-/// In the order of their numbers.
+/// In the order of their numbers; the header has the same.
 const TEXTS: [&str; 20] = [
     "the description has under 11 bytes",
     "the description does not begin with KCB",
@@ -33,6 +33,9 @@ const TEXTS: [&str; 20] = [
 ];
 
 impl Refusal {
+    /// What each refusal means, from number 1 on.
+    pub const TEXTS: [&'static str; 20] = TEXTS;
+
     pub fn number(self) -> u8 {
         self.0.get()
     }

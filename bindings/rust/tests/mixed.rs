@@ -19,6 +19,16 @@ fn values() -> Vec<u8> {
     values
 }
 
+/// The header has the same texts, in the same order.
+#[test]
+fn texts_are_those_of_the_header() {
+    let header = include_str!("../../../include/callbridge.h");
+    let table = header.split("texts[21] = {").nth(1).expect("the table of texts");
+    let texts: Vec<&str> = table.split('"').skip(1).step_by(2).take(21).collect();
+    assert_eq!(texts[0], "accepted");
+    assert_eq!(texts[1..], callbridge::Refusal::TEXTS);
+}
+
 #[test]
 fn questions_about_types() {
     assert_eq!(callbridge::check(MIXED), Ok(()));
