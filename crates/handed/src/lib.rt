@@ -144,7 +144,7 @@ pub fn give_walk(station: Station, seat: &[u8], before: Walk) -> GivenWalk
     ensures { λ r. ⌜ (r .refusal ≡ refusalIn (openGiven (openAnswer kcb station (now (seat .entry)))))
         × (r .walk ≡ leftIn (openGiven (openAnswer kcb station (now (seat .entry)))) before) ⌝ }
 {
-    let answer = walk::open_walk(station, seat);
+    let answer = opening::open_walk(station, seat);
     match answer {
         OpenAnswer::Opened(opened) => GivenWalk {
             walk: opened,

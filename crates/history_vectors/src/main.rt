@@ -361,7 +361,7 @@ fn detach(state: State, room: &mut [u8]) -> State {
 fn open(state: State, seat: &[u8]) -> State {
     let station = state.station;
     let slot = read_byte() as usize;
-    let answer = walk::open_walk(station, seat);
+    let answer = opening::open_walk(station, seat);
     match answer {
         OpenAnswer::Opened(walk) => {
             let next = with_walk(state, slot, walk);

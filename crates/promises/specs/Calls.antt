@@ -46,7 +46,7 @@ use Rattle.moving.proofs.place_values
 use Rattle.moving.proofs.gather_values
 use Rattle.station.proofs.attach
 use Rattle.station.proofs.detach
-use Rattle.walk.proofs.open_walk
+use Rattle.opening.proofs.open_walk
 use Rattle.step.proofs.step
 use Rattle.show.proofs.show_number
 use Rattle.promises.specs.Meaning.{accepted, numberOf, ofRefusal, ofReading, ofSize, ofAlign, ofClasses, ofRun, ofLayout, ofPlacing, ofGathering, ofOpening, Answered}

@@ -106,9 +106,9 @@ pub fn shown_at(
     ensures { λ r. ⌜ (r ≡ shownAnswer kcb station (now (seat .entry)) walk (asking (now (registers .entry)) (now (stack .entry)) asked []))
         × Lies r (length (now (registers .entry))) (length (now (stack .entry))) ⌝ }
 {
-    let standing = walk::checked(station, seat, walk, registers, stack, asked);
+    let standing = standing::checked(station, seat, walk, registers, stack, asked);
     let Standing::Before(shape) = standing else {
-        return ShownAnswer::Refused(walk::refusal_in(standing));
+        return ShownAnswer::Refused(standing::refusal_in(standing));
     };
     let fetch = walk::fetch_at(walk, shape);
     part_of(fetch, shape)
@@ -153,6 +153,6 @@ pub fn show_number(
 ) -> Refusal
     ensures { λ r. ⌜ r ≡ refusalOf (showRefusal kcb station (now (seat .entry)) walk (asking (now (registers .entry)) (now (stack .entry)) asked [])) ⌝ }
 {
-    let standing = walk::checked(station, seat, walk, registers, stack, asked);
-    walk::refusal_in(standing)
+    let standing = standing::checked(station, seat, walk, registers, stack, asked);
+    standing::refusal_in(standing)
 }

@@ -60,11 +60,11 @@ pub fn stepping(
         × (r .walk ≡ stepWalk kcb station (now (seat .entry)) walk (asking (now (registers .entry)) (now (stack .entry)) asked (now (out .entry))))
         × (now (out .exit) ≡ stepOut kcb station (now (seat .entry)) walk (asking (now (registers .entry)) (now (stack .entry)) asked (now (out .entry)))) ⌝ }
 {
-    let standing = walk::checked(station, seat, walk, registers, stack, asked);
+    let standing = standing::checked(station, seat, walk, registers, stack, asked);
     let Standing::Before(shape) = standing else {
         return Stepped {
             walk: walk,
-            refusal: walk::refusal_in(standing),
+            refusal: standing::refusal_in(standing),
         };
     };
     let size = shape.size;

@@ -27,8 +27,8 @@ use Rattle.station.proofs.attaching
 use Rattle.station.proofs.detach
 use Rattle.station.proofs.detaching
 use Rattle.station.proofs.wrong_seat
-use Rattle.walk.proofs.open_walk
-use Rattle.walk.proofs.checked
+use Rattle.opening.proofs.open_walk
+use Rattle.standing.proofs.checked
 use Rattle.step.proofs.step
 use Rattle.step.proofs.stepping
 use Rattle.show.proofs.shown_at
@@ -136,11 +136,11 @@ total-station-detaching c g = refl
 pub total-station-wrong-seat : Total wrong_seat.ended (λ M. wrong_seat.clauses {M = M})
 total-station-wrong-seat c g = refl
 
-pub total-walk-open-walk : Total open_walk.ended (λ M. open_walk.clauses {M = M})
-total-walk-open-walk c g = refl
+pub total-opening-open-walk : Total open_walk.ended (λ M. open_walk.clauses {M = M})
+total-opening-open-walk c g = refl
 
-pub total-walk-checked : Total checked.ended (λ M. checked.clauses {M = M})
-total-walk-checked c g = refl
+pub total-standing-checked : Total checked.ended (λ M. checked.clauses {M = M})
+total-standing-checked c g = refl
 
 pub total-step-step : Total step.ended (λ M. step.clauses {M = M})
 total-step-step c g = refl

@@ -16,6 +16,8 @@ pub mod OfReturnImage
 pub mod OfReturning
 pub mod OfStation
 pub mod OfWalk
+pub mod OfOpening
+pub mod OfStanding
 pub mod OfStep
 pub mod OfShow
 pub mod OfText

@@ -1,28 +1,19 @@
 -- Each public function of `walk` meets its contract, and the contract is tight. Assumes nothing.
 use mathlib.Core.Path.{refl, sym, _∙_}
 use Rattle.tightness.specs.Tight.{Meets, Tight}
-use Rattle.tightness.proofs.Laws.{equal, result, settle, source-same, standing-same}
-use Rattle.walk.proofs.checked
-use Rattle.walk.proofs.checked.Met as checked-met
-use Rattle.walk.proofs.checked.Symbol as checked-symbol
+use Rattle.tightness.proofs.Laws.{equal, result, settle, source-same}
 use Rattle.walk.proofs.fetch_at
 use Rattle.walk.proofs.fetch_at.Met as fetch-at-met
 use Rattle.walk.proofs.fetch_at.Symbol as fetch-at-symbol
 use Rattle.walk.proofs.moved_on
 use Rattle.walk.proofs.moved_on.Met as moved-on-met
 use Rattle.walk.proofs.moved_on.Symbol as moved-on-symbol
-use Rattle.walk.proofs.open_walk
-use Rattle.walk.proofs.open_walk.Met as open-walk-met
-use Rattle.walk.proofs.open_walk.Symbol as open-walk-symbol
-use Rattle.walk.proofs.refusal_in
-use Rattle.walk.proofs.refusal_in.Met as refusal-in-met
-use Rattle.walk.proofs.refusal_in.Symbol as refusal-in-symbol
-
-pub meets-walk-open-walk : Meets open_walk.ended (λ M. open_walk.clauses {M = M}) open-walk-symbol.routine
-meets-walk-open-walk M = open-walk-met.met
-
-pub tight-walk-open-walk : Tight open_walk.ended (λ M. open_walk.clauses {M = M})
-tight-walk-open-walk c r q w v a b = (equal (result open_walk.ended c) (a .ensured) (b .ensured), refl)
+use Rattle.walk.proofs.walk_at
+use Rattle.walk.proofs.walk_at.Met as walk-at-met
+use Rattle.walk.proofs.walk_at.Symbol as walk-at-symbol
+use Rattle.walk.proofs.why_unlaid
+use Rattle.walk.proofs.why_unlaid.Met as why-unlaid-met
+use Rattle.walk.proofs.why_unlaid.Symbol as why-unlaid-symbol
 
 pub meets-walk-fetch-at : Meets fetch_at.ended (λ M. fetch_at.clauses {M = M}) fetch-at-symbol.routine
 meets-walk-fetch-at M = fetch-at-met.met
@@ -36,14 +27,14 @@ meets-walk-moved-on M = moved-on-met.met
 pub tight-walk-moved-on : Tight moved_on.ended (λ M. moved_on.clauses {M = M})
 tight-walk-moved-on c r q w v a b = (equal (result moved_on.ended c) (a .ensured) (b .ensured), refl)
 
-pub meets-walk-checked : Meets checked.ended (λ M. checked.clauses {M = M}) checked-symbol.routine
-meets-walk-checked M = checked-met.met
+pub meets-walk-walk-at : Meets walk_at.ended (λ M. walk_at.clauses {M = M}) walk-at-symbol.routine
+meets-walk-walk-at M = walk-at-met.met
 
-pub tight-walk-checked : Tight checked.ended (λ M. checked.clauses {M = M})
-tight-walk-checked c r q w v a b = (settle (result checked.ended c) (a .ensured) (b .ensured) (λ e f. standing-same _ _ _ _ r q e f), refl)
+pub tight-walk-walk-at : Tight walk_at.ended (λ M. walk_at.clauses {M = M})
+tight-walk-walk-at c r q w v a b = (equal (result walk_at.ended c) (a .ensured) (b .ensured), refl)
 
-pub meets-walk-refusal-in : Meets refusal_in.ended (λ M. refusal_in.clauses {M = M}) refusal-in-symbol.routine
-meets-walk-refusal-in M = refusal-in-met.met
+pub meets-walk-why-unlaid : Meets why_unlaid.ended (λ M. why_unlaid.clauses {M = M}) why-unlaid-symbol.routine
+meets-walk-why-unlaid M = why-unlaid-met.met
 
-pub tight-walk-refusal-in : Tight refusal_in.ended (λ M. refusal_in.clauses {M = M})
-tight-walk-refusal-in c r q w v a b = (equal (result refusal_in.ended c) (a .ensured) (b .ensured), refl)
+pub tight-walk-why-unlaid : Tight why_unlaid.ended (λ M. why_unlaid.clauses {M = M})
+tight-walk-why-unlaid c r q w v a b = (equal (result why_unlaid.ended c) (a .ensured) (b .ensured), refl)

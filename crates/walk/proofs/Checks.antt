@@ -44,7 +44,7 @@ use Rattle.walk.specs.declared.Walk.{Walk}
 use Rattle.walk.specs.Offsets.{walkAt}
 use Rattle.walk.specs.Orders.{Ask, asking, withOffsets, standing, wrongRegisters, otherNumber, astray, atEnd, otherType, wrongStack, wrongOut, restOrder, walkOrder, stepOrder, showOrder, stepRefusal, showRefusal, restRefusal}
 use Rattle.walk.specs.declared.Standing.{Standing}
-use Rattle.walk.specs.Asks.{IsStanding}
+use Rattle.walk.specs.Asks.{IsStanding, whyUnlaid}
 use Rattle.walk.proofs.Opens.{standing-is}
 
 -- ---- the layout's answer
@@ -55,10 +55,11 @@ laid-right d r l e p = let z = laid-accepted d l (sym e ∙ p) in (kcb-verdict d
 pub laid-uses : (d : List ℕ) (r : LayoutAnswer) (l : Layout) → r ≡ layoutAnswer d → r ≡ Laid l → usesRefusal d ≡ 0
 laid-uses d r l e p = accepted-uses d (laid-accepted d l (sym e ∙ p) .0)
 
-pub refused-right : (d : List ℕ) (r : LayoutAnswer) (q : Refusal) → r ≡ layoutAnswer d → r ≡ Not q → (q ≡ refusalOf (verdictOf kcb d)) × (verdictOf kcb d ≢ 0)
-refused-right d r q e p =
+pub refused-right : (d : List ℕ) (r : LayoutAnswer) (q v : Refusal) → r ≡ layoutAnswer d → r ≡ Not q → v ≡ whyUnlaid r
+    → (v ≡ refusalOf (verdictOf kcb d)) × (verdictOf kcb d ≢ 0)
+refused-right d r q v e p w =
     let z : layoutAnswer d ≡ Not q = sym e ∙ p in
-    (refused-verdict d q z ∙ ap refusalOf (sym (kcb-verdict d)), λ v. refused-nonzero d q z (sym (kcb-verdict d) ∙ v))
+    (w ∙ ap whyUnlaid p ∙ refused-verdict d q z ∙ ap refusalOf (sym (kcb-verdict d)), λ v. refused-nonzero d q z (sym (kcb-verdict d) ∙ v))
 
 pub headed : (d : List ℕ) → usesRefusal d ≡ 0 → 11 ≤ length d
 headed d u = accepted-headed d (accepted-form d (accepted-types d u))

@@ -9,6 +9,8 @@ use Rattle.places.specs.declared.Kind.{Kind}
 use Rattle.places.specs.declared.Kind.the-variants.{General as general, Vector as vector, Upper as upper}
 use Rattle.places.specs.Places.{generals, vectors}
 use Rattle.places.specs.Recorded.{asked}
+use Rattle.layout.specs.declared.LayoutAnswer.{LayoutAnswer}
+use Rattle.layout.specs.declared.LayoutAnswer.the-variants.{Laid, Refused as NotLaid}
 use Rattle.station.specs.Paper.{Paper, shapeAt}
 use Rattle.walk.specs.declared.Walk.{Walk}
 use Rattle.walk.specs.declared.Counts.{Counts}
@@ -46,6 +48,11 @@ Within (Stack o) n regs stack = o .0 + n ≤ stack
 abbrev pub IsStanding : Paper → ℕ → List ℕ → ℕ → Standing → Type 0
 IsStanding P n d p (Before s) = (n ≡ 0) × (asked s ≡ shapeAt P d p)
 IsStanding P n d p (Refused r) = (n ≢ 0) × (r ≡ refusalOf n)
+
+-- the refusal that a layout's answer carries
+abbrev pub whyUnlaid : LayoutAnswer → Refusal
+whyUnlaid (Laid l) = refusalOf 0
+whyUnlaid (NotLaid r) = r
 
 -- the refusal that a standing carries
 abbrev pub refusalIn : Standing → Refusal

@@ -1,32 +1,24 @@
-// The walk over unnamed arguments (document 01, "Station and walk"; 000, section 3.5.7): open, whether a walk
-// goes on, where the next argument is fetched and where the walk stands after it.
+// The walk over unnamed arguments (document 01, "Station and walk"; 000, section 3.5.7): where it stands, where the
+// next argument is fetched and where the walk stands after it.
 use form::Refusal;
 use layout::LayoutAnswer;
 use places::Kind;
 use places::Kinds;
 use places::Shape;
 use places::Used;
-use station::Station;
 use units::Bytes;
 use units::Registers;
 ghost use mathlib.Core.Path.{_≡_};
 ghost use mathlib.Core.Bool.{cond};
-ghost use mathlib.Core.List.{[]};
 ghost use Prim.Native.Nat.{suc, _+_, _*_, _^_, _≤_};
 ghost use lib.Dec.{ltb};
 ghost use Rattle.units.specs.Raise.{raise};
-ghost use Rattle.form.specs.Order.{first};
-ghost use Rattle.classify.specs.Table.{Tabled};
-ghost use Rattle.uses.specs.Uses.{usesRefusal};
 ghost use Rattle.places.specs.Shapes.{some?};
 ghost use Rattle.places.specs.Places.{generalFor, vectorFor};
 ghost use Rattle.places.specs.Recorded.{listed, asked as askedOf, Small};
-ghost use Rattle.station.specs.Paper.{kcb};
-ghost use Rattle.station.specs.Attachment.{described};
 ghost use Rattle.walk.specs.Offsets.{holds, readAt, step as stepOffsets, sourceOf, walkAt};
-ghost use Rattle.walk.specs.Orders.{asking, offsetsOf, withOffsets, standing, astray, variadicOrder, showRefusal, restRefusal};
-ghost use Rattle.walk.specs.Steps.{openedIf, openAnswer};
-ghost use Rattle.walk.specs.Asks.{Reached, IsCounted, readFor, IsStanding, refusalIn};
+ghost use Rattle.walk.specs.Orders.{offsetsOf, withOffsets};
+ghost use Rattle.walk.specs.Asks.{Reached, IsCounted, readFor, whyUnlaid};
 
 // Where a walk stands: the attachment it was opened under, the next argument, gp_offset, fp_offset and the overflow offset.
 #[repr(C)]
@@ -62,8 +54,18 @@ pub enum Standing {
     Refused(Refusal),
 }
 
+// Why no layout was laid, for a caller that passes it on.
+pub fn why_unlaid(answer: LayoutAnswer) -> Refusal
+    ensures { λ r. ⌜ r ≡ whyUnlaid answer ⌝ }
+{
+    match answer {
+        LayoutAnswer::Laid(_) => form::refusal_of(0),
+        LayoutAnswer::Refused(refusal) => refusal,
+    }
+}
+
 // The walk before argument `position`, where so much is used.
-fn walk_at(number: u32, position: usize, used: Used) -> Walk
+pub fn walk_at(number: u32, position: usize, used: Used) -> Walk
     requires { ⌜ (used .general .0 ≤ 6) × (used .vector .0 ≤ 8) ⌝ }
     ensures { λ r. ⌜ r ≡ withOffsets number position (walkAt used) ⌝ }
 {
@@ -77,40 +79,6 @@ fn walk_at(number: u32, position: usize, used: Used) -> Walk
         vector: vector,
         overflow: overflow,
     }
-}
-
-// 1..10, 16, and the walk before the first unnamed argument.
-fn opening(number: u32, d: &[u8]) -> OpenAnswer
-    ensures { λ r. ⌜ r ≡ openedIf (first (variadicOrder kcb (now (d .entry)))) (standing kcb (now (d .entry)) number (kcb .named (now (d .entry)))) ⌝ }
-{
-    let answer = layout::layout_of(d);
-    match answer {
-        LayoutAnswer::Refused(refusal) => OpenAnswer::Refused(refusal),
-        LayoutAnswer::Laid(layout) => {
-            if description::byte_at(d, 6) != 1 {
-                return OpenAnswer::Refused(form::refusal_of(16));
-            }
-            let named = description::byte_at(d, 7);
-            let used = layout.named;
-            OpenAnswer::Opened(walk_at(number, named, used))
-        }
-    }
-}
-
-// Opens a walk over the unnamed arguments of the description in the seat.
-pub fn open_walk(station: Station, seat: &[u8]) -> OpenAnswer
-    ensures { λ r. ⌜ r ≡ openAnswer kcb station (now (seat .entry)) ⌝ }
-{
-    if station::wrong_seat(station, seat) {
-        return OpenAnswer::Refused(form::refusal_of(11));
-    }
-    if !station.attached {
-        return OpenAnswer::Refused(form::refusal_of(13));
-    }
-    let length = station.length;
-    let end = length.0;
-    let number = station.number;
-    opening(number, &seat[..end])
 }
 
 // The registers of one eightbyte more.
@@ -257,100 +225,5 @@ pub fn moved_on(walk: Walk, shape: Shape) -> Walk
         general: general,
         vector: vector,
         overflow: units::raise_to(Bytes(8), end),
-    }
-}
-
-// 18: "position outside N..A, or offsets not those this description gives there". Only here the walk asks the layout.
-fn is_astray(d: &[u8], walk: Walk, table: &[u32; 64]) -> bool
-    requires { ⌜ (usesRefusal (now d) ≡ 0) × Tabled (now d) (now table) ⌝ }
-    ensures { λ r. ⌜ r ≡ astray kcb (now (d .entry)) walk ⌝ }
-{
-    let position = walk.position;
-    if position < description::byte_at(d, 7) {
-        return true;
-    }
-    if description::byte_at(d, 8) < position {
-        return true;
-    }
-    let there = walk_at(
-        walk.number,
-        position,
-        layout::used_after(d, position, table),
-    );
-    if !units::same(walk.general, there.general) {
-        return true;
-    }
-    if !units::same(walk.vector, there.vector) {
-        return true;
-    }
-    !units::same(walk.overflow, there.overflow)
-}
-
-// 1..10, 17, 18, 19, 20, and 11 for a stack image of so many bytes.
-fn stands(station: Station, d: &[u8], walk: Walk, stack: &[u8], asked: u8) -> Standing
-    ensures { λ r. ⌜ IsStanding kcb (restRefusal kcb station (now (d .entry)) walk (asking [] (now (stack .entry)) asked []))
-        (now (d .entry)) (walk .position) r ⌝ }
-{
-    let mut table = [0u32; 64];
-    let answer = layout::layout_with(d, &mut table);
-    match answer {
-        LayoutAnswer::Refused(refusal) => Standing::Refused(refusal),
-        LayoutAnswer::Laid(layout) => {
-            if walk.number != station.number {
-                return Standing::Refused(form::refusal_of(17));
-            }
-            if is_astray(d, walk, &table) {
-                return Standing::Refused(form::refusal_of(18));
-            }
-            let position = walk.position;
-            if position == description::byte_at(d, 8) {
-                return Standing::Refused(form::refusal_of(19));
-            }
-            let ty = description::argument_at(d, position);
-            if ty != asked as usize {
-                return Standing::Refused(form::refusal_of(20));
-            }
-            let area = layout.area;
-            if !units::same(Bytes(stack.len()), area) {
-                return Standing::Refused(form::refusal_of(11));
-            }
-            Standing::Before(places::shape_in(&table, ty))
-        }
-    }
-}
-
-// Whether the walk goes on here, by every check of a step but that of the out buffer; and what the next argument asks for.
-pub fn checked(
-    station: Station,
-    seat: &[u8],
-    walk: Walk,
-    registers: &[u8],
-    stack: &[u8],
-    asked: u8,
-) -> Standing
-    ensures { λ r. ⌜ IsStanding kcb (showRefusal kcb station (now (seat .entry)) walk (asking (now (registers .entry)) (now (stack .entry)) asked []))
-        (described station (now (seat .entry))) (walk .position) r ⌝ }
-{
-    if station::wrong_seat(station, seat) {
-        return Standing::Refused(form::refusal_of(11));
-    }
-    if registers.len() != 176 {
-        return Standing::Refused(form::refusal_of(11));
-    }
-    if !station.attached {
-        return Standing::Refused(form::refusal_of(13));
-    }
-    let length = station.length;
-    let end = length.0;
-    stands(station, &seat[..end], walk, stack, asked)
-}
-
-// The refusal that a standing carries, for a caller that passes it on.
-pub fn refusal_in(standing: Standing) -> Refusal
-    ensures { λ r. ⌜ r ≡ refusalIn standing ⌝ }
-{
-    match standing {
-        Standing::Before(_) => form::refusal_of(0),
-        Standing::Refused(refusal) => refusal,
     }
 }

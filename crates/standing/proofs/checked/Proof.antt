@@ -7,12 +7,12 @@ use borrow.Author.Needs.{needs}
 use borrow.Author.Tests.{not-true, not-false}
 use lib.Seq.{length-take-le}
 use denote.Ref.{now}
 use Rattle.walk.specs.Orders.{asking}
 use Rattle.walk.proofs.Checks.{refused-as, show-wrong, show-registers, show-idle, stands-there}
 use Rattle.station.specs.Paper.{kcb}
 use Rattle.station.proofs.Attachments.{right-seat}
-use Rattle.walk.proofs.checked.Statement.{statement}
-use Rattle.walk.proofs.checked.Tie as tie
+use Rattle.standing.proofs.checked.Statement.{statement}
+use Rattle.standing.proofs.checked.Tie as tie
 
 wrong-seat-requires : tie.Need-wrong-seat-requires
 wrong-seat-requires c κs = search needs

@@ -1,8 +1,8 @@
 -- Of either variant.
 -- Assumes nothing.
 use borrow.Author.Needs.{needs}
-use Rattle.walk.proofs.refusal_in.Statement.{statement}
-use Rattle.walk.proofs.refusal_in.Tie as tie
+use Rattle.walk.proofs.why_unlaid.Statement.{statement}
+use Rattle.walk.proofs.why_unlaid.Tie as tie
 
 enum-told : tie.Need-enum-told
 enum-told c = search needs
@@ -10,8 +10,8 @@ enum-told c = search needs
 refusal-of-requires : tie.Need-refusal-of-requires
 refusal-of-requires c κs = search needs
 
-enum-known-standing : tie.Need-enum-known-standing
-enum-known-standing c = search needs
+enum-known-answer : tie.Need-enum-known-answer
+enum-known-answer c = search needs
 
 returns : tie.Need-returns
 returns c = rw (c .before .enum-told .given .1) (c .refusal-of .ensures)
@@ -19,6 +19,6 @@ returns c = rw (c .before .enum-told .given .1) (c .refusal-of .ensures)
 returns-2 : tie.Need-returns-2
 returns-2 c = search needs
 
-pub refusal-in-spec : {M : Type 1} → statement M
-refusal-in-spec =
-    tie.close (tie.spec enum-told refusal-of-requires enum-known-standing returns returns-2)
+pub why-unlaid-spec : {M : Type 1} → statement M
+why-unlaid-spec =
+    tie.close (tie.spec enum-told refusal-of-requires enum-known-answer returns returns-2)

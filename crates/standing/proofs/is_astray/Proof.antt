@@ -5,9 +5,9 @@ use native.Mathlib.Omega.{arith}
 use borrow.Author.Needs.{needs}
 use borrow.Author.Tests.{not-true, not-false}
 use denote.Ref.{now}
 use Rattle.walk.proofs.Checks.{headed, used-few, astray-low, astray-high, astray-general, astray-vector, astray-overflow}
-use Rattle.walk.proofs.is_astray.Statement.{statement}
-use Rattle.walk.proofs.is_astray.Tie as tie
+use Rattle.standing.proofs.is_astray.Statement.{statement}
+use Rattle.standing.proofs.is_astray.Tie as tie
 
 byte-at-requires : tie.Need-byte-at-requires
 byte-at-requires c κs = omega (arith, headed (now (c .before .args .d)) (c .before .pre .0))

@@ -6,11 +6,11 @@ use borrow.Author.Needs.{needs}
 use borrow.Author.Tests.{not-true, not-false}
 use lib.Seq.{length-take-le}
 use denote.Ref.{now}
 use Rattle.walk.proofs.Opens.{answer-wrong, answer-idle, answer-rest}
 use Rattle.station.specs.Paper.{kcb}
 use Rattle.station.proofs.Attachments.{right-seat}
-use Rattle.walk.proofs.open_walk.Statement.{statement}
-use Rattle.walk.proofs.open_walk.Tie as tie
+use Rattle.opening.proofs.open_walk.Statement.{statement}
+use Rattle.opening.proofs.open_walk.Tie as tie
 
 wrong-seat-requires : tie.Need-wrong-seat-requires
 wrong-seat-requires c κs = search needs
