@@ -84,7 +84,7 @@ pub fn give_classes(d: &[u8], asked: u8, before: Classes) -> GivenClasses
     ensures { λ r. ⌜ (r .refusal ≡ refusalIn (classesGiven (classesAnswer (now (d .entry)) asked)))
         × (r .classes ≡ leftIn (classesGiven (classesAnswer (now (d .entry)) asked)) before) ⌝ }
 {
-    let answer = questions::type_classes(d, asked);
+    let answer = class_question::type_classes(d, asked);
     match answer {
         ClassesAnswer::Classes(first, second) => GivenClasses {
             classes: Classes {
@@ -105,7 +105,7 @@ pub fn give_run(d: &[u8], asked: u8, before: Part) -> GivenPart
     ensures { λ r. ⌜ (r .refusal ≡ refusalIn (runGiven (runAnswer (now (d .entry)) asked)))
         × (r .part ≡ leftIn (runGiven (runAnswer (now (d .entry)) asked)) before) ⌝ }
 {
-    let answer = questions::run_at(d, asked);
+    let answer = run_questions::run_at(d, asked);
     match answer {
         RunAnswer::Run(offset, count) => GivenPart {
             part: Part {

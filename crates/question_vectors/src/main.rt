@@ -56,7 +56,7 @@ fn print_align(d: &[u8], t: u8) {
 }
 
 fn print_classes(d: &[u8], t: u8) {
-    match questions::type_classes(d, t) {
+    match class_question::type_classes(d, t) {
         ClassesAnswer::Classes(first, second) => {
             print(b" classes");
             print_class(first);
@@ -68,9 +68,9 @@ fn print_classes(d: &[u8], t: u8) {
 
 // Where the run lies, and how many bytes the part has that is handed out for it.
 fn print_run(d: &[u8], t: u8) {
-    let part = questions::member_run(d, t);
+    let part = run_questions::member_run(d, t);
     let count = part.len() as u64;
-    match questions::run_at(d, t) {
+    match run_questions::run_at(d, t) {
         RunAnswer::Run(offset, _) => {
             print_number(b" run ", offset.0 as u64);
             print_number(b" ", count);

@@ -9,9 +9,9 @@ use Rattle.questions.proofs.question_refusal
 use Rattle.questions.proofs.type_size
 use Rattle.questions.proofs.type_align
 use Rattle.questions.proofs.type_extent
-use Rattle.questions.proofs.type_classes
-use Rattle.questions.proofs.run_at
-use Rattle.questions.proofs.member_run
+use Rattle.class_question.proofs.type_classes
+use Rattle.run_questions.proofs.run_at
+use Rattle.run_questions.proofs.member_run
 use Rattle.uses.proofs.uses_refusal
 use Rattle.layout.proofs.check
 use Rattle.layout.proofs.layout_of
@@ -82,14 +82,14 @@ total-questions-type-align c g = refl
 pub total-questions-type-extent : Total type_extent.ended (λ M. type_extent.clauses {M = M})
 total-questions-type-extent c g = refl
 
-pub total-questions-type-classes : Total type_classes.ended (λ M. type_classes.clauses {M = M})
-total-questions-type-classes c g = refl
+pub total-class-question-type-classes : Total type_classes.ended (λ M. type_classes.clauses {M = M})
+total-class-question-type-classes c g = refl
 
-pub total-questions-run-at : Total run_at.ended (λ M. run_at.clauses {M = M})
-total-questions-run-at c g = refl
+pub total-run-questions-run-at : Total run_at.ended (λ M. run_at.clauses {M = M})
+total-run-questions-run-at c g = refl
 
-pub total-questions-member-run : Total member_run.ended (λ M. member_run.clauses {M = M})
-total-questions-member-run c g = refl
+pub total-run-questions-member-run : Total member_run.ended (λ M. member_run.clauses {M = M})
+total-run-questions-member-run c g = refl
 
 pub total-uses-uses-refusal : Total uses_refusal.ended (λ M. uses_refusal.clauses {M = M})
 total-uses-uses-refusal c g = refl

@@ -7,6 +7,8 @@ pub mod OfTypes
 pub mod OfClasses
 pub mod OfClassify
 pub mod OfQuestions
+pub mod OfClassQuestion
+pub mod OfRunQuestions
 pub mod OfUses
 pub mod OfPlaces
 pub mod OfLayout

@@ -1,29 +1,31 @@
 -- Each public function of `questions` meets its contract, and the contract is tight. Assumes nothing.
-use mathlib.Core.Path.{refl, sym, _∙_}
-use Rattle.tightness.specs.Tight.{Meets, Tight, TightPart}
+use mathlib.Core.Path.{_≡_, refl, sym, _∙_}
+use Rattle.tightness.specs.Tight.{Meets, Tight}
 use Rattle.tightness.proofs.Laws.{bytes, equal, result, settle}
-use denote.Ref.{now}
-use Rattle.questions.proofs.member_run
-use Rattle.questions.proofs.member_run.Met as member-run-met
-use Rattle.questions.proofs.member_run.Symbol as member-run-symbol
 use Rattle.questions.proofs.question_refusal
 use Rattle.questions.proofs.question_refusal.Met as question-refusal-met
 use Rattle.questions.proofs.question_refusal.Symbol as question-refusal-symbol
-use Rattle.questions.proofs.run_at
-use Rattle.questions.proofs.run_at.Met as run-at-met
-use Rattle.questions.proofs.run_at.Symbol as run-at-symbol
+use Rattle.questions.proofs.question_refusal_with
+use Rattle.questions.proofs.question_refusal_with.Met as question-refusal-with-met
+use Rattle.questions.proofs.question_refusal_with.Symbol as question-refusal-with-symbol
 use Rattle.questions.proofs.type_align
 use Rattle.questions.proofs.type_align.Met as type-align-met
 use Rattle.questions.proofs.type_align.Symbol as type-align-symbol
-use Rattle.questions.proofs.type_classes
-use Rattle.questions.proofs.type_classes.Met as type-classes-met
-use Rattle.questions.proofs.type_classes.Symbol as type-classes-symbol
 use Rattle.questions.proofs.type_extent
 use Rattle.questions.proofs.type_extent.Met as type-extent-met
 use Rattle.questions.proofs.type_extent.Symbol as type-extent-symbol
 use Rattle.questions.proofs.type_size
 use Rattle.questions.proofs.type_size.Met as type-size-met
 use Rattle.questions.proofs.type_size.Symbol as type-size-symbol
+
+pub meets-questions-question-refusal-with : Meets question_refusal_with.ended (λ M. question_refusal_with.clauses {M = M}) question-refusal-with-symbol.routine
+meets-questions-question-refusal-with M = question-refusal-with-met.met
+
+pub tight-questions-question-refusal-with : Tight question_refusal_with.ended (λ M. question_refusal_with.clauses {M = M})
+tight-questions-question-refusal-with c r q w v a b = (settle (result question_refusal_with.ended c) (a .ensured) (b .ensured) (λ e f. e .0 ∙ sym (f .0)), λ i. (tt, (tt, (table i, tt))))
+  where
+    table : w .1 .1 .0 ≡ v .1 .1 .0
+    table = settle bytes (a .ensured) (b .ensured) (λ e f. e .1 ∙ sym (f .1))
 
 pub meets-questions-question-refusal : Meets question_refusal.ended (λ M. question_refusal.clauses {M = M}) question-refusal-symbol.routine
 meets-questions-question-refusal M = question-refusal-met.met
@@ -48,21 +50,3 @@ meets-questions-type-align M = type-align-met.met
 
 pub tight-questions-type-align : Tight type_align.ended (λ M. type_align.clauses {M = M})
 tight-questions-type-align c r q w v a b = (equal (result type_align.ended c) (a .ensured) (b .ensured), refl)
-
-pub meets-questions-type-classes : Meets type_classes.ended (λ M. type_classes.clauses {M = M}) type-classes-symbol.routine
-meets-questions-type-classes M = type-classes-met.met
-
-pub tight-questions-type-classes : Tight type_classes.ended (λ M. type_classes.clauses {M = M})
-tight-questions-type-classes c r q w v a b = (equal (result type_classes.ended c) (a .ensured) (b .ensured), refl)
-
-pub meets-questions-run-at : Meets run_at.ended (λ M. run_at.clauses {M = M}) run-at-symbol.routine
-meets-questions-run-at M = run-at-met.met
-
-pub tight-questions-run-at : Tight run_at.ended (λ M. run_at.clauses {M = M})
-tight-questions-run-at c r q w v a b = (settle (result run_at.ended c) (a .ensured) (b .ensured) (λ e f. e .0 ∙ sym (f .0)), refl)
-
-pub meets-questions-member-run : Meets member_run.ended (λ M. member_run.clauses {M = M}) member-run-symbol.routine
-meets-questions-member-run M = member-run-met.met
-
-pub tight-questions-member-run : TightPart member_run.ended (λ c r. now r) (λ M. member_run.clauses {M = M})
-tight-questions-member-run c r q w v a b = (equal bytes (a .ensured) (b .ensured), refl)
