@@ -170,7 +170,7 @@ pub fn give_shown(
     ensures { λ r. ⌜ (r .refusal ≡ refusalIn (shownGiven (shownAnswer kcb station (now (seat .entry)) walk (asking (now (registers .entry)) (now (stack .entry)) asked []))))
         × (r .part ≡ leftIn (shownGiven (shownAnswer kcb station (now (seat .entry)) walk (asking (now (registers .entry)) (now (stack .entry)) asked []))) before) ⌝ }
 {
-    let answer = show::shown_at(station, seat, walk, registers, stack, asked);
+    let answer = showing::shown_at(station, seat, walk, registers, stack, asked);
     match answer {
         ShownAnswer::Registers(part) => {
             let offset = part.offset;

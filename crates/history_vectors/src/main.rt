@@ -420,9 +420,9 @@ fn show<'a>(state: State, seat: &[u8], registers: &'a [u8], stack: &'a [u8]) {
     let slot = read_byte() as usize;
     let asked = read_byte();
     let walk = walk_in(state, slot);
-    let part = show::show(station, seat, walk, registers, stack, asked);
+    let part = showing::show(station, seat, walk, registers, stack, asked);
     let count = part.len();
-    match show::shown_at(station, seat, walk, registers, stack, asked) {
+    match showing::shown_at(station, seat, walk, registers, stack, asked) {
         ShownAnswer::Registers(place) => print_part(b"show registers ", place.offset, count),
         ShownAnswer::Stack(place) => print_part(b"show stack ", place.offset, count),
         ShownAnswer::Apart => print(b"show none\n"),

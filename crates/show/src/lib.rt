@@ -1,4 +1,4 @@
-// An argument shown where it lies (document 01, "Station and walk", "A second call" and "A third call").
+// The part of an image that an argument lies in, and the number of `show` (document 01, "Station and walk", "A third call").
 use form::Refusal;
 use places::Kind;
 use places::Kinds;
@@ -6,18 +6,16 @@ use places::Shape;
 use station::Station;
 use units::Bytes;
 use walk::Fetch;
-use walk::Standing;
 use walk::Walk;
 ghost use mathlib.Core.Path.{_≡_};
 ghost use mathlib.Core.Bool.{cond};
 ghost use mathlib.Core.List.{[]};
-ghost use lib.ListN.{length};
 ghost use Rattle.form.specs.Reading.{refusalOf};
 ghost use Rattle.places.specs.Recorded.{listed, asked as askedOf};
 ghost use Rattle.station.specs.Paper.{kcb};
 ghost use Rattle.walk.specs.Offsets.{sourceOf};
 ghost use Rattle.walk.specs.Orders.{asking, showRefusal};
-ghost use Rattle.show.specs.Show.{alike, onePiece, partIn, Lies, shownAnswer, showPart};
+ghost use Rattle.show.specs.Show.{alike, onePiece, partIn};
 
 // So many bytes of an image, from an offset on.
 pub struct Part {
@@ -80,7 +78,7 @@ fn in_registers(offset: Bytes, shape: Shape) -> ShownAnswer
 }
 
 // The part of an argument that is fetched there.
-fn part_of(fetch: Fetch, shape: Shape) -> ShownAnswer
+pub fn part_of(fetch: Fetch, shape: Shape) -> ShownAnswer
     ensures { λ r. ⌜ r ≡ partIn (sourceOf fetch) (askedOf shape) ⌝ }
 {
     let size = shape.size;
@@ -91,54 +89,6 @@ fn part_of(fetch: Fetch, shape: Shape) -> ShownAnswer
             offset: offset,
             length: size,
         }),
-    }
-}
-
-// Where the argument that the walk stands before lies.
-pub fn shown_at(
-    station: Station,
-    seat: &[u8],
-    walk: Walk,
-    registers: &[u8],
-    stack: &[u8],
-    asked: u8,
-) -> ShownAnswer
-    ensures { λ r. ⌜ (r ≡ shownAnswer kcb station (now (seat .entry)) walk (asking (now (registers .entry)) (now (stack .entry)) asked []))
-        × Lies r (length (now (registers .entry))) (length (now (stack .entry))) ⌝ }
-{
-    let standing = standing::checked(station, seat, walk, registers, stack, asked);
-    let Standing::Before(shape) = standing else {
-        return ShownAnswer::Refused(standing::refusal_in(standing));
-    };
-    let fetch = walk::fetch_at(walk, shape);
-    part_of(fetch, shape)
-}
-
-// The argument as a part of the register image or of the stack image; the empty part for a refusal, and where it lies in more than one.
-pub fn show<'a>(
-    station: Station,
-    seat: &[u8],
-    walk: Walk,
-    registers: &'a [u8],
-    stack: &'a [u8],
-    asked: u8,
-) -> &'a [u8]
-    ensures { λ r. ⌜ now r ≡ showPart kcb station (now (seat .entry)) walk (asking (now (registers .entry)) (now (stack .entry)) asked []) ⌝ }
-{
-    let answer = shown_at(station, seat, walk, registers, stack, asked);
-    match answer {
-        ShownAnswer::Registers(part) => {
-            let from = part.offset.0;
-            let end = from + part.length.0;
-            &registers[from..end]
-        }
-        ShownAnswer::Stack(part) => {
-            let from = part.offset.0;
-            let end = from + part.length.0;
-            &stack[from..end]
-        }
-        ShownAnswer::Apart => &registers[..0],
-        ShownAnswer::Refused(_) => &registers[..0],
     }
 }
 

@@ -31,8 +31,8 @@ use Rattle.opening.proofs.open_walk
 use Rattle.standing.proofs.checked
 use Rattle.step.proofs.step
 use Rattle.step.proofs.stepping
-use Rattle.show.proofs.shown_at
-use Rattle.show.proofs.show
+use Rattle.showing.proofs.shown_at
+use Rattle.showing.proofs.show
 use Rattle.show.proofs.show_number
 use Rattle.listing.proofs.write_listing
 use Rattle.places.proofs.fresh
@@ -148,11 +148,11 @@ total-step-step c g = refl
 pub total-step-stepping : Total stepping.ended (λ M. stepping.clauses {M = M})
 total-step-stepping c g = refl
 
-pub total-show-shown-at : Total shown_at.ended (λ M. shown_at.clauses {M = M})
-total-show-shown-at c g = refl
+pub total-showing-shown-at : Total shown_at.ended (λ M. shown_at.clauses {M = M})
+total-showing-shown-at c g = refl
 
-pub total-show-show : Total show.ended (λ M. show.clauses {M = M})
-total-show-show c g = refl
+pub total-showing-show : Total show.ended (λ M. show.clauses {M = M})
+total-showing-show c g = refl
 
 pub total-show-show-number : Total show_number.ended (λ M. show_number.clauses {M = M})
 total-show-show-number c g = refl

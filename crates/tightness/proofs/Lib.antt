@@ -22,6 +22,7 @@ pub mod OfOpening
 pub mod OfStanding
 pub mod OfStep
 pub mod OfShow
+pub mod OfShowing
 pub mod OfText
 pub mod OfPlaceWords
 pub mod OfListing

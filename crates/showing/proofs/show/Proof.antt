@@ -4,11 +4,11 @@ use mathlib.Core.List.{[]}
 use native.Mathlib.Omega.{arith}
 use borrow.Author.Needs.{needs}
 use denote.Ref.{now}
 use Rattle.show.proofs.Shown.{shows-registers, shows-stack, shows-apart, shows-refused}
 use Rattle.station.specs.Paper.{kcb}
 use Rattle.walk.specs.Orders.{asking}
-use Rattle.show.proofs.show.Statement.{statement}
-use Rattle.show.proofs.show.Tie as tie
+use Rattle.showing.proofs.show.Statement.{statement}
+use Rattle.showing.proofs.show.Tie as tie
 
 shown-at-requires : tie.Need-shown-at-requires
 shown-at-requires c κs = search needs

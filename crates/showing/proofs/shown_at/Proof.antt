@@ -3,10 +3,10 @@
 use mathlib.Core.List.{[]}
 use borrow.Author.Needs.{needs}
 use denote.Ref.{now}
 use Rattle.show.proofs.Shown.{shown-refused, reached-here, shown-there}
 use Rattle.walk.specs.Orders.{asking}
-use Rattle.show.proofs.shown_at.Statement.{statement}
-use Rattle.show.proofs.shown_at.Tie as tie
+use Rattle.showing.proofs.shown_at.Statement.{statement}
+use Rattle.showing.proofs.shown_at.Tie as tie
 
 checked-requires : tie.Need-checked-requires
 checked-requires c κs = search needs
