@@ -203,7 +203,7 @@ pub extern "C" fn cb_attach(station: &mut Station, seat: &mut [u8], d: &[u8]) ->
         × (now (station .exit) ≡ attachStation kcb (now (station .entry)) (now (seat .entry)) (now (d .entry)))
         × (now (seat .exit) ≡ attachSeat kcb (now (station .entry)) (now (seat .entry)) (now (d .entry))) ⌝ }
 {
-    let after = station::attaching(*station, seat, d);
+    let after = attach::attaching(*station, seat, d);
     *station = after.station;
     after.refusal
 }
@@ -215,7 +215,7 @@ pub extern "C" fn cb_detach(station: &mut Station, seat: &mut [u8]) -> Refusal
         × (now (station .exit) ≡ detachStation (now (station .entry)) (now (seat .entry)))
         × (now (seat .exit) ≡ detachSeat (now (station .entry)) (now (seat .entry))) ⌝ }
 {
-    let after = station::detaching(*station, seat);
+    let after = detach::detaching(*station, seat);
     *station = after.station;
     after.refusal
 }

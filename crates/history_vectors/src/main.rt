@@ -329,7 +329,7 @@ fn set_stack(state: State, image: &mut [u8]) -> State {
 fn attach_lent(station: Station, seat: &mut [u8]) -> Station {
     let mut space = io::buffer();
     let n = read_sized(&mut space);
-    let done = station::attaching(station, seat, &space[..n]);
+    let done = attach::attaching(station, seat, &space[..n]);
     print_refusal(b"attach ", done.refusal);
     done.station
 }
@@ -351,7 +351,7 @@ fn detach(state: State, room: &mut [u8]) -> State {
     if room.len() < lent {
         return state;
     }
-    let done = station::detaching(station, &mut room[..lent]);
+    let done = detach::detaching(station, &mut room[..lent]);
     let next = done.station;
     print_refusal(b"detach ", done.refusal);
     print_seat(next, room);

@@ -44,8 +44,8 @@ use Rattle.layout.proofs.layout_of
 use Rattle.layout.proofs.lay_out
 use Rattle.moving.proofs.place_values
 use Rattle.moving.proofs.gather_values
-use Rattle.station.proofs.attach
-use Rattle.station.proofs.detach
+use Rattle.attach.proofs.attach
+use Rattle.detach.proofs.detach
 use Rattle.opening.proofs.open_walk
 use Rattle.step.proofs.step
 use Rattle.show.proofs.show_number

@@ -22,10 +22,10 @@ use Rattle.moving.proofs.gather_values
 use Rattle.returning.proofs.put_returned
 use Rattle.returning.proofs.take_returned
 use Rattle.station.proofs.new_station
-use Rattle.station.proofs.attach
-use Rattle.station.proofs.attaching
-use Rattle.station.proofs.detach
-use Rattle.station.proofs.detaching
+use Rattle.attach.proofs.attach
+use Rattle.attach.proofs.attaching
+use Rattle.detach.proofs.detach
+use Rattle.detach.proofs.detaching
 use Rattle.station.proofs.wrong_seat
 use Rattle.opening.proofs.open_walk
 use Rattle.standing.proofs.checked
@@ -121,17 +121,17 @@ total-returning-take-returned c g = refl
 pub total-station-new-station : Total new_station.ended (λ M. new_station.clauses {M = M})
 total-station-new-station c g = refl
 
-pub total-station-attach : Total attach.ended (λ M. attach.clauses {M = M})
-total-station-attach c g = refl
+pub total-attach-attach : Total attach.ended (λ M. attach.clauses {M = M})
+total-attach-attach c g = refl
 
-pub total-station-attaching : Total attaching.ended (λ M. attaching.clauses {M = M})
-total-station-attaching c g = refl
+pub total-attach-attaching : Total attaching.ended (λ M. attaching.clauses {M = M})
+total-attach-attaching c g = refl
 
-pub total-station-detach : Total detach.ended (λ M. detach.clauses {M = M})
-total-station-detach c g = refl
+pub total-detach-detach : Total detach.ended (λ M. detach.clauses {M = M})
+total-detach-detach c g = refl
 
-pub total-station-detaching : Total detaching.ended (λ M. detaching.clauses {M = M})
-total-station-detaching c g = refl
+pub total-detach-detaching : Total detaching.ended (λ M. detaching.clauses {M = M})
+total-detach-detaching c g = refl
 
 pub total-station-wrong-seat : Total wrong_seat.ended (λ M. wrong_seat.clauses {M = M})
 total-station-wrong-seat c g = refl

@@ -17,6 +17,8 @@ pub mod OfMoving
 pub mod OfReturnImage
 pub mod OfReturning
 pub mod OfStation
+pub mod OfAttach
+pub mod OfDetach
 pub mod OfWalk
 pub mod OfOpening
 pub mod OfStanding

@@ -3,10 +3,10 @@
 use mathlib.Core.Path.{sym, _∙_}
 use borrow.Author.Needs.{needs}
 use denote.Ref.{now}
 use Rattle.station.proofs.Attachments.{detach-seated, detach-left, detach-done, number-of}
 use Rattle.addresses.specs.Copy.{cleared}
-use Rattle.station.proofs.detaching.Statement.{statement}
-use Rattle.station.proofs.detaching.Tie as tie
+use Rattle.detach.proofs.detaching.Statement.{statement}
+use Rattle.detach.proofs.detaching.Tie as tie
 
 detach-refusal-requires : tie.Need-detach-refusal-requires
 detach-refusal-requires c κs = search needs

@@ -4,12 +4,12 @@ use mathlib.Core.Path.{sym, ap, _∙_}
 use native.Mathlib.Omega.{arith}
 use borrow.Author.Needs.{needs}
 use denote.Ref.{now}
 use Rattle.station.specs.Paper.{kcb}
 use Rattle.station.proofs.Attachments.{attach-wrong, attach-busy, attach-last, attach-judged}
 use Rattle.station.proofs.Kcb.{kcb-verdict}
 use Rattle.form.specs.Reading.{refusalOf}
-use Rattle.station.proofs.attach_refusal.Statement.{statement}
-use Rattle.station.proofs.attach_refusal.Tie as tie
+use Rattle.attach.proofs.attach_refusal.Statement.{statement}
+use Rattle.attach.proofs.attach_refusal.Tie as tie
 
 wrong-seat-requires : tie.Need-wrong-seat-requires
 wrong-seat-requires c κs = search needs

@@ -4,10 +4,10 @@ use mathlib.Core.Path.{sym, ap, _∙_}
 use borrow.Author.Needs.{needs}
 use borrow.Author.Tests.{not-true, not-false}
 use denote.Ref.{now}
 use Rattle.station.proofs.Attachments.{detach-wrong, detach-idle, detach-right}
 use Rattle.form.specs.Reading.{refusalOf}
-use Rattle.station.proofs.detach_refusal.Statement.{statement}
-use Rattle.station.proofs.detach_refusal.Tie as tie
+use Rattle.detach.proofs.detach_refusal.Statement.{statement}
+use Rattle.detach.proofs.detach_refusal.Tie as tie
 
 wrong-seat-requires : tie.Need-wrong-seat-requires
 wrong-seat-requires c κs = search needs

@@ -5,11 +5,11 @@ use native.Mathlib.Omega.{arith}
 use native.Mathlib.Numerals.{add-one}
 use borrow.Author.Needs.{needs}
 use denote.Ref.{now}
 use Rattle.station.specs.Paper.{kcb}
 use Rattle.station.proofs.Attachments.{attach-passes, attach-left, attach-done, number-of}
 use Rattle.station.proofs.Kcb.{kcb-short}
-use Rattle.station.proofs.attaching.Statement.{statement}
-use Rattle.station.proofs.attaching.Tie as tie
+use Rattle.attach.proofs.attaching.Statement.{statement}
+use Rattle.attach.proofs.attaching.Tie as tie
 
 attach-refusal-requires : tie.Need-attach-refusal-requires
 attach-refusal-requires c κs = search needs
