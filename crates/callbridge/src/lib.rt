@@ -19,7 +19,7 @@ ghost use Rattle.form.specs.Reading.{refusalOf};
 ghost use Rattle.questions.specs.Questions.{extentAnswer};
 ghost use Rattle.questions.specs.Runs.{classesAnswer, runAnswer};
 ghost use Rattle.layout.specs.Layout.{layoutAnswer};
-ghost use Rattle.layout.specs.Placements.{listCount, filled};
+ghost use Rattle.lists.specs.Lists.{listCount, filled};
 ghost use Rattle.layout.specs.Verdict.{verdict};
 ghost use Rattle.moving.specs.Answers.{placeAnswer, registersAfter, stackAfter, gatherAnswer, valuesAfter};
 ghost use Rattle.returning.specs.Answers.{putAnswer, imageAfter, takeAnswer, valueAfter};

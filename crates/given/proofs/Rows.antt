@@ -12,14 +12,15 @@ use Rattle.form.specs.Reading.{refusalOf}
 use Rattle.places.specs.declared.Used.{Used}
 use Rattle.layout.specs.declared.Layout.{Layout as Whole}
 use Rattle.layout.specs.declared.Placement.{Placement as Record}
-use Rattle.layout.specs.declared.Begun.{Begun}
+use Rattle.lists.specs.declared.Begun.{Begun}
 use Rattle.layout.specs.declared.LayoutAnswer.{LayoutAnswer}
 use Rattle.layout.specs.declared.LayoutAnswer.the-variants.{Laid, Refused}
 use Rattle.layout.specs.Layout.{layoutOf as wholeOf, tableAfter}
 use Rattle.layout.specs.Asks.{AskArgument}
 use Rattle.layout.specs.Verdict.{verdict}
-use Rattle.layout.specs.Placements.{stepAt, listRefusal, listAnswer, listCount, listUsed, begunOf}
-use Rattle.layout.proofs.Lists.{begun-answer, begun-count, begun-used, turn-accepted, turn-asks, turn-record, turn-used}
+use Rattle.layout.specs.Placements.{stepAt}
+use Rattle.lists.specs.Lists.{listRefusal, listAnswer, listCount, listUsed, begunOf}
+use Rattle.lists.proofs.Lists.{begun-answer, begun-count, begun-used, turn-accepted, turn-asks, turn-record, turn-used}
 use Rattle.flat.specs.declared.Layout.{Layout}
 use Rattle.flat.specs.Records.{placementOf, layoutOf}
 use Rattle.given.specs.declared.ListBegun.{ListBegun}

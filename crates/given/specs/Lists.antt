@@ -5,7 +5,8 @@ use Rattle.description.specs.Description.{argumentsIn}
 use lib.ListN.{replicate}
 use Rattle.layout.specs.Layout.{tableAfter}
 use Rattle.places.specs.declared.Used.{Used}
-use Rattle.layout.specs.Placements.{stepAt, placementAt, listAnswer, listCount, listUsed}
+use Rattle.layout.specs.Placements.{stepAt, placementAt}
+use Rattle.lists.specs.Lists.{listAnswer, listCount, listUsed}
 use Rattle.flat.specs.declared.Layout.{Layout}
 use Rattle.flat.specs.declared.Placement.{Placement}
 use Rattle.flat.specs.Records.{placementOf}

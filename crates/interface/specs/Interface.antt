@@ -17,7 +17,8 @@ use Rattle.questions.specs.Runs.{classesAnswer, runAnswer}
 use Rattle.layout.specs.Arguments.{usedAt}
 use Rattle.layout.specs.Verdict.{verdict}
 use Rattle.layout.specs.Layout.{layoutOf as wholeOf, layoutAnswer}
-use Rattle.layout.specs.Placements.{placementAt, listRefusal, listCount, filled}
+use Rattle.layout.specs.Placements.{placementAt}
+use Rattle.lists.specs.Lists.{listRefusal, listCount, filled}
 use Rattle.moving.specs.Images.{hiddenIn}
 use Rattle.moving.specs.Orders.{placeRefusal, gatherRefusal}
 use Rattle.moving.specs.Answers.{placeAnswer, gatherAnswer}

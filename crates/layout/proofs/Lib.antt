@@ -4,5 +4,4 @@ pub mod Bounds
 pub mod Steps
 pub mod Loop
 pub mod Layouts
-pub mod Lists
 pub mod Records

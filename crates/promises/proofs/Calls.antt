@@ -19,7 +19,7 @@ use Rattle.layout.specs.declared.Placement.{Placement}
 use Rattle.layout.specs.Arguments.{hidden}
 use Rattle.layout.specs.Verdict.{verdict}
 use Rattle.layout.specs.Layout.{layoutOf, layoutAnswer}
-use Rattle.layout.specs.Placements.{listRefusal, listAnswer}
+use Rattle.lists.specs.Lists.{listRefusal, listAnswer}
 use Rattle.moving.specs.declared.GatherAnswer.the-variants.{Gathered}
 use Rattle.moving.specs.Images.{addressesOf, gathered}
 use Rattle.moving.specs.Orders.{placeRefusal, gatherRefusal}
@@ -40,7 +40,7 @@ use Rattle.class_question.proofs.type_classes
 use Rattle.run_questions.proofs.run_at
 use Rattle.layout.proofs.check
 use Rattle.layout.proofs.layout_of
-use Rattle.layout.proofs.lay_out
+use Rattle.lists.proofs.lay_out
 use Rattle.moving.proofs.place_values
 use Rattle.moving.proofs.gather_values
 use Rattle.attach.proofs.attach

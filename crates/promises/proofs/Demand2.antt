@@ -30,10 +30,11 @@ use Rattle.places.proofs.Returning.{return-cases}
 use Rattle.layout.specs.declared.Placement.{Placement}
 use Rattle.layout.specs.Arguments.{shapeAt, shapes, usedFirst, usedAt, areaOf}
 use Rattle.layout.specs.Layout.{layoutOf}
-use Rattle.layout.specs.Placements.{placementAt, listRefusal, listCount}
+use Rattle.layout.specs.Placements.{placementAt}
+use Rattle.lists.specs.Lists.{listRefusal, listCount}
 use Rattle.layout.proofs.Arguments.{used-none}
 use Rattle.layout.proofs.Layouts.{asks-at}
-use Rattle.layout.proofs.Lists.{list-room}
+use Rattle.lists.proofs.Lists.{list-room}
 use Rattle.layout.proofs.Verdict.{accepted-uses}
 use Rattle.layout.specs.Verdict.{verdict}
 use Rattle.cases.proofs.Cases.{cases-hold}

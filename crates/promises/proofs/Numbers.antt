@@ -22,7 +22,7 @@ use Rattle.questions.specs.Runs.{pairOf, classesAnswer, runAnswer}
 use Rattle.layout.specs.Arguments.{usedAt}
 use Rattle.layout.specs.Verdict.{verdict}
 use Rattle.layout.specs.Layout.{layoutOf, layoutAnswer}
-use Rattle.layout.specs.Placements.{listRefusal, listAnswer}
+use Rattle.lists.specs.Lists.{listRefusal, listAnswer}
 use Rattle.layout.specs.declared.LayoutAnswer.the-variants.{Laid, Refused as NotLaid}
 use Rattle.moving.specs.Images.{hiddenIn}
 use Rattle.moving.specs.Orders.{placeRefusal, gatherRefusal}

@@ -41,7 +41,7 @@ use Rattle.class_question.proofs.type_classes
 use Rattle.run_questions.proofs.run_at
 use Rattle.layout.proofs.check
 use Rattle.layout.proofs.layout_of
-use Rattle.layout.proofs.lay_out
+use Rattle.lists.proofs.lay_out
 use Rattle.moving.proofs.place_values
 use Rattle.moving.proofs.gather_values
 use Rattle.attach.proofs.attach

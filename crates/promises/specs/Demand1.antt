@@ -29,7 +29,8 @@ use Rattle.layout.specs.declared.Placement.{Placement}
 use Rattle.layout.specs.Arguments.{usedAt}
 use Rattle.layout.specs.Verdict.{verdict}
 use Rattle.layout.specs.Layout.{layoutOf, layoutAnswer}
-use Rattle.layout.specs.Placements.{placementAt, listAnswer, listCount, filled}
+use Rattle.layout.specs.Placements.{placementAt}
+use Rattle.lists.specs.Lists.{listAnswer, listCount, filled}
 use Rattle.layout.specs.Statements.{Bounded}
 use Rattle.moving.specs.Images.{hiddenIn}
 use Rattle.moving.specs.Answers.{placeAnswer, gatherAnswer, registersAfter, stackAfter, valuesAfter}

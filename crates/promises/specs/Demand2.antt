@@ -37,7 +37,8 @@ use Rattle.layout.specs.declared.LayoutAnswer.the-variants.{Laid}
 use Rattle.layout.specs.Arguments.{shapeAt, isVoid, returnClasses, returnPlace, hidden, usedFirst, usedAt, areaOf}
 use Rattle.layout.specs.Verdict.{verdict}
 use Rattle.layout.specs.Layout.{layoutOf, layoutAnswer}
-use Rattle.layout.specs.Placements.{placementAt, listRefusal, listCount, filled}
+use Rattle.layout.specs.Placements.{placementAt}
+use Rattle.lists.specs.Lists.{listRefusal, listCount, filled}
 use Rattle.cases.specs.Cases.{Case, cases}
 use Rattle.listing.specs.Listing.{listing}
 use Rattle.listing_cases.specs.Listings.{listings}

@@ -15,8 +15,8 @@ use Rattle.run_questions.proofs.member_run
 use Rattle.uses.proofs.uses_refusal
 use Rattle.layout.proofs.check
 use Rattle.layout.proofs.layout_of
-use Rattle.layout.proofs.lay_out
-use Rattle.layout.proofs.begin
+use Rattle.lists.proofs.lay_out
+use Rattle.lists.proofs.begin
 use Rattle.moving.proofs.place_values
 use Rattle.moving.proofs.gather_values
 use Rattle.returning.proofs.put_returned
@@ -100,11 +100,11 @@ total-layout-check c g = refl
 pub total-layout-layout-of : Total layout_of.ended (λ M. layout_of.clauses {M = M})
 total-layout-layout-of c g = refl
 
-pub total-layout-lay-out : Total lay_out.ended (λ M. lay_out.clauses {M = M})
-total-layout-lay-out c g = refl
+pub total-lists-lay-out : Total lay_out.ended (λ M. lay_out.clauses {M = M})
+total-lists-lay-out c g = refl
 
-pub total-layout-begin : Total begin.ended (λ M. begin.clauses {M = M})
-total-layout-begin c g = refl
+pub total-lists-begin : Total begin.ended (λ M. begin.clauses {M = M})
+total-lists-begin c g = refl
 
 pub total-moving-place-values : Total place_values.ended (λ M. place_values.clauses {M = M})
 total-moving-place-values c g = refl

@@ -12,6 +12,7 @@ pub mod OfRunQuestions
 pub mod OfUses
 pub mod OfPlaces
 pub mod OfLayout
+pub mod OfLists
 pub mod OfImages
 pub mod OfMoving
 pub mod OfReturnImage

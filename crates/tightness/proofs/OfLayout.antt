@@ -2,20 +2,9 @@
 use mathlib.Core.Path.{_≡_, refl, sym, _∙_}
 use Rattle.tightness.specs.Tight.{Meets, Tight}
 use Rattle.tightness.proofs.Laws.{bytes, equal, result, settle}
-use Rattle.layout.proofs.Placement
-use base.Stored.{codedList}
-use Rattle.layout.proofs.begin
-use Rattle.layout.proofs.begin.Met as begin-met
-use Rattle.layout.proofs.begin.Symbol as begin-symbol
-use Rattle.layout.proofs.begin_with
-use Rattle.layout.proofs.begin_with.Met as begin-with-met
-use Rattle.layout.proofs.begin_with.Symbol as begin-with-symbol
 use Rattle.layout.proofs.check
 use Rattle.layout.proofs.check.Met as check-met
 use Rattle.layout.proofs.check.Symbol as check-symbol
-use Rattle.layout.proofs.lay_out
-use Rattle.layout.proofs.lay_out.Met as lay-out-met
-use Rattle.layout.proofs.lay_out.Symbol as lay-out-symbol
 use Rattle.layout.proofs.layout_of
 use Rattle.layout.proofs.layout_of.Met as layout-of-met
 use Rattle.layout.proofs.layout_of.Symbol as layout-of-symbol
@@ -61,27 +50,3 @@ meets-layout-check M = check-met.met
 
 pub tight-layout-check : Tight check.ended (λ M. check.clauses {M = M})
 tight-layout-check c r q w v a b = (equal (result check.ended c) (a .ensured) (b .ensured), refl)
-
-pub meets-layout-begin-with : Meets begin_with.ended (λ M. begin_with.clauses {M = M}) begin-with-symbol.routine
-meets-layout-begin-with M = begin-with-met.met
-
-pub tight-layout-begin-with : Tight begin_with.ended (λ M. begin_with.clauses {M = M})
-tight-layout-begin-with c r q w v a b = (settle (result begin_with.ended c) (a .ensured) (b .ensured) (λ e f. e .0 ∙ sym (f .0)), λ i. (tt, (tt, (table i, tt))))
-  where
-    table : w .1 .1 .0 ≡ v .1 .1 .0
-    table = settle bytes (a .ensured) (b .ensured) (λ e f. e .2 ∙ sym (f .2))
-
-pub meets-layout-begin : Meets begin.ended (λ M. begin.clauses {M = M}) begin-symbol.routine
-meets-layout-begin M = begin-met.met
-
-pub tight-layout-begin : Tight begin.ended (λ M. begin.clauses {M = M})
-tight-layout-begin c r q w v a b = (settle (result begin.ended c) (a .ensured) (b .ensured) (λ e f. e .0 ∙ sym (f .0)), refl)
-
-pub meets-layout-lay-out : Meets lay_out.ended (λ M. lay_out.clauses {M = M}) lay-out-symbol.routine
-meets-layout-lay-out M = lay-out-met.met
-
-pub tight-layout-lay-out : Tight lay_out.ended (λ M. lay_out.clauses {M = M})
-tight-layout-lay-out c r q w v a b = (settle (result lay_out.ended c) (a .ensured) (b .ensured) (λ e f. e .0 ∙ sym (f .0)), λ i. (tt, (list i, tt)))
-  where
-    list : w .1 .0 ≡ v .1 .0
-    list = settle (codedList (Placement.the-row .coded)) (a .ensured) (b .ensured) (λ e f. e .1 ∙ sym (f .1))

@@ -59,7 +59,7 @@ use denote.Exit.{yes}
 use Rattle.classify.specs.Table.{Tabled}
 use Rattle.layout.specs.Asks.{AskArgument}
 use Rattle.layout.specs.Verdict.{verdict}
-use Rattle.layout.specs.Placements.{listUsed, filled}
+use Rattle.lists.specs.Lists.{listUsed, filled}
 use Rattle.types.proofs.Table.{filled-none, filled-next, length-filled}
 use Rattle.given.specs.Lists.{flatAt, flatStep, listBegun}
 use Rattle.given.proofs.Rows.{row-count, row-used, row-refusal, row-layout, row-accepted, row-asks, row-record, row-next}

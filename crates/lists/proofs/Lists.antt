@@ -15,19 +15,20 @@ use Rattle.form.specs.declared.Refusal.{Refusal}
 use Rattle.form.proofs.Order.{first-exactly, none-exactly, first-before, first-behind, none-before}
 use Rattle.places.specs.declared.Used.{Used}
 use Rattle.places.specs.Places.{fresh, next}
 use Rattle.layout.specs.Arguments.{shapeAt, usedFirst, usedAt, hidden}
 use Rattle.layout.specs.Verdict.{verdictConditions, verdict}
 use Rattle.layout.specs.Layout.{layoutOf, layoutAnswer, tableAfter}
 use Rattle.layout.specs.Asks.{AskArgument}
-use Rattle.layout.specs.Placements.{placementAt, stepAt, shortList, listRefusal, listAnswer, listCount, listUsed, begunOf, openedOf}
+use Rattle.layout.specs.Placements.{placementAt, stepAt}
+use Rattle.lists.specs.Lists.{shortList, listRefusal, listAnswer, listCount, listUsed, begunOf, openedOf}
 use Rattle.layout.specs.declared.Layout.{Layout}
-use Rattle.layout.specs.declared.Begun.{Begun}
-use Rattle.layout.specs.declared.Opened.{Opened}
+use Rattle.lists.specs.declared.Begun.{Begun}
+use Rattle.lists.specs.declared.Opened.{Opened}
 use Rattle.layout.specs.declared.LayoutAnswer.{LayoutAnswer}
 use Rattle.layout.specs.declared.LayoutAnswer.the-variants.{Laid, Refused}
 use Rattle.layout.proofs.Arguments.{used-none, used-next}
 use Rattle.layout.proofs.Verdict.{accepted-uses}
 use Rattle.layout.proofs.Layouts.{asks-at, laid-accepted, refused-verdict, refused-nonzero}
 
 -- the answer is n exactly where condition n holds and no lower one does: here n is 1 + i, and 11 comes last
 pub list-exactly : (d : List ℕ) (room i : ℕ) → (listRefusal d room ≡ 1 + i) ↔ FirstAt (verdictConditions d ++ shortList d room ∷ []) i
