@@ -31,8 +31,10 @@ ghost use Rattle.show.specs.Show.{shownAnswer};
 ghost use Rattle.listing.specs.Listing.{listing};
 ghost use Rattle.given.specs.Outcome.{refusalIn, leftIn};
 ghost use Rattle.given.specs.Given.{extentGiven, classesGiven, runGiven, layoutGiven};
-ghost use Rattle.handed.specs.Handed.{placedGiven, gatheredGiven, putGiven, takenGiven, openGiven, shownGiven};
-ghost use Rattle.given.specs.Lists.{listGiven, flatAt};
+ghost use Rattle.handed.specs.Handed.{placedGiven, gatheredGiven};
+ghost use Rattle.brought.specs.Brought.{putGiven, takenGiven};
+ghost use Rattle.walked.specs.Walked.{openGiven, shownGiven};
+ghost use Rattle.listed.specs.Lists.{listGiven, flatAt};
 
 // CB_VERSION.
 #[no_mangle]
@@ -101,13 +103,13 @@ pub extern "C" fn cb_lay_out(d: &[u8], layout: &mut Layout, list: &mut [Placemen
         × ((now (layout .exit) ≡ leftIn (listGiven (now (d .entry)) (length (now (list .entry)))) (now (layout .entry)))
         × (now (list .exit) ≡ filled (flatAt (now (d .entry))) (listCount (now (d .entry)) (length (now (list .entry)))) (now (list .entry)))) ⌝ }
 {
-    let head = given::begin_list(d, *layout, list.len());
+    let head = listed::begin_list(d, *layout, list.len());
     *layout = head.layout;
     let n = head.count;
     let mut used = head.used;
     let mut i = 0;
     while i < n {
-        let step = given::place_flat(d, used, i, head);
+        let step = listed::place_flat(d, used, i, head);
         list[i] = step.placement;
         used = step.used;
         i += 1;
@@ -168,7 +170,7 @@ pub extern "C" fn cb_put_returned(d: &[u8], hidden: u64, value: &[u8], image: &m
     ensures { λ r. ⌜ (r ≡ putGiven (putAnswer (now (d .entry)) (now (value .entry)) (length (now (image .entry)))))
         × (now (image .exit) ≡ imageAfter (now (d .entry)) hidden (now (value .entry)) (now (image .entry))) ⌝ }
 {
-    handed::give_put(d, hidden, value, image)
+    brought::give_put(d, hidden, value, image)
 }
 
 // A returned value out of the return image.
@@ -183,7 +185,7 @@ pub extern "C" fn cb_take_returned(
         × ((now (gathered .exit) ≡ leftIn (takenGiven (takeAnswer (now (d .entry)) (now (image .entry)) (length (now (value .entry))))) (now (gathered .entry)))
         × (now (value .exit) ≡ valueAfter (now (d .entry)) (now (image .entry)) (now (value .entry)))) ⌝ }
 {
-    let given = handed::give_taken(d, image, value, *gathered);
+    let given = brought::give_taken(d, image, value, *gathered);
     *gathered = given.gathered;
     given.refusal
 }
@@ -226,7 +228,7 @@ pub extern "C" fn cb_open_walk(station: &Station, seat: &[u8], walk: &mut Walk) 
     ensures { λ r. ⌜ (r ≡ refusalIn (openGiven (openAnswer kcb (now (station .entry)) (now (seat .entry)))))
         × (now (walk .exit) ≡ leftIn (openGiven (openAnswer kcb (now (station .entry)) (now (seat .entry)))) (now (walk .entry))) ⌝ }
 {
-    let given = handed::give_walk(*station, seat, *walk);
+    let given = walked::give_walk(*station, seat, *walk);
     *walk = given.walk;
     given.refusal
 }
@@ -265,7 +267,7 @@ pub extern "C" fn cb_show(
     ensures { λ r. ⌜ (r ≡ refusalIn (shownGiven (shownAnswer kcb (now (station .entry)) (now (seat .entry)) (now (walk .entry)) (asking (now (registers .entry)) (now (stack .entry)) asked []))))
         × (now (part .exit) ≡ leftIn (shownGiven (shownAnswer kcb (now (station .entry)) (now (seat .entry)) (now (walk .entry)) (asking (now (registers .entry)) (now (stack .entry)) asked []))) (now (part .entry))) ⌝ }
 {
-    let given = handed::give_shown(*station, seat, *walk, registers, stack, asked, *part);
+    let given = walked::give_shown(*station, seat, *walk, registers, stack, asked, *part);
     *part = given.part;
     given.refusal
 }

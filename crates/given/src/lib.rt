@@ -3,27 +3,20 @@
 use flat::Classes;
 use flat::Layout;
 use flat::Part;
-use flat::Placement;
 use form::Refusal;
 use layout::LayoutAnswer;
-use places::Used;
 use questions::ClassesAnswer;
 use questions::ExtentAnswer;
 use questions::RunAnswer;
 use types::Extent;
 use units::Bytes;
 ghost use mathlib.Core.Path.{_≡_};
-ghost use Prim.Native.Nat.{_≤_};
 ghost use Rattle.description.specs.Description.{argumentsIn};
 ghost use Rattle.questions.specs.Questions.{extentAnswer};
 ghost use Rattle.questions.specs.Runs.{classesAnswer, runAnswer};
-ghost use Rattle.classify.specs.Table.{Tabled};
-ghost use Rattle.layout.specs.Verdict.{verdict};
 ghost use Rattle.layout.specs.Layout.{layoutAnswer};
-ghost use Rattle.layout.specs.Asks.{AskArgument};
 ghost use Rattle.given.specs.Outcome.{refusalIn, leftIn};
 ghost use Rattle.given.specs.Given.{extentGiven, classesGiven, runGiven, layoutGiven};
-ghost use Rattle.given.specs.Lists.{listBegun, flatStep};
 
 pub struct GivenExtent {
     pub extent: Extent,
@@ -43,22 +36,6 @@ pub struct GivenPart {
 pub struct GivenLayout {
     pub layout: Layout,
     pub refusal: Refusal,
-}
-
-// Before the first record of a list: what `GivenLayout` says, how many records there are, none for a refusal, what is used, and the
-// table that the records are made by.
-pub struct ListBegun {
-    pub layout: Layout,
-    pub refusal: Refusal,
-    pub count: usize,
-    pub used: Used,
-    pub table: [u32; 64],
-}
-
-// One flat record, and what is used after it.
-pub struct FlatStep {
-    pub placement: Placement,
-    pub used: Used,
 }
 
 // Size and alignment of a type.
@@ -145,47 +122,5 @@ pub fn give_layout(d: &[u8], before: Layout) -> GivenLayout
             layout: before,
             refusal: refusal,
         },
-    }
-}
-
-// The same for a list of `room` records.
-pub fn begin_list(d: &[u8], before: Layout, room: usize) -> ListBegun
-    ensures { λ r. ⌜ (r ≡ listBegun (now (d .entry)) before room) × (r .count ≤ room)
-        × (verdict (now (d .entry)) ≡ 0 → Tabled (now (d .entry)) (r .table)) ⌝ }
-{
-    let mut table = [0u32; 64];
-    let begun = lists::begin_with(d, room, &mut table);
-    let answer = begun.answer;
-    let used = begun.used;
-    match answer {
-        LayoutAnswer::Laid(whole) => ListBegun {
-            layout: flat::layout_of(whole, begun.count),
-            refusal: form::refusal_of(0),
-            count: begun.count,
-            used: used,
-            table: table,
-        },
-        LayoutAnswer::Refused(refusal) => ListBegun {
-            layout: before,
-            refusal: refusal,
-            count: begun.count,
-            used: used,
-            table: table,
-        },
-    }
-}
-
-// The flat record of argument i, and what is used after it, by the table of the list that was begun.
-pub fn place_flat(d: &[u8], used: Used, i: usize, begun: ListBegun) -> FlatStep
-    requires { ⌜ AskArgument (now d) i used × Tabled (now d) (begun .table) ⌝ }
-    ensures { λ r. ⌜ r ≡ flatStep (now (d .entry)) used i ⌝ }
-{
-    let table = begun.table;
-    let step = layout::place_argument(d, used, i, &table);
-    let record = step.placement;
-    let after = step.used;
-    FlatStep {
-        placement: flat::placement_of(record),
-        used: after,
     }
 }

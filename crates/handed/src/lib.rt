@@ -1,28 +1,14 @@
-// What the calls of the C interface that move bytes and walk give, by value: the refusal, number 0 for none, and the lent record at
+// What the calls of the C interface that place and gather give, by value: the refusal, number 0 for none, and the lent record at
 // exit, which a refusal leaves as it was (document 01, "A refusal returns its number only and writes nothing").
-use flat::Part;
 use form::Refusal;
 use moving::GatherAnswer;
 use moving::PlaceAnswer;
-use returning::PutAnswer;
-use returning::TakeAnswer;
-use show::ShownAnswer;
-use station::Station;
-use units::Bytes;
 use units::Registers;
-use walk::OpenAnswer;
-use walk::Walk;
 ghost use mathlib.Core.Path.{_≡_};
-ghost use mathlib.Core.List.{[]};
 ghost use lib.ListN.{length};
 ghost use Rattle.moving.specs.Answers.{placeAnswer, registersAfter, stackAfter, gatherAnswer, valuesAfter};
-ghost use Rattle.returning.specs.Answers.{putAnswer, imageAfter, takeAnswer, valueAfter};
-ghost use Rattle.station.specs.Paper.{kcb};
-ghost use Rattle.walk.specs.Orders.{asking};
-ghost use Rattle.walk.specs.Steps.{openAnswer};
-ghost use Rattle.show.specs.Show.{shownAnswer};
 ghost use Rattle.given.specs.Outcome.{refusalIn, leftIn};
-ghost use Rattle.handed.specs.Handed.{placedGiven, gatheredGiven, putGiven, takenGiven, openGiven, shownGiven};
+ghost use Rattle.handed.specs.Handed.{placedGiven, gatheredGiven};
 
 // cb_placed: the vector count, for al.
 #[repr(C)]
@@ -43,16 +29,6 @@ pub struct GivenPlaced {
 
 pub struct GivenGathered {
     pub gathered: Gathered,
-    pub refusal: Refusal,
-}
-
-pub struct GivenWalk {
-    pub walk: Walk,
-    pub refusal: Refusal,
-}
-
-pub struct GivenShown {
-    pub part: Part,
     pub refusal: Refusal,
 }
 
@@ -103,109 +79,6 @@ pub fn give_gathered(
         },
         GatherAnswer::Refused(refusal) => GivenGathered {
             gathered: before,
-            refusal: refusal,
-        },
-    }
-}
-
-// Putting a returned value, with the return image at exit.
-pub fn give_put(d: &[u8], hidden: u64, value: &[u8], image: &mut [u8]) -> Refusal
-    ensures { λ r. ⌜ (r ≡ putGiven (putAnswer (now (d .entry)) (now (value .entry)) (length (now (image .entry)))))
-        × (now (image .exit) ≡ imageAfter (now (d .entry)) hidden (now (value .entry)) (now (image .entry))) ⌝ }
-{
-    let answer = returning::put_returned(d, hidden, value, image);
-    match answer {
-        PutAnswer::Put => form::refusal_of(0),
-        PutAnswer::Refused(refusal) => refusal,
-    }
-}
-
-// Taking a returned value, with its bytes at exit.
-pub fn give_taken(d: &[u8], image: &[u8], value: &mut [u8], held: Gathered) -> GivenGathered
-    ensures { λ r. ⌜ (r .refusal ≡ refusalIn (takenGiven (takeAnswer (now (d .entry)) (now (image .entry)) (length (now (value .entry))))))
-        × ((r .gathered ≡ leftIn (takenGiven (takeAnswer (now (d .entry)) (now (image .entry)) (length (now (value .entry))))) held)
-        × (now (value .exit) ≡ valueAfter (now (d .entry)) (now (image .entry)) (now (value .entry)))) ⌝ }
-{
-    let answer = returning::take_returned(d, image, value);
-    match answer {
-        TakeAnswer::Taken(address) => GivenGathered {
-            gathered: Gathered { hidden: address },
-            refusal: form::refusal_of(0),
-        },
-        TakeAnswer::Refused(refusal) => GivenGathered {
-            gathered: held,
-            refusal: refusal,
-        },
-    }
-}
-
-// A walk before the first unnamed argument.
-pub fn give_walk(station: Station, seat: &[u8], before: Walk) -> GivenWalk
-    ensures { λ r. ⌜ (r .refusal ≡ refusalIn (openGiven (openAnswer kcb station (now (seat .entry)))))
-        × (r .walk ≡ leftIn (openGiven (openAnswer kcb station (now (seat .entry)))) before) ⌝ }
-{
-    let answer = opening::open_walk(station, seat);
-    match answer {
-        OpenAnswer::Opened(opened) => GivenWalk {
-            walk: opened,
-            refusal: form::refusal_of(0),
-        },
-        OpenAnswer::Refused(refusal) => GivenWalk {
-            walk: before,
-            refusal: refusal,
-        },
-    }
-}
-
-// Where the argument lies that a walk stands before; no part where it lies in more than one.
-pub fn give_shown(
-    station: Station,
-    seat: &[u8],
-    walk: Walk,
-    registers: &[u8],
-    stack: &[u8],
-    asked: u8,
-    before: Part,
-) -> GivenShown
-    ensures { λ r. ⌜ (r .refusal ≡ refusalIn (shownGiven (shownAnswer kcb station (now (seat .entry)) walk (asking (now (registers .entry)) (now (stack .entry)) asked []))))
-        × (r .part ≡ leftIn (shownGiven (shownAnswer kcb station (now (seat .entry)) walk (asking (now (registers .entry)) (now (stack .entry)) asked []))) before) ⌝ }
-{
-    let answer = showing::shown_at(station, seat, walk, registers, stack, asked);
-    match answer {
-        ShownAnswer::Registers(part) => {
-            let offset = part.offset;
-            let length = part.length;
-            GivenShown {
-                part: Part {
-                    offset: offset,
-                    length: length,
-                    image: 2,
-                },
-                refusal: form::refusal_of(0),
-            }
-        }
-        ShownAnswer::Stack(part) => {
-            let offset = part.offset;
-            let length = part.length;
-            GivenShown {
-                part: Part {
-                    offset: offset,
-                    length: length,
-                    image: 3,
-                },
-                refusal: form::refusal_of(0),
-            }
-        }
-        ShownAnswer::Apart => GivenShown {
-            part: Part {
-                offset: Bytes(0),
-                length: Bytes(0),
-                image: 0,
-            },
-            refusal: form::refusal_of(0),
-        },
-        ShownAnswer::Refused(refusal) => GivenShown {
-            part: before,
             refusal: refusal,
         },
     }

@@ -14,7 +14,7 @@ use Rattle.station.specs.Outcome.{leaves}
 use Rattle.flat.specs.Records.{layoutOf}
 use Rattle.flat.specs.Meanings.{placementMeant, layoutMeant}
 use Rattle.flat.proofs.Kept.{placements-mean, layout-means}
-use Rattle.given.specs.Lists.{flatAt}
+use Rattle.listed.specs.Lists.{flatAt}
 use Rattle.interface.specs.Interface.{ListMeans, SummaryMeans}
 use Rattle.interface.proofs.Told.{layout-told}
 

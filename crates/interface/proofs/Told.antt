@@ -14,7 +14,7 @@ use Rattle.questions.specs.Runs.{classesAnswer, runAnswer}
 use Rattle.layout.specs.Verdict.{verdict}
 use Rattle.layout.specs.Layout.{layoutAnswer}
 use Rattle.lists.specs.Lists.{listRefusal, listAnswer}
-use Rattle.moving.specs.Orders.{placeRefusal, gatherRefusal}
+use Rattle.lent.specs.Orders.{placeRefusal, gatherRefusal}
 use Rattle.moving.specs.Answers.{placeAnswer, gatherAnswer}
 use Rattle.station.specs.Outcome.{leaves}
 use Rattle.station.specs.Paper.{kcb}
@@ -29,8 +29,9 @@ use Rattle.show.specs.Show.{onePiece, headOf, partIn, shownIn, shownAnswer}
 use Rattle.flat.specs.declared.Part.{Part}
 use Rattle.given.specs.Outcome.{Outcome, gives, refuses}
 use Rattle.given.specs.Given.{extentGiven, classesGiven, runGiven, layoutGiven}
-use Rattle.handed.specs.Handed.{placedGiven, gatheredGiven, openGiven, shownGiven}
-use Rattle.given.specs.Lists.{listGiven}
+use Rattle.handed.specs.Handed.{placedGiven, gatheredGiven}
+use Rattle.walked.specs.Walked.{openGiven, shownGiven}
+use Rattle.listed.specs.Lists.{listGiven}
 use Rattle.interface.specs.Interface.{Tells, ExtentTold, ClassesTold, runOf, RunTold, LayoutTold, ListTold, PlacedTold, GatheredTold, OpenTold, partOf, ShownTold}
 
 -- an outcome that is told by a number

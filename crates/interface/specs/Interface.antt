@@ -19,8 +19,8 @@ use Rattle.layout.specs.Verdict.{verdict}
 use Rattle.layout.specs.Layout.{layoutOf as wholeOf, layoutAnswer}
 use Rattle.layout.specs.Placements.{placementAt}
 use Rattle.lists.specs.Lists.{listRefusal, listCount, filled}
-use Rattle.moving.specs.Images.{hiddenIn}
-use Rattle.moving.specs.Orders.{placeRefusal, gatherRefusal}
+use Rattle.filling.specs.Images.{hiddenIn}
+use Rattle.lent.specs.Orders.{placeRefusal, gatherRefusal}
 use Rattle.moving.specs.Answers.{placeAnswer, gatherAnswer}
 use Rattle.station.specs.declared.Station.{Station}
 use Rattle.station.specs.Outcome.{leaves}
@@ -39,8 +39,9 @@ use Rattle.flat.specs.Records.{layoutOf}
 use Rattle.flat.specs.Meanings.{placementMeant, layoutMeant}
 use Rattle.given.specs.Outcome.{Outcome, refusalIn, leftIn}
 use Rattle.given.specs.Given.{extentGiven, classesGiven, nowhere, ofDescription, runGiven, layoutGiven}
-use Rattle.handed.specs.Handed.{placedGiven, gatheredGiven, ofRegisters, ofStack, openGiven, shownGiven}
-use Rattle.given.specs.Lists.{flatAt, listGiven}
+use Rattle.handed.specs.Handed.{placedGiven, gatheredGiven}
+use Rattle.walked.specs.Walked.{ofRegisters, ofStack, openGiven, shownGiven}
+use Rattle.listed.specs.Lists.{flatAt, listGiven}
 
 -- a call answers the number n; it leaves the new record where n is 0, and where it is not the record that was lent
 pub record Tells {A : Type 0} (o : Outcome A) (n : ℕ) (new : A) : Type 0 where

@@ -9,7 +9,6 @@ use lib.Dec.{eqb}
 use lib.ListN.{length, take, drop, replicate, length-append, replicate-append-replicate}
 use lib.Seq.{take-at, drop-at}
 use Rattle.addresses.specs.Addresses.{scatter, gather}
-use Rattle.addresses.specs.Copy.{cleared}
 use Rattle.addresses.proofs.Runs.{all-run}
 use Rattle.addresses.proofs.Parts.{gather-left}
 use Rattle.units.specs.declared.Registers.{Registers}
@@ -25,42 +24,15 @@ use Rattle.layout.specs.Layout.{layoutOf, layoutAnswer}
 use Rattle.layout.specs.Verdict.{verdict}
 use Rattle.layout.proofs.Layouts.{laid-accepted, refused-verdict, refused-nonzero}
 use Rattle.images.specs.Words.{littleEndian, number, rdi, withAddress, addressIn}
-use Rattle.moving.specs.Images.{addressesOf, blankBy, placed, gathered, hiddenIn}
-use Rattle.moving.specs.Orders.{wrongLength, firstBroken, placeRefusal, gatherRefusal}
+use Rattle.filling.specs.Images.{addressesOf, blankBy, placed, gathered, hiddenIn}
+use Rattle.lent.specs.Orders.{wrongLength, firstBroken, placeRefusal, gatherRefusal}
 use Rattle.moving.specs.Answers.{placeAnswer, registersAfter, stackAfter, gatherAnswer, valuesAfter}
-use Rattle.moving.specs.Asks.{Lent}
+use Rattle.filling.specs.Asks.{Lent}
 use Rattle.moving.specs.declared.PlaceAnswer.{PlaceAnswer}
 use Rattle.moving.specs.declared.PlaceAnswer.the-variants.{Placed, Refused as NotPlaced}
 use Rattle.moving.specs.declared.GatherAnswer.{GatherAnswer}
 use Rattle.moving.specs.declared.GatherAnswer.the-variants.{Gathered, Refused as NotGathered}
-use Rattle.moving.proofs.Orders.{right-lent, place-verdict, place-eleven, place-twelve, place-none, gather-verdict, gather-eleven, gather-accepted, broken-holds, broken-none}
-
--- ---- the images before the first argument
-
-zeros-two : (n m : ℕ) → _≡_ {A = List ℕ} (replicate n 0 ++ replicate m 0) (replicate (n + m) 0)
-zeros-two n m = replicate-append-replicate n m 0
-
-pub blank-unused : (h : ℕ) (r s r′ s′ : List ℕ) → length r ≡ 176 → r′ ≡ cleared r → s′ ≡ cleared s → r′ ++ s′ ≡ blankBy false h (length s)
-unfolding cleared blankBy
-blank-unused h r s r′ s′ l e f =
-    let q : 176 + length s ≡ 8 + (168 + length s) = omega arith in
-    rw (e, f, l) (zeros-two 176 (length s) ∙ ap (λ (n : ℕ). replicate n 0) q ∙ sym (zeros-two 8 (168 + length s)))
-
-address-zeros : (h : ℕ) → withAddress (replicate 176 0) h ≡ littleEndian 8 h ++ replicate 168 0
-unfolding withAddress
-address-zeros h = refl
-
-pub blank-used : (h : ℕ) (r s r′ s′ r″ : List ℕ) → length r ≡ 176 → r′ ≡ cleared r → s′ ≡ cleared s → r″ ≡ withAddress r′ h → r″ ++ s′ ≡ blankBy true h (length s)
-unfolding cleared blankBy
-blank-used h r s r′ s′ r″ l e f g =
-    rw (g, e, f, l, address-zeros h) (append-assoc (littleEndian 8 h) (replicate 168 0) (replicate (length s) 0) ∙ ap (λ (x : List ℕ). littleEndian 8 h ++ x) (zeros-two 168 (length s)))
-
--- all of both images
-pub filled-images : (d : List ℕ) (b : Bool) (h : ℕ) (vals s img jmg : List ℕ) → b ≡ hidden d → length s ≡ areaOf d
-    → img ≡ blankBy b h (length s) → jmg ≡ scatter img (addressesOf d) vals → jmg ≡ placed d h vals
-unfolding placed
-filled-images d b h vals s img jmg e l f g =
-    g ∙ ap (λ (x : List ℕ). scatter x (addressesOf d) vals) (f ∙ ap₂ (λ (y : Bool) (n : ℕ). blankBy y h n) e l)
+use Rattle.lent.proofs.Orders.{right-lent, place-verdict, place-eleven, place-twelve, place-none, gather-verdict, gather-eleven, gather-accepted, broken-holds, broken-none}
 
 -- ---- placing
 

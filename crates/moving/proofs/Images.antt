@@ -18,9 +18,9 @@ use Rattle.layout.specs.Verdict.{verdict}
 use Rattle.layout.proofs.Bounds.{all-shaped}
 use Rattle.images.specs.Words.{littleEndian, number, rdi, addressIn}
 use Rattle.images.proofs.Words.{number-of-bytes, bytes-of-number}
-use Rattle.moving.specs.Images.{addressesOf, blankBy, blank, placed, gathered, hiddenIn}
+use Rattle.filling.specs.Images.{addressesOf, blankBy, blank, placed, gathered, hiddenIn}
 use Rattle.moving.specs.Statements.{Unused, IsImage}
-use Rattle.moving.proofs.Turns.{right}
+use Rattle.filling.proofs.Turns.{right}
 
 -- ---- the blank images
 

@@ -10,9 +10,9 @@ use Rattle.description.specs.Description.{argumentsIn, kindAt, aAt, argumentAt,
 use Rattle.layout.specs.Arguments.{hidden, areaOf}
 use Rattle.layout.specs.Layout.{valuesOf}
 use Rattle.images.specs.Words.{littleEndian, rdi}
-use Rattle.moving.specs.Images.{addressesOf, valueStart, hiddenIn}
-use Rattle.moving.specs.Orders.{placeRefusal, gatherRefusal}
-use Rattle.moving.specs.Asks.{Lent}
+use Rattle.filling.specs.Images.{addressesOf, valueStart, hiddenIn}
+use Rattle.lent.specs.Orders.{BrokenAt, placeRefusal, gatherRefusal}
+use Rattle.filling.specs.Asks.{Lent}
 use Rattle.moving.specs.Answers.{placeAnswer, gatherAnswer, registersAfter, stackAfter, valuesAfter}
 use Rattle.moving.specs.declared.GatherAnswer.the-variants.{Gathered}
 
@@ -67,13 +67,6 @@ abbrev pub UnusedUnseen : Type 0
 UnusedUnseen = (d r s q t v : List ℕ) → length q ≡ length r → length t ≡ length s
     → ((k : ℕ) → (Unused d k → ⊥) → getD (r ++ s) k 0 ≡ getD (q ++ t) k 0)
     → (gatherAnswer d r s (length v) ≡ gatherAnswer d q t (length v)) × (valuesAfter d r s v ≡ valuesAfter d q t v)
-
--- argument i's own record is that of _Bool, and its byte is neither 0 nor 1
-pub record BrokenAt (d vals : List ℕ) (i : ℕ) : Type 0 where
-  pub there : i < argumentsIn d
-  pub kind : kindAt d (argumentAt d i) ≡ 0
-  pub code : aAt d (argumentAt d i) ≡ 0
-  pub byte : 1 < getD vals (valueStart d i) 0
 
 -- B12: 12 exactly when 1 to 11 do not hold and there is such an argument
 abbrev pub TwelveExactly : Type 0

@@ -21,8 +21,8 @@ use Rattle.layout.specs.Verdict.{verdict}
 use Rattle.layout.specs.Layout.{layoutOf, layoutAnswer}
 use Rattle.lists.specs.Lists.{listRefusal, listAnswer}
 use Rattle.moving.specs.declared.GatherAnswer.the-variants.{Gathered}
-use Rattle.moving.specs.Images.{addressesOf, gathered}
-use Rattle.moving.specs.Orders.{placeRefusal, gatherRefusal}
+use Rattle.filling.specs.Images.{addressesOf, gathered}
+use Rattle.lent.specs.Orders.{placeRefusal, gatherRefusal}
 use Rattle.moving.specs.Answers.{placeAnswer, gatherAnswer, registersAfter, stackAfter, valuesAfter}
 use Rattle.station.specs.declared.Station.{Station}
 use Rattle.station.specs.Paper.{kcb}

@@ -22,7 +22,7 @@ use Rattle.layout.specs.Placements.{placementAt}
 use Rattle.lists.specs.Lists.{listRefusal, listCount, filled}
 use Rattle.layout.proofs.Verdict.{accepted-uses}
 use Rattle.layout.proofs.Records.{accepted-bounded}
-use Rattle.moving.specs.Orders.{placeRefusal, gatherRefusal}
+use Rattle.lent.specs.Orders.{placeRefusal, gatherRefusal}
 use Rattle.moving.specs.Answers.{registersAfter, stackAfter, valuesAfter}
 use Rattle.station.specs.Paper.{kcb}
 use Rattle.station.specs.Attachment.{attachRefusal, detachRefusal}

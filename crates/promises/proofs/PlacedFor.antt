@@ -16,11 +16,11 @@ use Rattle.places.specs.Places.{fresh}
 use Rattle.layout.specs.Arguments.{shapes, hidden, usedFirst, areaOf}
 use Rattle.layout.specs.Layout.{valuesOf}
 use Rattle.images.specs.Words.{littleEndian, rdi, withAddress}
-use Rattle.moving.specs.Images.{addressesOf, blankBy, placed}
-use Rattle.moving.specs.Orders.{placeRefusal}
+use Rattle.filling.specs.Images.{addressesOf, blankBy, placed}
+use Rattle.lent.specs.Orders.{placeRefusal}
 use Rattle.moving.specs.Answers.{registersAfter, stackAfter}
-use Rattle.moving.proofs.Answers.{blank-unused, blank-used}
-use Rattle.moving.proofs.Orders.{place-accepted}
+use Rattle.filling.proofs.Blanks.{blank-unused, blank-used}
+use Rattle.lent.proofs.Orders.{place-accepted}
 use Rattle.station.specs.Paper.{kcb, areaOf as paperArea}
 use Rattle.station.proofs.Kcb.{kcb-area}
 use Rattle.histories.specs.Calls.{Call, Spares}

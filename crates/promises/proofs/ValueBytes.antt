@@ -23,8 +23,8 @@ use Rattle.layout.specs.Verdict.{verdict}
 use Rattle.layout.proofs.Arguments.{length-shapes, shapes-split}
 use Rattle.layout.proofs.Bounds.{all-shaped}
 use Rattle.layout.proofs.Verdict.{accepted-uses}
-use Rattle.moving.specs.Images.{addressesOf, valueStart}
-use Rattle.moving.proofs.Turns.{value-some}
+use Rattle.filling.specs.Images.{addressesOf, valueStart}
+use Rattle.filling.proofs.Turns.{value-some}
 use Rattle.station.specs.Paper.{kcb, shapeAt as paperShape, usedAt as paperUsed}
 use Rattle.station.proofs.Kcb.{kcb-shape, kcb-used}
 use Rattle.promises.specs.Demand2.{placeAt}

@@ -24,7 +24,7 @@ use Rattle.layout.specs.Layout.{layoutOf}
 use Rattle.layout.specs.Placements.{placementAt}
 use Rattle.moving.specs.declared.PlaceAnswer.{PlaceAnswer}
 use Rattle.moving.specs.declared.GatherAnswer.{GatherAnswer}
-use Rattle.moving.specs.Images.{addressesOf, hiddenIn}
+use Rattle.filling.specs.Images.{addressesOf, hiddenIn}
 use Rattle.moving.specs.Statements.{IsImage, Clean}
 use Rattle.station.specs.declared.Station.{Station}
 use Rattle.station.specs.Paper.{kcb}

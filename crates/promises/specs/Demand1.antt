@@ -32,7 +32,7 @@ use Rattle.layout.specs.Layout.{layoutOf, layoutAnswer}
 use Rattle.layout.specs.Placements.{placementAt}
 use Rattle.lists.specs.Lists.{listAnswer, listCount, filled}
 use Rattle.layout.specs.Statements.{Bounded}
-use Rattle.moving.specs.Images.{hiddenIn}
+use Rattle.filling.specs.Images.{hiddenIn}
 use Rattle.moving.specs.Answers.{placeAnswer, gatherAnswer, registersAfter, stackAfter, valuesAfter}
 use Rattle.station.specs.declared.Station.{Station}
 use Rattle.station.specs.Paper.{kcb}

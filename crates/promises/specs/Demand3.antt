@@ -20,8 +20,8 @@ use Rattle.layout.specs.Verdict.{verdict}
 use Rattle.layout.specs.Layout.{valuesOf}
 use Rattle.layout.specs.Placements.{placementAt}
 use Rattle.images.specs.Words.{littleEndian}
-use Rattle.moving.specs.Images.{addressesOf, valueStart}
-use Rattle.moving.specs.Orders.{placeRefusal}
+use Rattle.filling.specs.Images.{addressesOf, valueStart}
+use Rattle.lent.specs.Orders.{placeRefusal}
 use Rattle.moving.specs.Answers.{registersAfter, stackAfter}
 use Rattle.moving.specs.Statements.{NoSharedImage}
 use Rattle.station.specs.declared.Station.{Station}

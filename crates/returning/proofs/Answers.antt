@@ -16,7 +16,7 @@ use Rattle.layout.specs.Arguments.{isVoid, returnPlace}
 use Rattle.layout.specs.Layout.{layoutOf, layoutAnswer}
 use Rattle.layout.specs.Verdict.{verdict}
 use Rattle.layout.proofs.Layouts.{laid-accepted, refused-verdict, refused-nonzero}
-use Rattle.moving.specs.Orders.{brokenByte}
+use Rattle.lent.specs.Orders.{brokenByte}
 use Rattle.return_image.specs.Image.{lengthFor, returnImage, returnValue, returnedAddress}
 use Rattle.return_image.specs.Asks.{Returnable}
 use Rattle.returning.specs.Returned.{returnedSize, returnLength}

@@ -9,7 +9,7 @@ use Rattle.description.specs.Description.{returnIn}
 use Rattle.form.specs.Order.{first, numbered}
 use Rattle.layout.specs.Arguments.{isVoid}
 use Rattle.layout.specs.Verdict.{verdictConditions}
-use Rattle.moving.specs.Orders.{brokenByte}
+use Rattle.lent.specs.Orders.{brokenByte}
 use Rattle.returning.specs.Returned.{returnLength}
 
 -- 11: a value that has not exactly n bytes, or an image that has not exactly 80

@@ -64,7 +64,7 @@ fn wrong_bool(d: &[u8], value: &[u8]) -> bool
     }
     let k = description::byte_at(d, 9);
     let byte = description::byte_at(value, 0);
-    moving::broken_byte(d, k, byte)
+    lent::broken_byte(d, k, byte)
 }
 
 // Puts a returned value into the return image: every byte of it is written, or none. The hidden address is looked at only where

@@ -14,6 +14,8 @@ pub mod OfPlaces
 pub mod OfLayout
 pub mod OfLists
 pub mod OfImages
+pub mod OfFilling
+pub mod OfLent
 pub mod OfMoving
 pub mod OfReturnImage
 pub mod OfReturning
@@ -31,6 +33,9 @@ pub mod OfPlaceWords
 pub mod OfListing
 pub mod OfFlat
 pub mod OfGiven
+pub mod OfListed
 pub mod OfHanded
+pub mod OfBrought
+pub mod OfWalked
 pub mod OfCallbridge
 pub mod HostCalls

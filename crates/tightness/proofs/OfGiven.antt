@@ -1,10 +1,7 @@
 -- Each public function of `given` meets its contract, and the contract is tight. Assumes nothing.
 use mathlib.Core.Path.{refl, sym, _∙_}
 use Rattle.tightness.specs.Tight.{Meets, Tight}
-use Rattle.tightness.proofs.Laws.{equal, result, settle}
-use Rattle.given.proofs.begin_list
-use Rattle.given.proofs.begin_list.Met as begin-list-met
-use Rattle.given.proofs.begin_list.Symbol as begin-list-symbol
+use Rattle.tightness.proofs.Laws.{result, settle}
 use Rattle.given.proofs.give_classes
 use Rattle.given.proofs.give_classes.Met as give-classes-met
 use Rattle.given.proofs.give_classes.Symbol as give-classes-symbol
@@ -17,9 +14,6 @@ use Rattle.given.proofs.give_layout.Symbol as give-layout-symbol
 use Rattle.given.proofs.give_run
 use Rattle.given.proofs.give_run.Met as give-run-met
 use Rattle.given.proofs.give_run.Symbol as give-run-symbol
-use Rattle.given.proofs.place_flat
-use Rattle.given.proofs.place_flat.Met as place-flat-met
-use Rattle.given.proofs.place_flat.Symbol as place-flat-symbol
 
 pub meets-given-give-extent : Meets give_extent.ended (λ M. give_extent.clauses {M = M}) give-extent-symbol.routine
 meets-given-give-extent M = give-extent-met.met
@@ -44,15 +38,3 @@ meets-given-give-layout M = give-layout-met.met
 
 pub tight-given-give-layout : Tight give_layout.ended (λ M. give_layout.clauses {M = M})
 tight-given-give-layout c r q w v a b = (settle (result give_layout.ended c) (a .ensured) (b .ensured) (λ e f i. record { refusal = (e .0 ∙ sym (f .0)) i; layout = (e .1 ∙ sym (f .1)) i }), refl)
-
-pub meets-given-begin-list : Meets begin_list.ended (λ M. begin_list.clauses {M = M}) begin-list-symbol.routine
-meets-given-begin-list M = begin-list-met.met
-
-pub tight-given-begin-list : Tight begin_list.ended (λ M. begin_list.clauses {M = M})
-tight-given-begin-list c r q w v a b = (settle (result begin_list.ended c) (a .ensured) (b .ensured) (λ e f. e .0 ∙ sym (f .0)), refl)
-
-pub meets-given-place-flat : Meets place_flat.ended (λ M. place_flat.clauses {M = M}) place-flat-symbol.routine
-meets-given-place-flat M = place-flat-met.met
-
-pub tight-given-place-flat : Tight place_flat.ended (λ M. place_flat.clauses {M = M})
-tight-given-place-flat c r q w v a b = (equal (result place_flat.ended c) (a .ensured) (b .ensured), refl)

@@ -1,22 +1,13 @@
 -- Each public function of `moving` meets its contract, and the contract is tight. Assumes nothing.
-use mathlib.Core.Path.{_≡_, refl, sym, _∙_}
+use mathlib.Core.Path.{_≡_, sym, _∙_}
 use Rattle.tightness.specs.Tight.{Meets, Tight}
-use Rattle.tightness.proofs.Laws.{bytes, equal, result, settle}
-use Rattle.moving.proofs.broken_byte
-use Rattle.moving.proofs.broken_byte.Met as broken-byte-met
-use Rattle.moving.proofs.broken_byte.Symbol as broken-byte-symbol
+use Rattle.tightness.proofs.Laws.{bytes, result, settle}
 use Rattle.moving.proofs.gather_values
 use Rattle.moving.proofs.gather_values.Met as gather-values-met
 use Rattle.moving.proofs.gather_values.Symbol as gather-values-symbol
 use Rattle.moving.proofs.place_values
 use Rattle.moving.proofs.place_values.Met as place-values-met
 use Rattle.moving.proofs.place_values.Symbol as place-values-symbol
-
-pub meets-moving-broken-byte : Meets broken_byte.ended (λ M. broken_byte.clauses {M = M}) broken-byte-symbol.routine
-meets-moving-broken-byte M = broken-byte-met.met
-
-pub tight-moving-broken-byte : Tight broken_byte.ended (λ M. broken_byte.clauses {M = M})
-tight-moving-broken-byte c r q w v a b = (equal (result broken_byte.ended c) (a .ensured) (b .ensured), refl)
 
 pub meets-moving-place-values : Meets place_values.ended (λ M. place_values.clauses {M = M}) place-values-symbol.routine
 meets-moving-place-values M = place-values-met.met

@@ -5,7 +5,7 @@ use native.Mathlib.Omega.{arith}
 use borrow.Author.Needs.{needs}
 use Rattle.layout.proofs.Layouts.{laid-accepted}
 use Rattle.moving.proofs.Answers.{place-laid-not, place-wrong-length, place-lengths, place-hidden, place-wrong-bool, place-done}
-use Rattle.moving.proofs.Turns.{whole}
+use Rattle.filling.proofs.Turns.{whole}
 use Rattle.layout.specs.Layout.{numberOf}
 use Rattle.moving.proofs.place_values.Statement.{statement}
 use Rattle.moving.proofs.place_values.Tie as tie

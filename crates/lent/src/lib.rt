@@ -1,0 +1,58 @@
+// What is judged of the lent buffers (document 01, "Refusal numbers"): 11 by their lengths, 12 by the bytes of _Bool arguments.
+use layout::Layout;
+use units::Bytes;
+ghost use mathlib.Core.Path.{_≡_};
+ghost use Prim.Native.Nat.{_<_};
+ghost use lib.ListN.{length};
+ghost use Rattle.description.specs.Description.{typesIn, Whole};
+ghost use Rattle.classify.specs.Table.{Tabled};
+ghost use Rattle.layout.specs.Layout.{valuesOf};
+ghost use Rattle.layout.specs.Verdict.{verdict};
+ghost use Rattle.lent.specs.Orders.{wrongLength, brokenByte, firstBroken};
+
+// 11: whether a lent buffer has not exactly the length that the layout says.
+pub fn wrong_length(layout: Layout, values: Bytes, registers: Bytes, stack: Bytes) -> bool
+    ensures { λ r. ⌜ r ≡ wrongLength layout (values .0) (registers .0) (stack .0) ⌝ }
+{
+    if !units::same(values, layout.values) {
+        return true;
+    }
+    if !units::same(registers, Bytes(176)) {
+        return true;
+    }
+    !units::same(stack, layout.area)
+}
+
+// Whether type k is _Bool, by its own record, and the byte is not 0 or 1.
+pub fn broken_byte(d: &[u8], k: usize, byte: usize) -> bool
+    requires { ⌜ Whole (now d) × (k < typesIn (now d)) ⌝ }
+    ensures { λ r. ⌜ r ≡ brokenByte (now (d .entry)) k byte ⌝ }
+{
+    if description::kind_at(d, k) != 0 {
+        return false;
+    }
+    if description::a_at(d, k) != 0 {
+        return false;
+    }
+    1 < byte
+}
+
+// The first _Bool argument whose byte is not 0 or 1, or the number of arguments.
+pub fn first_broken(d: &[u8], values: &[u8], table: &[u32; 64]) -> usize
+    requires { ⌜ (verdict (now d) ≡ 0) × (length (now values) ≡ valuesOf (now d)) × Tabled (now d) (now table) ⌝ }
+    ensures { λ r. ⌜ r ≡ firstBroken (now (d .entry)) (now (values .entry)) ⌝ }
+{
+    let arguments = description::byte_at(d, 8);
+    let mut start = Bytes(0);
+    let mut i = 0;
+    while i < arguments {
+        let k = description::argument_at(d, i);
+        let byte = description::byte_at(values, start.0);
+        if broken_byte(d, k, byte) {
+            return i;
+        }
+        start = units::plus(start, types::extent_in(table, k).size);
+        i += 1;
+    }
+    i
+}
