@@ -1,3 +1,4 @@
 pub mod Blanks
+pub mod Singles
 pub mod Turns
 pub mod Loops

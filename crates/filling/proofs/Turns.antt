@@ -4,7 +4,7 @@ use mathlib.Core.List.{List, [], _∷_, _++_}
 use Prim.Native.Nat.{ℕ, zero, suc, _+_, _*_, _-_, _^_, _≤_, _<_}
 use native.Mathlib.Numerals.{add-one}
 use native.Mathlib.Omega.{arith}
-use lib.ListN.{length}
+use lib.ListN.{length, getD}
 use Rattle.units.proofs.Raise.{raise-not-below}
 use Rattle.description.specs.Description.{typesIn, argumentsIn, argumentAt, Whole}
 use Rattle.types.specs.Basic.{lp64}
@@ -13,15 +13,19 @@ use Rattle.types.specs.Decode.{tyAt}
 use Rattle.types.specs.Asks.{Sized}
 use Rattle.types.proofs.Large.{accepted-sized}
 use Rattle.types.proofs.Laws.{size-low, type-filled}
+use Rattle.classify.specs.Table.{Tabled}
 use Rattle.uses.specs.Uses.{usesRefusal}
 use Rattle.uses.proofs.Uses.{accepted-types, accepted-typed}
 use Rattle.places.specs.declared.Used.{Used}
-use Rattle.places.specs.Shapes.{Shape, Shaped, shapeOf}
+use Rattle.places.specs.declared.Placed.{Placed}
+use Rattle.places.specs.declared.Shape.{Shape as Coded}
+use Rattle.places.specs.Shapes.{Shape, Shaped, shapeOf, shapeIn}
 use Rattle.places.specs.Places.{place, next, after, area}
 use Rattle.places.specs.Images.{total}
-use Rattle.places.specs.Recorded.{placeOf, recorded}
+use Rattle.places.specs.Recorded.{placeOf, recorded, asked, Room, Small, IsPlaced}
 use Rattle.places.proofs.Prefix.{total-append}
 use Rattle.places.proofs.Apart.{after-grows}
+use Rattle.places.proofs.Records.{shape-known}
 use Rattle.layout.specs.Arguments.{shapeAt, shapesFrom, shapes, usedFirst, usedAt, areaOf}
 use Rattle.layout.specs.Asks.{AskArgument}
 use Rattle.layout.specs.Layout.{valuesOf}
@@ -30,7 +34,8 @@ use Rattle.layout.specs.Verdict.{verdict}
 use Rattle.layout.specs.declared.Step.{Step}
 use Rattle.layout.proofs.Arguments.{shapes-none, shapes-cons, shapes-split, used-none, used-next, used-split}
 use Rattle.layout.proofs.Verdict.{accepted-uses}
-use Rattle.layout.proofs.Bounds.{arguments-few, argument-known, argument-small, argument-shaped}
+use Rattle.layout.proofs.Bounds.{arguments-few, types-few, argument-known, argument-small, argument-shaped, before-room}
+use Rattle.layout.proofs.Steps.{shape-of-argument, step-is}
 use Rattle.layout.proofs.Layouts.{asks-at}
 use Rattle.images.specs.Asks.{AskMove}
 use Rattle.images.proofs.Inside.{place-inside}
@@ -128,6 +133,21 @@ module _ (d : List ℕ) where
       there = l;
       before = rw (t .used) (asks-at d (right a) i i (omega arith) (omega arith) .before);
     }
+
+    -- the argument's type has an entry in the table, and what the entry says gives a step of the layout
+    pub turn-type : verdict d ≡ 0 → (n : ℕ) → n ≡ argumentAt d i → n < 64
+    turn-type a n e = omega (arith, e, known a i l, types-few d (right a))
+
+    module _ (table : List ℕ) (tabled : Tabled d table) (a : verdict d ≡ 0) (n : ℕ) (e : n ≡ argumentAt d i) (s : Coded) (f : asked s ≡ shapeIn (getD table n 0)) where
+      turn-shape : asked s ≡ shapeAt d i
+      turn-shape = shape-of-argument d i n s e (f ∙ shape-known d table tabled n (omega (arith, e, known a i l)))
+
+      pub turn-small : Room u × Small (asked s)
+      turn-small = (before-room i u (omega (arith, arguments-few d (right a))) (turn-asks a .before), rw turn-shape (argument-small d (right a) i l))
+
+      pub turn-step : (p : Placed) → IsPlaced (place u (asked s)) (next u (asked s)) p
+          → _≡_ {A = Step} (record { placement = record { ty = n; size = s .size; align = s .align; place = p .place }; used = p .used }) (stepAt d u i)
+      turn-step p h = step-is d u i n s p e turn-shape h
 
     module _ (z : Step) (e : z ≡ stepAt d u i) where
       pub step-size : z .placement .size .0 ≡ shapeAt d i .size

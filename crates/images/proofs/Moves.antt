@@ -2,12 +2,15 @@
 use mathlib.Core.Path.{_≡_, refl, sym, ap, ap₂, _∙_}
 use mathlib.Core.List.{List, [], _∷_, _++_, append-nil}
 use Prim.Native.Nat.{ℕ, _+_, _*_, _-_, _≤_, _<_, min}
+use mathlib.Core.Bool.{true}
 use native.Mathlib.Omega.{arith}
-use lib.ListN.{length, length-map}
+use borrow.Author.Tests.{eqb-true}
+use lib.Dec.{eqb}
+use lib.ListN.{length, getD, length-map}
 use Rattle.addresses.specs.Addresses.{run, gather, scatter, Below}
 use Rattle.addresses.specs.Copy.{copied}
-use Rattle.addresses.proofs.Scatter.{scatter-append, gather-append}
-use Rattle.addresses.proofs.Runs.{all-run, length-run, run-append, run-shift}
+use Rattle.addresses.proofs.Scatter.{gather-scatter, scatter-append, gather-append}
+use Rattle.addresses.proofs.Runs.{all-run, nodup-run, length-run, run-append, run-shift}
 use Rattle.addresses.proofs.Parts.{scatter-left, scatter-right, gather-left, gather-right}
 use Rattle.addresses.proofs.Copies.{length-copied}
 use Rattle.units.specs.declared.Bytes.{Bytes}
@@ -56,6 +59,24 @@ module _ (p : Place) (size k r s v : ℕ) (h : AskMove p size k r s v) where
 
 below-run : (p n m : ℕ) → p + n ≤ m → Below m (run p n)
 below-run p n m h = all-run p n (λ k l q. omega arith)
+
+-- eight bytes have room where n have and n is eight
+pub room-eight : (to from n dst src : ℕ) → eqb n 8 ≡ true → (to + n ≤ dst) × (from + n ≤ src) → (to + 8 ≤ dst) × (from + 8 ≤ src)
+room-eight to from n dst src e h = omega (arith, eqb-true n 8 e, h)
+
+pub copied-eight : (dst src : List ℕ) (to from n : ℕ) → eqb n 8 ≡ true → (after : List ℕ) → after ≡ copied dst to src from 8 → after ≡ copied dst to src from n
+copied-eight dst src to from n e after f = f ∙ ap (λ (m : ℕ). copied dst to src from m) (sym (eqb-true n 8 e))
+
+-- a copy by way of a word
+pub copied-by-word : (dst src word : List ℕ) (to from n : ℕ) → length word ≡ n → (between after : List ℕ)
+    → between ≡ copied word 0 src from n → after ≡ copied dst to between 0 n → after ≡ copied dst to src from n
+unfolding copied
+copied-by-word dst src word to from n long between after e f =
+    f
+    ∙ ap (λ (vs : List ℕ). scatter dst (run to n) vs)
+    (ap (λ (img : List ℕ). gather img (run 0 n)) e
+    ∙ gather-scatter (run 0 n) word (gather src (run from n)) (nodup-run 0 n) (below-run 0 n (length word) (omega arith))
+    (length-run 0 n ∙ sym (length-map (run from n) (λ p. getD src p 0) ∙ length-run from n)))
 
 copied-left : (r s vals : List ℕ) (a i n : ℕ) → a + n ≤ length r → copied r a vals i n ++ s ≡ scatter (r ++ s) (run a n) (gather vals (run i n))
 unfolding copied

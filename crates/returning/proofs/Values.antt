@@ -4,12 +4,9 @@ use mathlib.Core.Bool.{Bool, true, false, cond, not, _&&_, false≢true}
 use mathlib.Core.List.{List}
 use Prim.Native.Nat.{ℕ, _≤_, _<_}
 use native.Mathlib.Omega.{arith}
-use borrow.Author.Tests.{ne-eqb, eqb-true, le-leb, lt-leb}
-use lib.ListN.{length}
-use Rattle.units.specs.declared.Bytes.{Bytes}
+use borrow.Author.Tests.{eq-eqb, ne-eqb}
+use lib.ListN.{length, getD}
 use Rattle.description.specs.Description.{typesIn, returnIn, Whole}
-use Rattle.form.specs.declared.Refusal.{Refusal}
-use Rattle.form.specs.Reading.{refusalOf}
 use Rattle.form.proofs.Form.{accepted-counts}
 use Rattle.classes.specs.declared.Class.{Class}
 use Rattle.classes.specs.Classes.{same, isX87, mergeOf, mergeAll}
@@ -19,15 +16,15 @@ use Rattle.types.specs.Size.{sizeTy}
 use Rattle.types.specs.Decode.{tyAt}
 use Rattle.types.specs.Large.{typesRefusal}
 use Rattle.types.specs.Asks.{Sized}
+use Rattle.types.specs.Table.{IsEntry}
+use Rattle.types.specs.declared.Extent.{Extent}
+use Rattle.types.proofs.Table.{known-extent}
 use Rattle.types.proofs.Large.{accepted-form, accepted-sized}
 use Rattle.types.proofs.Laws.{type-filled}
 use Rattle.types.proofs.Trees.{at-basic}
+use Rattle.classify.specs.Table.{Tabled}
 use Rattle.classify.specs.Classify.{firstClass, secondClass, gap, put, basicAt, classesAt, classesOf}
 use Rattle.uses.proofs.Uses.{right-below, accepted-types, accepted-return, accepted-typed}
-use Rattle.questions.specs.Questions.{notBelow, extentAnswer, sizeAnswer}
-use Rattle.questions.specs.declared.SizeAnswer.{SizeAnswer}
-use Rattle.questions.specs.declared.SizeAnswer.the-variants.{Size, Refused as NoSize}
-use Rattle.questions.proofs.Questions.{question-eight, question-right}
 use Rattle.places.specs.declared.Register.the-variants.{General}
 use Rattle.places.specs.declared.ReturnPlace.{ReturnPlace}
 use Rattle.places.specs.declared.ReturnPlace.the-variants.{Void, Memory, One, Two, St0, St0St1}
@@ -87,10 +84,6 @@ module _ (d : List ℕ) (accepted : verdict d ≡ 0) where
   returned-sized : isVoid d ≡ false → Sized d (returnIn d)
   returned-sized e = accepted-sized d types (returnIn d) (returned-known e)
 
-  void-above : isVoid d ≡ true → typesIn d ≤ returnIn d
-  unfolding isVoid
-  void-above e = omega (arith, accepted-counts d (accepted-form d types), eqb-true (returnIn d) 255 e)
-
   -- its place and its length suit one another
   pub accepted-returnable : Returnable (returnPlace d) (returnLength d)
   unfolding returnPlace returnLength returnedSize
@@ -100,33 +93,24 @@ module _ (d : List ℕ) (accepted : verdict d ≡ 0) where
       by true e = unfold returnPlace Returnable in rw e refl
       by false e = unfold returnPlace in rw e (type-suits (tyAt d (returnIn d)) (type-filled d (returnIn d) (returned-sized e)))
 
-  -- ---- the size, as the question about one type answers it
+  -- ---- the size, by the table
 
-  question-void : isVoid d ≡ true → (a : SizeAnswer) → a ≡ sizeAnswer (extentAnswer d (returnIn d)) → a ≡ NoSize (refusalOf 8)
-  unfolding extentAnswer notBelow
-  question-void v a e =
-      e ∙ rw (question-eight d (returnIn d) types (le-leb (typesIn d) (returnIn d) (void-above v)))
+  pub size-void : (k : ℕ) → k ≡ returnIn d → k ≡ 255 → 0 ≡ returnedSize d
+  unfolding returnedSize isVoid
+  size-void k e v = rw (eq-eqb (returnIn d) 255 (sym e ∙ v))
 
-  question-type : isVoid d ≡ false → (a : SizeAnswer) → a ≡ sizeAnswer (extentAnswer d (returnIn d)) → a ≡ Size (record { 0 = sizeTy lp64 (tyAt d (returnIn d)) })
-  unfolding extentAnswer notBelow
-  question-type v a e =
-      e ∙ rw (question-right d (returnIn d) types (lt-leb (typesIn d) (returnIn d) (returned-known v)))
+  module _ (k : ℕ) (e : k ≡ returnIn d) (some : k ≡ 255 → ⊥) where
+    not-nothing : isVoid d ≡ false
+    unfolding isVoid
+    not-nothing = ne-eqb (returnIn d) 255 (λ v. some (e ∙ v))
 
-  pub size-refused : (a : SizeAnswer) (r : Refusal) → a ≡ sizeAnswer (extentAnswer d (returnIn d)) → a ≡ NoSize r → 0 ≡ returnedSize d
-  unfolding returnedSize
-  size-refused a r e f = by (isVoid d) refl
-    where
-      by : (b : Bool) → isVoid d ≡ b → 0 ≡ cond b 0 (sizeTy lp64 (tyAt d (returnIn d)))
-      by true v = refl
-      by false v = absurd (let z : _≡_ {A = ℕ} 0 1 = cc (sym (question-type v a e) ∙ f) in omega arith)
+    pub entry-there : k < 64
+    entry-there = omega (arith, e, returned-known not-nothing, accepted-counts d (accepted-form d types) .types)
 
-  pub size-answered : (a : SizeAnswer) (s : Bytes) → a ≡ sizeAnswer (extentAnswer d (returnIn d)) → a ≡ Size s → s .0 ≡ returnedSize d
-  unfolding returnedSize
-  size-answered a s e f = by (isVoid d) refl
-    where
-      by : (b : Bool) → isVoid d ≡ b → s .0 ≡ cond b 0 (sizeTy lp64 (tyAt d (returnIn d)))
-      by true v = absurd (let z : _≡_ {A = ℕ} 0 1 = cc (sym (question-void v a e) ∙ f) in omega arith)
-      by false v = ap (λ (x : Bytes). x .0) (let z : s ≡ record { 0 = sizeTy lp64 (tyAt d (returnIn d)) } = cc (sym f ∙ question-type v a e) in z)
+    pub size-known : (table : List ℕ) → Tabled d table → (r : Extent) → IsEntry (getD table k 0) r → r .size .0 ≡ returnedSize d
+    unfolding returnedSize
+    size-known table tabled r h =
+        rw not-nothing (known-extent d table (tabled .sizes) (returnIn d) (returned-sized not-nothing) r (rw (sym e) h) .size)
 
   -- void has no value
   pub void-short : isVoid d ≡ true → returnLength d ≡ 0

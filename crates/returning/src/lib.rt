@@ -1,10 +1,10 @@
 // Bringing the result back (document 02, request 2026-02): the bytes of a returned value into the return image and out again.
 use form::Refusal;
 use layout::LayoutAnswer;
-use questions::SizeAnswer;
 use units::Bytes;
 ghost use mathlib.Core.Path.{_≡_};
 ghost use lib.ListN.{length};
+ghost use Rattle.classify.specs.Table.{Tabled};
 ghost use Rattle.layout.specs.Layout.{numberOf};
 ghost use Rattle.layout.specs.Verdict.{verdict};
 ghost use Rattle.returning.specs.Returned.{returnedSize, returnLength};
@@ -32,16 +32,16 @@ fn refusal_in(answer: LayoutAnswer) -> Refusal
     }
 }
 
-// The size of the returned type. Void has none: its number, 255, is no type's.
-fn returned_size(d: &[u8]) -> Bytes
-    requires { ⌜ verdict (now d) ≡ 0 ⌝ }
+// The size of the returned type, by the table. Void has none.
+fn returned_size(d: &[u8], table: &[u32; 64]) -> Bytes
+    requires { ⌜ (verdict (now d) ≡ 0) × Tabled (now d) (now table) ⌝ }
     ensures { λ r. ⌜ r .0 ≡ returnedSize (now (d .entry)) ⌝ }
 {
-    let answer = questions::type_size(d, d[9]);
-    let SizeAnswer::Size(size) = answer else {
+    let k = description::byte_at(d, 9);
+    if k == 255 {
         return Bytes(0);
-    };
-    size
+    }
+    types::extent_in(table, k).size
 }
 
 // 11: whether the value has not exactly so many bytes, or the image not exactly 80.
@@ -73,12 +73,13 @@ pub fn put_returned(d: &[u8], hidden: u64, value: &[u8], image: &mut [u8]) -> Pu
     ensures { λ r. ⌜ (r ≡ putAnswer (now (d .entry)) (now (value .entry)) (length (now (image .entry))))
         × (now (image .exit) ≡ imageAfter (now (d .entry)) hidden (now (value .entry)) (now (image .entry))) ⌝ }
 {
-    let answer = layout::layout_of(d);
+    let mut table = [0u32; 64];
+    let answer = layout::layout_with(d, &mut table);
     let LayoutAnswer::Laid(layout) = answer else {
         return PutAnswer::Refused(refusal_in(answer));
     };
     let place = layout.returns;
-    let right = return_image::length_for(place, returned_size(d));
+    let right = return_image::length_for(place, returned_size(d, &table));
     if wrong_length(right, Bytes(value.len()), Bytes(image.len())) {
         return PutAnswer::Refused(form::refusal_of(11));
     }
@@ -94,12 +95,13 @@ pub fn take_returned(d: &[u8], image: &[u8], value: &mut [u8]) -> TakeAnswer
     ensures { λ r. ⌜ (r ≡ takeAnswer (now (d .entry)) (now (image .entry)) (length (now (value .entry))))
         × (now (value .exit) ≡ valueAfter (now (d .entry)) (now (image .entry)) (now (value .entry))) ⌝ }
 {
-    let answer = layout::layout_of(d);
+    let mut table = [0u32; 64];
+    let answer = layout::layout_with(d, &mut table);
     let LayoutAnswer::Laid(layout) = answer else {
         return TakeAnswer::Refused(refusal_in(answer));
     };
     let place = layout.returns;
-    let right = return_image::length_for(place, returned_size(d));
+    let right = return_image::length_for(place, returned_size(d, &table));
     if wrong_length(right, Bytes(value.len()), Bytes(image.len())) {
         return TakeAnswer::Refused(form::refusal_of(11));
     }
