@@ -1,6 +1,6 @@
 -- Classes in numbers, and the finished answers. Assumes nothing.
 use mathlib.Core.Path.{_≡_, refl, sym, ap, _∙_}
-use mathlib.Core.Bool.{Bool, true, false}
+use mathlib.Core.Bool.{Bool, true, false, cond, _&&_}
 use mathlib.Core.List.{List, [], _∷_}
 use Prim.Native.Nat.{ℕ, zero, suc, _+_, _*_, _/_, _%_, _≤_, _<_, zero-le}
 use native.Mathlib.Omega.{arith}
@@ -11,13 +11,14 @@ use lib.Seq.{getD-set-same, getD-set-other}
 use Rattle.description.specs.Description.{typesIn}
 use Rattle.classes.specs.declared.Class.{Class}
 use Rattle.classes.specs.declared.Class.the-variants.{NoClass, Integer, Sse, SseUp, X87, X87Up, ComplexX87, Memory}
-use Rattle.classes.specs.Classes.{codeOf}
+use Rattle.classes.specs.Classes.{codeOf, same as alike, isX87, mergeOf, mergeAll}
 use Rattle.classes.proofs.Pairs.{two}
 use Rattle.types.specs.Decode.{tyAt}
 use Rattle.types.specs.Table.{entryAt, filled, Sizes}
 use Rattle.types.proofs.Table.{entry-small, filled-next, filled-below, filled-past}
-use Rattle.classify.specs.Classify.{classesAt, classesOf}
-use Rattle.classify.specs.Table.{classBy, packedOf, unpackedOf, finishedAt, Right, fullEntry, Tabled}
+use Rattle.types.proofs.Codes.{each-code}
+use Rattle.classify.specs.Classify.{firstClass, secondClass, gap, put, basicAt, classesAt, classesOf}
+use Rattle.classify.specs.Table.{classBy, packedOf, unpackedOf, askOf, asksOf, wordOf, finishedAt, Right, fullEntry, Tabled}
 use Rattle.classify.proofs.Lengths.{length-classes}
 
 -- numbers
@@ -81,6 +82,54 @@ pack-is cs e r a b ea eb er =
 pub packed-range : (cs : List Class) → (1 ≤ packedOf cs) × (packedOf cs < 128)
 unfolding packedOf
 packed-range cs = (omega arith, omega (arith, code-small (getD cs 0 NoClass), code-small (getD cs 1 NoClass)))
+
+-- what was asked for comes out again, beside the classes
+
+pub ask-small : (c : Class) → askOf c ≤ 16
+ask-small NoClass = omega arith
+ask-small Integer = omega arith
+ask-small Sse = omega arith
+ask-small SseUp = omega arith
+ask-small X87 = omega arith
+ask-small X87Up = omega arith
+ask-small ComplexX87 = omega arith
+ask-small Memory = omega arith
+
+pub asks-small : (cs : List Class) → asksOf cs ≤ 32
+unfolding asksOf
+asks-small cs = by (alike (getD cs 0 NoClass) NoClass && alike (getD cs 1 NoClass) NoClass)
+  where
+    by : (b : Bool) → cond b 7 (askOf (getD cs 0 NoClass) + askOf (getD cs 1 NoClass)) ≤ 32
+    by true = omega arith
+    by false = omega (arith, ask-small (getD cs 0 NoClass), ask-small (getD cs 1 NoClass))
+
+pub word-small : (cs : List Class) → wordOf cs < 8192
+unfolding wordOf
+word-small cs = omega (arith, asks-small cs, packed-range cs)
+
+word-asks : (cs : List Class) → wordOf cs / 128 ≡ asksOf cs
+unfolding wordOf
+word-asks cs = omega (arith, packed-range cs)
+
+low-word : (p a : ℕ) → (p + 128 * a) % 8 ≡ p % 8
+low-word p a = omega arith
+
+high-word : (p a : ℕ) → (p + 128 * a) / 8 % 8 ≡ p / 8 % 8
+high-word p a = omega arith
+
+word-classes : (cs : List Class) → length cs ≡ 2 → unpackedOf (wordOf cs) ≡ cs
+unfolding unpackedOf wordOf
+word-classes cs e = rw (low-word (packedOf cs) (asksOf cs), high-word (packedOf cs) (asksOf cs)) (unpacks cs e)
+
+halves : (x : ℕ) → x / 33554432 ≡ x / 262144 / 128
+halves x = omega arith
+
+-- the words of the sixteen codes
+pub basic-words : (code : ℕ) → code < 16 → getD (193 ∷ 193 ∷ 193 ∷ 193 ∷ 193 ∷ 329 ∷ 2114 ∷ 2114 ∷ 1900 ∷ 2138 ∷ 2114 ∷ 2138 ∷ 2114 ∷ 4178 ∷ 966 ∷ 193 ∷ []) code 0 ≡ wordOf (basicAt 2 code 0)
+unfolding wordOf packedOf asksOf basicAt put firstClass secondClass gap mergeAll mergeOf alike isX87
+basic-words =
+    each-code (λ code. getD (193 ∷ 193 ∷ 193 ∷ 193 ∷ 193 ∷ 329 ∷ 2114 ∷ 2114 ∷ 1900 ∷ 2138 ∷ 2114 ∷ 2138 ∷ 2114 ∷ 4178 ∷ 966 ∷ 193 ∷ []) code 0 ≡ wordOf (basicAt 2 code 0))
+    (refl, (refl, (refl, (refl, (refl, (refl, (refl, (refl, (refl, (refl, (refl, (refl, (refl, (refl, (refl, (refl, tt))))))))))))))))
 
 -- the finished answers
 
@@ -150,13 +199,13 @@ full-size : (d : List ℕ) (k : ℕ) → entryAt d k < 262144 → fullEntry d k 
 unfolding fullEntry
 full-size d k l = omega arith
 
-full-classes : (d : List ℕ) (k : ℕ) → entryAt d k < 262144 → fullEntry d k / 262144 ≡ packedOf (classesOf (tyAt d k))
+full-word : (d : List ℕ) (k : ℕ) → entryAt d k < 262144 → fullEntry d k / 262144 ≡ wordOf (classesOf (tyAt d k))
 unfolding fullEntry
-full-classes d k l = omega arith
+full-word d k l = omega arith
 
-pub full-is : (d t : List ℕ) → Sizes d (typesIn d) t → (k : ℕ) → k < typesIn d → (cs : List Class) → cs ≡ classesOf (tyAt d k) → (x : ℕ) → x ≡ getD t k 0 % 262144 + 262144 * packedOf cs → x ≡ fullEntry d k
+pub full-is : (d t : List ℕ) → Sizes d (typesIn d) t → (k : ℕ) → k < typesIn d → (w : ℕ) → w ≡ wordOf (classesOf (tyAt d k)) → (x : ℕ) → x ≡ getD t k 0 % 262144 + 262144 * w → x ≡ fullEntry d k
 unfolding fullEntry
-full-is d t w k l cs ec x ex = ex ∙ rw (w .right k l, ec)
+full-is d t w k l y ey x ex = ex ∙ rw (w .right k l, ey)
 
 pub full-more : (d t u : List ℕ) (k x : ℕ) → u ≡ filled (fullEntry d) k t → x ≡ fullEntry d k → set u k x ≡ filled (fullEntry d) (k + 1) t
 full-more d t u k x eu ex = rw (eu, ex) (filled-next (fullEntry d) k t)
@@ -173,12 +222,17 @@ module _ (d t : List ℕ) (w : Sizes d (typesIn d) t) (full : length t ≡ 64) w
       by k l false e = ap (λ (x : ℕ). x % 262144) (filled-past (fullEntry d) n t k 0 (ltb-false k n e)) ∙ w .right k l
 
   pub tabled : Tabled d (filled (fullEntry d) (typesIn d) t)
-  tabled = record { sizes = sizes-kept (typesIn d) (omega arith); classes = by }
+  tabled = record { sizes = sizes-kept (typesIn d) (omega arith); classes = by; asks = asks }
     where
       fits : typesIn d ≤ length t
       fits = omega (arith, full, w .few)
 
+      word : (k : ℕ) → k < typesIn d → getD (filled (fullEntry d) (typesIn d) t) k 0 / 262144 ≡ wordOf (classesOf (tyAt d k))
+      word k l =
+          ap (λ (x : ℕ). x / 262144) (filled-below (fullEntry d) (typesIn d) t k 0 fits l) ∙ full-word d k (entry-small d k (w .small k l))
+
       by : (k : ℕ) → k < typesIn d → unpackedOf (getD (filled (fullEntry d) (typesIn d) t) k 0 / 262144) ≡ classesOf (tyAt d k)
-      by k l =
-          ap unpackedOf (ap (λ (x : ℕ). x / 262144) (filled-below (fullEntry d) (typesIn d) t k 0 fits l) ∙ full-classes d k (entry-small d k (w .small k l)))
-          ∙ unpacks (classesOf (tyAt d k)) (length-classes (tyAt d k))
+      by k l = ap unpackedOf (word k l) ∙ word-classes (classesOf (tyAt d k)) (length-classes (tyAt d k))
+
+      asks : (k : ℕ) → k < typesIn d → getD (filled (fullEntry d) (typesIn d) t) k 0 / 33554432 ≡ asksOf (classesOf (tyAt d k))
+      asks k l = halves (getD (filled (fullEntry d) (typesIn d) t) k 0) ∙ ap (λ (x : ℕ). x / 128) (word k l) ∙ word-asks (classesOf (tyAt d k))

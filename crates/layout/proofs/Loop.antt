@@ -11,8 +11,8 @@ use Rattle.places.specs.Places.{next, after}
 use Rattle.places.specs.Images.{total}
 use Rattle.layout.specs.Arguments.{shapeAt, shapesFrom}
 use Rattle.layout.specs.Asks.{Before, AskArgument, AskArguments, IsLaid}
-use Rattle.layout.specs.Placements.{stepAt}
-use Rattle.layout.specs.declared.Step.{Step}
+use Rattle.layout.specs.Placements.{turnAt}
+use Rattle.layout.specs.declared.Turn.{Turn}
 use Rattle.layout.specs.declared.Laying.{Laying}
 use Rattle.layout.proofs.Arguments.{shapes-cons, shapes-end}
 use Rattle.layout.proofs.Bounds.{arguments-few, argument-small, before-next}
@@ -35,24 +35,24 @@ module _ (d : List ℕ) (from to : ℕ) (u₀ : Used) (v₀ : ℕ) where
     here l = omega (arith, g .asks .there)
 
     -- no sum overflows
-    pub going-small : (r : Step) → r ≡ stepAt d u i → i < to → v + r .placement .size .0 ≤ 2 ^ 63
-    unfolding stepAt
+    pub going-small : (r : Turn) → r ≡ turnAt d u i → i < to → v + r .size .0 ≤ 2 ^ 63
+    unfolding turnAt
     going-small r e l =
         omega (
           arith,
-          ap (λ (s : Step). s .placement .size .0) e,
+          ap (λ (s : Turn). s .size .0) e,
           argument-small d (g .asks .right) i (here l) .size,
           g .asks .sum,
           arguments-few d (g .asks .right),
           here l,
         )
 
-    pub going-next : (r : Step) → r ≡ stepAt d u i → i < to → (w : ℕ) → w ≡ v + r .placement .size .0
+    pub going-next : (r : Turn) → r ≡ turnAt d u i → i < to → (w : ℕ) → w ≡ v + r .size .0
         → Going d from to u₀ v₀ (r .used) w (i + 1)
-    unfolding stepAt
+    unfolding turnAt
     going-next r e l w q =
-        let used = ap (λ (s : Step). s .used) e in
-        let size = ap (λ (s : Step). s .placement .size .0) e in
+        let used = ap (λ (s : Turn). s .used) e in
+        let size = ap (λ (s : Turn). s .size .0) e in
         let more = shapes-cons d i to l in
         let kept = ap (λ (ss : List Shape). after u ss) more in
         let sum = ap total more in

@@ -3,6 +3,7 @@ use mathlib.Core.Path.{_≡_, refl, sym, ap, _∙_}
 use mathlib.Core.Bool.{Bool, true, false, cond, not, _&&_}
 use mathlib.Core.List.{List, [], _∷_}
 use Prim.Native.Nat.{ℕ, _<_}
+use native.Mathlib.Omega.{arith}
 use borrow.Author.Tests.{eq-eqb, ne-eqb}
 use lib.ListN.{length, getD}
 use Rattle.description.specs.Description.{typesIn, returnIn, argumentAt}
@@ -18,14 +19,21 @@ use Rattle.places.specs.declared.Used.{Used}
 use Rattle.places.specs.declared.Placed.{Placed}
 use Rattle.places.specs.declared.ReturnPlace.{ReturnPlace}
 use Rattle.places.specs.declared.ReturnPlace.the-variants.{Void}
-use Rattle.places.specs.Shapes.{Shape, shapeOf}
+use Rattle.places.specs.Shapes.{Shape, shapeOf, shapeIn, Asking}
 use Rattle.places.specs.Places.{place, next}
-use Rattle.places.specs.Recorded.{asked, recorded, IsPlaced}
+use Rattle.places.specs.Recorded.{asked, recorded, IsPlaced, Room, Small}
 use Rattle.places.specs.Returns.{returnOf, hiddenFor}
-use Rattle.places.proofs.Records.{place-is}
+use Rattle.places.proofs.Records.{place-is, shape-known}
+use Rattle.places.proofs.Asking.{asking-known}
+use Rattle.types.specs.Table.{IsEntry}
+use Rattle.types.specs.declared.Extent.{Extent}
+use Rattle.classify.specs.Table.{Tabled}
 use Rattle.classify.proofs.Lengths.{length-classes}
 use Rattle.layout.specs.Arguments.{shapeAt, isVoid, returnClasses, returnPlace, hidden}
-use Rattle.layout.specs.Placements.{stepAt}
+use Rattle.layout.specs.Asks.{AskArgument}
+use Rattle.layout.specs.Placements.{stepAt, turnAt}
+use Rattle.layout.specs.declared.Turn.{Turn}
+use Rattle.layout.proofs.Bounds.{arguments-few, types-few, argument-known, argument-small, before-room}
 use Rattle.layout.specs.declared.Step.{Step}
 
 -- what is returned
@@ -64,3 +72,26 @@ step-is d u i k s p e f h =
     let placed = place-is (p .place) (place u (asked s)) (h .place) ∙ ap (λ (x : Shape). recorded (place u x)) f in
     let used = h .used ∙ ap (λ (x : Shape). next u x) f in
     λ j. record { placement = record { ty = e j; size = record { 0 = size j }; align = record { 0 = align j }; place = placed j }; used = used j }
+
+-- the same without the record, by the entry of the argument's type
+module _ (d t : List ℕ) (w : Tabled d t) (u : Used) (i : ℕ) (a : AskArgument d i u) (k : ℕ) (e : k ≡ argumentAt d i) where
+  known : k < typesIn d
+  known = omega (arith, argument-known d (a .right) i (a .there))
+
+  entry-shape : shapeIn (getD t k 0) ≡ shapeAt d i
+  unfolding shapeAt
+  entry-shape = shape-known d t w k known ∙ ap (λ (j : ℕ). shapeOf (tyAt d j)) e
+
+  pub turn-low : k < 64
+  turn-low = omega (arith, known, types-few d (a .right))
+
+  pub turn-asks : (k < 64) × Room u × Small (shapeIn (getD t k 0)) × Asking (getD t k 0)
+  turn-asks =
+      (turn-low, before-room i u (omega (arith, arguments-few d (a .right), a .there)) (a .before), rw entry-shape (argument-small d (a .right) i (a .there)), asking-known d t w k known)
+
+  pub turn-is : (x : Extent) → IsEntry (getD t k 0) x → (n : Used) → n ≡ next u (shapeIn (getD t k 0)) → _≡_ {A = Turn} (record { size = x .size; used = n }) (turnAt d u i)
+  unfolding turnAt shapeIn
+  turn-is x h n q =
+      let size : x .size .0 ≡ shapeAt d i .size = h .size ∙ ap (λ (s : Shape). s .size) entry-shape in
+      let used : n ≡ next u (shapeAt d i) = q ∙ ap (λ (s : Shape). next u s) entry-shape in
+      λ j. record { size = record { 0 = size j }; used = used j }

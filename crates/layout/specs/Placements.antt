@@ -8,6 +8,7 @@ use Rattle.places.specs.Recorded.{recorded}
 use Rattle.layout.specs.Arguments.{shapeAt, usedAt}
 use Rattle.layout.specs.declared.Placement.{Placement}
 use Rattle.layout.specs.declared.Step.{Step}
+use Rattle.layout.specs.declared.Turn.{Turn}
 
 -- "type, size, alignment, and either its registers in eightbyte order or its stack offset": of argument i, where u is used before it
 abbrev pub placementFrom : List ℕ → Used → ℕ → Placement
@@ -21,6 +22,10 @@ placementFrom d u i = record {
 -- and what is used after it
 unfoldable pub stepAt : List ℕ → Used → ℕ → Step
 stepAt d u i = record { placement = placementFrom d u i; used = next u (shapeAt d i) }
+
+-- its bytes instead of its record
+unfoldable pub turnAt : List ℕ → Used → ℕ → Turn
+turnAt d u i = record { size = record { 0 = shapeAt d i .size }; used = next u (shapeAt d i) }
 
 -- the record of argument i
 unfoldable pub placementAt : List ℕ → ℕ → Placement

@@ -13,7 +13,7 @@ ghost use Rattle.uses.specs.Uses.{usesRefusal};
 ghost use Rattle.layout.specs.Arguments.{shapesFrom, returnPlace, hidden, usedAt};
 ghost use Rattle.layout.specs.Verdict.{verdict};
 ghost use Rattle.layout.specs.Layout.{layoutOf, layoutAnswer, tableAfter};
-ghost use Rattle.layout.specs.Placements.{stepAt};
+ghost use Rattle.layout.specs.Placements.{stepAt, turnAt};
 ghost use Rattle.layout.specs.Asks.{AskArgument, AskArguments, IsLaid};
 
 // What a description asks of a call as a whole.
@@ -54,6 +54,12 @@ pub struct Step {
 struct Returned {
     place: ReturnPlace,
     hidden: bool,
+}
+
+// The bytes of one argument, and what is used after it.
+struct Turn {
+    size: Bytes,
+    used: Used,
 }
 
 // What is used, and how many bytes the values have, after some arguments.
@@ -105,6 +111,20 @@ pub fn place_argument(d: &[u8], used: Used, i: usize, table: &[u32; 64]) -> Step
     }
 }
 
+// The bytes of argument i, and what is used after it, as its record says, without the record.
+fn use_argument(d: &[u8], used: Used, i: usize, table: &[u32; 64]) -> Turn
+    requires { ⌜ AskArgument (now d) i used × Tabled (now d) (now table) ⌝ }
+    ensures { λ r. ⌜ r ≡ turnAt (now (d .entry)) used i ⌝ }
+{
+    let k = description::argument_at(d, i);
+    let size = types::extent_in(table, k).size;
+    let after = places::use_next(used, table, k);
+    Turn {
+        size: size,
+        used: after,
+    }
+}
+
 // What is used, and how many bytes the values have, after the arguments `from` to `to` as well.
 fn lay_more(d: &[u8], before: Laying, from: usize, to: usize, table: &[u32; 64]) -> Laying
     requires { ⌜ AskArguments (now d) from to (before .used) (before .values .0) × Tabled (now d) (now table) ⌝ }
@@ -114,10 +134,10 @@ fn lay_more(d: &[u8], before: Laying, from: usize, to: usize, table: &[u32; 64])
     let mut values = before.values;
     let mut i = from;
     while i < to {
-        let step = place_argument(d, used, i, table);
-        let size = step.placement.size;
+        let turn = use_argument(d, used, i, table);
+        let size = turn.size;
         values = units::plus(values, size);
-        used = step.used;
+        used = turn.used;
         i += 1;
     }
     Laying {

@@ -4,10 +4,11 @@ use units::Bytes;
 use units::Registers;
 ghost use mathlib.Core.Path.{_≡_};
 ghost use mathlib.Core.List.{[], _∷_};
-ghost use Prim.Native.Nat.{_^_, _≤_, _<_};
+ghost use Prim.Native.Nat.{_/_, _%_, _^_, _≤_, _<_, max};
 ghost use lib.ListN.{getD};
-ghost use Rattle.places.specs.Shapes.{kindsOf, shapeIn};
-ghost use Rattle.places.specs.Places.{fresh, enough, place, next};
+ghost use Rattle.units.specs.Raise.{raise};
+ghost use Rattle.places.specs.Shapes.{kindsOf, shapeIn, Asking};
+ghost use Rattle.places.specs.Places.{fresh, enough, stacking, place, next};
 ghost use Rattle.places.specs.Recorded.{listed, asked, Room, Small, IsPlaced};
 ghost use Rattle.places.specs.Steps.{eightbyteOf, IsTaken, foundIf, IsFound, stackedAt};
 ghost use Rattle.places.specs.Returns.{outside, returnOf, hiddenBy};
@@ -231,6 +232,17 @@ fn in_registers(used: Used, kinds: Kinds) -> Found
     }
 }
 
+// "The lowest offset, after the one before, that is a multiple of 8 and of its alignment".
+fn stack_start(end: Bytes, align: Bytes) -> Bytes
+    requires { ⌜ (end .0 ≤ 2 ^ 20) × (align .0 ≤ 16) ⌝ }
+    ensures { λ r. ⌜ r .0 ≡ raise (max 8 (align .0)) (end .0) ⌝ }
+{
+    if units::over(align, Bytes(8)) {
+        return units::raise_to(align, end);
+    }
+    units::raise_to(Bytes(8), end)
+}
+
 // On the stack: "the lowest offset, after the one before, that is a multiple of 8 and of its alignment; the room it takes is rounded up to 8".
 fn on_stack(used: Used, size: Bytes, align: Bytes) -> Placed
     requires { ⌜ (used .stack .0 ≤ 2 ^ 20) × (size .0 ≤ 4096) × (align .0 ≤ 16) ⌝ }
@@ -238,8 +250,7 @@ fn on_stack(used: Used, size: Bytes, align: Bytes) -> Placed
 {
     let general = used.general;
     let vector = used.vector;
-    let multiple = units::larger(Bytes(8), align);
-    let offset = units::raise_to(multiple, used.stack);
+    let offset = stack_start(used.stack, align);
     let end = units::raise_to(Bytes(8), units::plus(offset, size));
     Placed {
         place: Place::Stack(offset),
@@ -265,6 +276,55 @@ pub fn place_next(used: Used, shape: Shape) -> Placed
         return on_stack(used, size, align);
     };
     placed
+}
+
+// What a type asks for: so many general registers, seven where its class sends it to the stack, and so many vector ones.
+struct Asks {
+    general: Registers,
+    vector: Registers,
+}
+
+fn asks_in(table: &[u32; 64], k: usize) -> Asks
+    requires { ⌜ k < 64 ⌝ }
+    ensures { λ r. ⌜ (r .general .0 ≡ getD (now (table .entry)) k 0 / 33554432 % 16) × (r .vector .0 ≡ getD (now (table .entry)) k 0 / 33554432 / 16)
+        × (r .vector .0 ≤ 2 ^ 40) ⌝ }
+{
+    let asks = types::wide(table[k]) / 33554432;
+    Asks {
+        general: Registers(asks % 16),
+        vector: Registers(asks / 16),
+    }
+}
+
+// What is used once an argument of type k is on the stack.
+fn use_stack(used: Used, table: &[u32; 64], k: usize) -> Used
+    requires { ⌜ (k < 64) × Room used × Small (shapeIn (getD (now table) k 0)) ⌝ }
+    ensures { λ r. ⌜ r ≡ stacking used (shapeIn (getD (now (table .entry)) k 0)) ⌝ }
+{
+    let extent = types::extent_in(table, k);
+    on_stack(used, extent.size, extent.align).used
+}
+
+// What is used after an argument of type k, as `place_next` says it, without the place.
+pub fn use_next(used: Used, table: &[u32; 64], k: usize) -> Used
+    requires { ⌜ (k < 64) × Room used × Small (shapeIn (getD (now table) k 0)) × Asking (getD (now table) k 0) ⌝ }
+    ensures { λ r. ⌜ r ≡ next used (shapeIn (getD (now (table .entry)) k 0)) ⌝ }
+{
+    let asks = asks_in(table, k);
+    let generals = units::with_more(used.general, asks.general);
+    if !units::at_most(generals, Registers(6)) {
+        return use_stack(used, table, k);
+    }
+    let vectors = units::with_more(used.vector, asks.vector);
+    if !units::at_most(vectors, Registers(8)) {
+        return use_stack(used, table, k);
+    }
+    let stack = used.stack;
+    Used {
+        general: generals,
+        vector: vectors,
+        stack: stack,
+    }
 }
 
 // Where a value without registers is returned.

@@ -18,6 +18,9 @@ use Rattle.places.proofs.return_place.Symbol as return-place-symbol
 use Rattle.places.proofs.shape_in
 use Rattle.places.proofs.shape_in.Met as shape-in-met
 use Rattle.places.proofs.shape_in.Symbol as shape-in-symbol
+use Rattle.places.proofs.use_next
+use Rattle.places.proofs.use_next.Met as use-next-met
+use Rattle.places.proofs.use_next.Symbol as use-next-symbol
 
 pub meets-places-shape-in : Meets shape_in.ended (λ M. shape_in.clauses {M = M}) shape-in-symbol.routine
 meets-places-shape-in M = shape-in-met.met
@@ -48,3 +51,9 @@ meets-places-hidden-for M = hidden-for-met.met
 
 pub tight-places-hidden-for : Tight hidden_for.ended (λ M. hidden_for.clauses {M = M})
 tight-places-hidden-for c r q w v a b = (equal (result hidden_for.ended c) (a .ensured) (b .ensured), refl)
+
+pub meets-places-use-next : Meets use_next.ended (λ M. use_next.clauses {M = M}) use-next-symbol.routine
+meets-places-use-next M = use-next-met.met
+
+pub tight-places-use-next : Tight use_next.ended (λ M. use_next.clauses {M = M})
+tight-places-use-next c r q w v a b = (equal (result use_next.ended c) (a .ensured) (b .ensured), refl)

@@ -44,6 +44,9 @@ use Rattle.units.proofs.times.Symbol as times-symbol
 use Rattle.units.proofs.vector_bytes
 use Rattle.units.proofs.vector_bytes.Met as vector-bytes-met
 use Rattle.units.proofs.vector_bytes.Symbol as vector-bytes-symbol
+use Rattle.units.proofs.with_more
+use Rattle.units.proofs.with_more.Met as with-more-met
+use Rattle.units.proofs.with_more.Symbol as with-more-symbol
 
 pub meets-units-raise-to : Meets raise_to.ended (λ M. raise_to.clauses {M = M}) raise-to-symbol.routine
 meets-units-raise-to M = raise-to-met.met
@@ -128,3 +131,9 @@ meets-units-same M = same-met.met
 
 pub tight-units-same : Tight same.ended (λ M. same.clauses {M = M})
 tight-units-same c r q w v a b = (equal (result same.ended c) (a .ensured) (b .ensured), refl)
+
+pub meets-units-with-more : Meets with_more.ended (λ M. with_more.clauses {M = M}) with-more-symbol.routine
+meets-units-with-more M = with-more-met.met
+
+pub tight-units-with-more : Tight with_more.ended (λ M. with_more.clauses {M = M})
+tight-units-with-more c r q w v a b = (settle (result with_more.ended c) (a .ensured) (b .ensured) (λ e f i. record { 0 = (e ∙ sym f) i }), refl)

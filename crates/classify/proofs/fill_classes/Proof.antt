@@ -7,7 +7,7 @@ use borrow.Author.Needs.{needs}
 use lib.ListN.{length}
 use denote.Ref.{now}
 use Rattle.classify.specs.Table.{Right, fullEntry}
-use Rattle.classify.proofs.Table.{right-none, full-is, full-more, sizes-kept, tabled}
+use Rattle.classify.proofs.Table.{right-none, word-small, full-is, full-more, sizes-kept, tabled}
 use Rattle.description.specs.Description.{typesIn}
 use Rattle.form.proofs.Form.{accepted-headed}
 use Rattle.types.specs.Basic.{sizes}
@@ -39,22 +39,22 @@ finish-requires c κs =
       record { sizes = rw (c .before .before .before .loop .inv .1) (sizes-kept (now (c .before .before .before .before .before .before .before .before .args .d)) (now (c .before .before .before .before .before .before .before .before .args .table)) (c .before .before .before .before .before .before .before .before .pre .1) full (c .before .before .before .loop .k) (omega (arith, c .before .before .loop-test .taken, c .before .before .before .loop .inv .3))); right = c .before .before .before .loop .inv .0 },
     )
 
-classes-of-requires : tie.Need-classes-of-requires Inv-loop μ-loop
-classes-of-requires c κs =
+word-at-requires : tie.Need-word-at-requires Inv-loop μ-loop
+word-at-requires c κs =
     let full : length (now (c .before .before .before .before .before .before .before .before .before .before .before .args .table)) ≡ 64 = sym (c .before .before .before .before .before .before .before .before .entries .ensures .1) ∙ c .before .before .before .before .before .before .before .before .entries .ensures .0 in
     let low : c .before .before .before .before .before .before .loop .k < typesIn (now (c .before .before .before .before .before .before .before .before .before .before .before .args .d)) = omega (arith, c .before .before .before .before .before .loop-test .taken, c .before .before .before .before .before .before .loop .inv .3) in (
       record { sized = accepted-sized (now (c .before .before .before .before .before .before .before .before .before .before .before .args .d)) (c .before .before .before .before .before .before .before .before .before .before .before .pre .0) (c .before .before .before .before .before .before .loop .k) low; fits = omega (arith, accepted-small (now (c .before .before .before .before .before .before .before .before .before .before .before .args .d)) (c .before .before .before .before .before .before .before .before .before .before .before .pre .0) (c .before .before .before .before .before .before .loop .k) low) },
       record { sizes = rw (c .before .before .before .before .before .before .loop .inv .1) (sizes-kept (now (c .before .before .before .before .before .before .before .before .before .before .before .args .d)) (now (c .before .before .before .before .before .before .before .before .before .before .before .args .table)) (c .before .before .before .before .before .before .before .before .before .before .before .pre .1) full (c .before .before .before .before .before .before .loop .k) (omega (arith, low))); right = c .before .before .finish .ensures },
     )
 
-mul-with-classes : tie.Need-mul-with-classes Inv-loop μ-loop
-mul-with-classes c = search needs
+mul-with-word : tie.Need-mul-with-word Inv-loop μ-loop
+mul-with-word c = search needs
 
-element-copy-out-with-classes : tie.Need-element-copy-out-with-classes Inv-loop μ-loop
-element-copy-out-with-classes c = omega (arith, c .before .before .before .before .before .before .before .before .before .before .before .before .pre .1 .few, c .before .before .before .before .before .before .loop-test .taken, c .before .before .before .before .before .before .before .loop .inv .3)
+element-copy-out-with-word : tie.Need-element-copy-out-with-word Inv-loop μ-loop
+element-copy-out-with-word c = omega (arith, c .before .before .before .before .before .before .before .before .before .before .before .before .pre .1 .few, c .before .before .before .before .before .before .loop-test .taken, c .before .before .before .before .before .before .before .loop .inv .3)
 
-with-classes-requires : tie.Need-with-classes-requires Inv-loop μ-loop
-with-classes-requires c κs = tt
+with-word-requires : tie.Need-with-word-requires Inv-loop μ-loop
+with-word-requires c κs = rw (c .before .word-at .ensures) (word-small _)
 
 mul-table : tie.Need-mul-table Inv-loop μ-loop
 mul-table c = search needs
@@ -73,7 +73,7 @@ loop-again c =
     let full : length (now (c .before .before .before .before .before .before .before .before .before .before .before .before .before .before .args .table)) ≡ 64 = sym (c .before .before .before .before .before .before .before .before .before .before .before .entries .ensures .1) ∙ c .before .before .before .before .before .before .before .before .before .before .before .entries .ensures .0 in
     let low : c .before .before .before .before .before .before .before .before .before .loop .k < typesIn (now (c .before .before .before .before .before .before .before .before .before .before .before .before .before .before .args .d)) = omega (arith, c .before .before .before .before .before .before .before .before .loop-test .taken, c .before .before .before .before .before .before .before .before .before .loop .inv .3) in
     let sizes : Sizes (now (c .before .before .before .before .before .before .before .before .before .before .before .before .before .before .args .d)) (typesIn (now (c .before .before .before .before .before .before .before .before .before .before .before .before .before .before .args .d))) (c .before .before .before .before .before .before .before .before .before .loop .table) = rw (c .before .before .before .before .before .before .before .before .before .loop .inv .1) (sizes-kept (now (c .before .before .before .before .before .before .before .before .before .before .before .before .before .before .args .d)) (now (c .before .before .before .before .before .before .before .before .before .before .before .before .before .before .args .table)) (c .before .before .before .before .before .before .before .before .before .before .before .before .before .before .pre .1) full (c .before .before .before .before .before .before .before .before .before .loop .k) (omega (arith, low))) in
-    (c .before .before .before .before .before .finish .ensures, full-more (now (c .before .before .before .before .before .before .before .before .before .before .before .before .before .before .args .d)) (now (c .before .before .before .before .before .before .before .before .before .before .before .before .before .before .args .table)) (c .before .before .before .before .before .before .before .before .before .loop .table) (c .before .before .before .before .before .before .before .before .before .loop .k) (c .with-classes .result) (c .before .before .before .before .before .before .before .before .before .loop .inv .1) (full-is (now (c .before .before .before .before .before .before .before .before .before .before .before .before .before .before .args .d)) (c .before .before .before .before .before .before .before .before .before .loop .table) sizes (c .before .before .before .before .before .before .before .before .before .loop .k) low (c .before .before .classes-of .result) (c .before .before .classes-of .ensures) (c .with-classes .result) (c .with-classes .ensures)), omega (arith, c .before .before .before .before .before .before .before .before .loop-test .taken), c .before .before .before .before .before .before .before .before .before .loop .inv .3)
+    (c .before .before .before .before .before .finish .ensures, full-more (now (c .before .before .before .before .before .before .before .before .before .before .before .before .before .before .args .d)) (now (c .before .before .before .before .before .before .before .before .before .before .before .before .before .before .args .table)) (c .before .before .before .before .before .before .before .before .before .loop .table) (c .before .before .before .before .before .before .before .before .before .loop .k) (c .with-word .result) (c .before .before .before .before .before .before .before .before .before .loop .inv .1) (full-is (now (c .before .before .before .before .before .before .before .before .before .before .before .before .before .before .args .d)) (c .before .before .before .before .before .before .before .before .before .loop .table) sizes (c .before .before .before .before .before .before .before .before .before .loop .k) low (c .before .before .word-at .result) (c .before .before .word-at .ensures) (c .with-word .result) (c .with-word .ensures)), omega (arith, c .before .before .before .before .before .before .before .before .loop-test .taken), c .before .before .before .before .before .before .before .before .before .loop .inv .3)
 
 returns : tie.Need-returns Inv-loop μ-loop
 returns c =
@@ -92,10 +92,10 @@ fill-classes-spec =
     byte-at-requires
     loop-holds
     finish-requires
-    classes-of-requires
-    mul-with-classes
-    element-copy-out-with-classes
-    with-classes-requires
+    word-at-requires
+    mul-with-word
+    element-copy-out-with-word
+    with-word-requires
     mul-table
     element-write-table
     add-k

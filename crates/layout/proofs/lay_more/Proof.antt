@@ -17,11 +17,11 @@ abbrev μ-loop : tie.MeasureT-loop
 loop-holds : tie.Need-loop-holds Inv-loop μ-loop
 loop-holds c = going-first (now (c .before .before .before .args .d)) (c .before .before .before .args .from) (c .before .before .before .args .to) _ _ (c .before .before .before .pre .0)
 
-place-argument-requires : tie.Need-place-argument-requires Inv-loop μ-loop
-place-argument-requires c κs = (going-asks (now (c .before .before .before .before .before .args .d)) (c .before .before .before .before .before .args .from) (c .before .before .before .before .before .args .to) _ _ (c .before .loop .used) (c .before .loop .values .0) (c .before .loop .i) (c .before .loop .inv) (c .loop-test .taken), c .before .before .before .before .before .pre .1)
+use-argument-requires : tie.Need-use-argument-requires Inv-loop μ-loop
+use-argument-requires c κs = (going-asks (now (c .before .before .before .before .before .args .d)) (c .before .before .before .before .before .args .from) (c .before .before .before .before .before .args .to) _ _ (c .before .loop .used) (c .before .loop .values .0) (c .before .loop .i) (c .before .loop .inv) (c .loop-test .taken), c .before .before .before .before .before .pre .1)
 
 plus-requires : tie.Need-plus-requires Inv-loop μ-loop
-plus-requires c κs = going-small (now (c .before .before .before .before .before .before .before .args .d)) (c .before .before .before .before .before .before .before .args .from) (c .before .before .before .before .before .before .before .args .to) _ _ (c .before .before .before .loop .used) (c .before .before .before .loop .values .0) (c .before .before .before .loop .i) (c .before .before .before .loop .inv) (c .before .place-argument .result) (c .before .place-argument .ensures) (c .before .before .loop-test .taken)
+plus-requires c κs = going-small (now (c .before .before .before .before .before .before .before .args .d)) (c .before .before .before .before .before .before .before .args .from) (c .before .before .before .before .before .before .before .args .to) _ _ (c .before .before .before .loop .used) (c .before .before .before .loop .values .0) (c .before .before .before .loop .i) (c .before .before .before .loop .inv) (c .before .use-argument .result) (c .before .use-argument .ensures) (c .before .before .loop-test .taken)
 
 add-i : tie.Need-add-i Inv-loop μ-loop
 add-i c = omega arith
@@ -30,7 +30,7 @@ loop-less : tie.Need-loop-less Inv-loop μ-loop
 loop-less c = omega arith
 
 loop-again : tie.Need-loop-again Inv-loop μ-loop
-loop-again c = going-next (now (c .before .before .before .before .before .before .before .before .before .args .d)) (c .before .before .before .before .before .before .before .before .before .args .from) (c .before .before .before .before .before .before .before .before .before .args .to) _ _ (c .before .before .before .before .before .loop .used) (c .before .before .before .before .before .loop .values .0) (c .before .before .before .before .before .loop .i) (c .before .before .before .before .before .loop .inv) (c .before .before .before .place-argument .result) (c .before .before .before .place-argument .ensures) (c .before .before .before .before .loop-test .taken) _ (c .before .plus .ensures)
+loop-again c = going-next (now (c .before .before .before .before .before .before .before .before .before .args .d)) (c .before .before .before .before .before .before .before .before .before .args .from) (c .before .before .before .before .before .before .before .before .before .args .to) _ _ (c .before .before .before .before .before .loop .used) (c .before .before .before .before .before .loop .values .0) (c .before .before .before .before .before .loop .i) (c .before .before .before .before .before .loop .inv) (c .before .before .before .use-argument .result) (c .before .before .before .use-argument .ensures) (c .before .before .before .before .loop-test .taken) _ (c .before .plus .ensures)
 
 returns : tie.Need-returns Inv-loop μ-loop
 returns c = going-last (now (c .before .before .before .before .before .args .d)) (c .before .before .before .before .before .args .from) (c .before .before .before .before .before .args .to) _ _ (c .before .loop .used) (c .before .loop .values .0) (c .before .loop .i) (c .before .loop .inv) (c .loop-test .left) _ refl refl
@@ -42,7 +42,7 @@ lay-more-spec =
     Inv-loop
     μ-loop
     loop-holds
-    place-argument-requires
+    use-argument-requires
     plus-requires
     add-i
     loop-less
