@@ -17,7 +17,8 @@ int main(void)
     cb_placed placed;
     cb_refusal refusal = cb_place_values(description, sizeof description, 0, values, sizeof values, registers, sizeof registers, stack, 0, &placed);
     if (refusal.number != CB_ACCEPTED) {
-        printf("refused: %s\n", cb_refusal_text(refusal));
+        char line[CB_REFUSAL_ROOM];
+        printf("refused %s\n", cb_refusal_line(refusal, line));
         return 1;
     }
     printf("rdi begins with %d, %zu vector register\n", registers[cb_register_offset(CB_RDI)], placed.vector_registers);

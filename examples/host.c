@@ -27,7 +27,8 @@ typedef struct call {
 static int refused(const char *what, cb_refusal refusal)
 {
     if (refusal.number != CB_ACCEPTED) {
-        printf("%s: refusal %u, %s\n", what, refusal.number, cb_refusal_text(refusal));
+        char line[CB_REFUSAL_ROOM];
+        printf("%s: refused %s\n", what, cb_refusal_line(refusal, line));
     }
     return refusal.number != CB_ACCEPTED;
 }

@@ -11,7 +11,8 @@
        cb_placement list[CB_MAX_ARGUMENTS];
        cb_refusal refusal = cb_lay_out(bytes, length, &layout, list, CB_MAX_ARGUMENTS);
        if (refusal.number != CB_ACCEPTED) {
-           puts(cb_refusal_text(refusal));
+           char line[CB_REFUSAL_ROOM];
+           puts(cb_refusal_line(refusal, line));
        }
 
    What a host must keep to:
@@ -34,8 +35,9 @@
 extern "C" {
 #endif
 
-/* The version of this interface. It counts up where a program must be built anew; compare it with cb_version(). */
-#define CB_VERSION 1
+/* The version of this interface. It counts up where a program must be built anew; compare it with cb_version(). In version 1 a
+   cb_refusal had no type. */
+#define CB_VERSION 2
 
 /* Sizes that the description's rules fix. */
 #define CB_MAX_ARGUMENTS 64      /* arguments of one call: a list of so many placements is always long enough */
@@ -73,9 +75,13 @@ enum cb_refusal_number {
     CB_OTHER_TYPE = 20
 };
 
-/* Why a call was refused: a number of enum cb_refusal_number, 0 for none. */
+/* Why a call was refused: a number of enum cb_refusal_number, 0 for none.
+   For CB_WRONG_TYPE_RECORD and CB_TYPE_TOO_LARGE, whichever call passes them on, type is the lowest number of a type that breaks that
+   rule; for every other refusal, and where the call did its work, it is 0. Type 0 may be the one that breaks it: look at the number,
+   or ask cb_refusal_names_type, and never whether type is 0. */
 typedef struct cb_refusal {
     uint8_t number;
+    uint8_t type;
 } cb_refusal;
 
 /* ---- types */
@@ -239,7 +245,7 @@ cb_refusal cb_layout_of(const uint8_t *description, size_t description_length, c
 cb_refusal cb_lay_out(const uint8_t *description, size_t description_length, cb_layout *layout, cb_placement *list, size_t list_length);
 
 /* The layout as text, without a final 0, at the start of a buffer of CB_LISTING_ROOM bytes; the bytes behind it stay. Answers the
-   text's length. A description that is refused gives the line `refused n`. */
+   text's length. A description that is refused gives the line `refused n`, or `refused n type t` where the refusal names a type. */
 size_t cb_write_listing(const uint8_t *description, size_t description_length, uint8_t *out);
 
 /* ---- calls: moving bytes */
@@ -360,6 +366,51 @@ static inline const char *cb_refusal_text(cb_refusal refusal)
         "the argument is of another type"
     };
     return refusal.number < 21 ? texts[refusal.number] : "no refusal of this library";
+}
+
+/* 1 where the refusal's `type` is the number of a type, else 0. */
+static inline int cb_refusal_names_type(cb_refusal refusal)
+{
+    return refusal.number == CB_WRONG_TYPE_RECORD || refusal.number == CB_TYPE_TOO_LARGE;
+}
+
+/* Bytes of the buffer of cb_refusal_line: the longest line and its final 0 have fewer. */
+#define CB_REFUSAL_ROOM 128
+
+/* Writes text, and a number in decimal; they answer where the next byte goes. For cb_refusal_line alone. */
+static inline char *cb_write_text(char *at, const char *text)
+{
+    while (*text != 0) {
+        *at++ = *text++;
+    }
+    return at;
+}
+
+static inline char *cb_write_number(char *at, uint8_t number)
+{
+    if (number >= 100) {
+        *at++ = (char)('0' + number / 100);
+    }
+    if (number >= 10) {
+        *at++ = (char)('0' + number / 10 % 10);
+    }
+    *at++ = (char)('0' + number % 10);
+    return at;
+}
+
+/* Number, meaning and, where the refusal names one, type, as "6: a type record is against the rules, type 12", with a final 0, into a
+   buffer of CB_REFUSAL_ROOM bytes. Answers the buffer. */
+static inline char *cb_refusal_line(cb_refusal refusal, char *line)
+{
+    char *at = cb_write_number(line, refusal.number);
+    at = cb_write_text(at, ": ");
+    at = cb_write_text(at, cb_refusal_text(refusal));
+    if (cb_refusal_names_type(refusal)) {
+        at = cb_write_text(at, ", type ");
+        at = cb_write_number(at, refusal.type);
+    }
+    *at = 0;
+    return line;
 }
 
 #ifdef __cplusplus

@@ -1,6 +1,7 @@
 /* Whether the structs of include/callbridge.h are those of the library. Each struct is lent with guard bytes behind it, the library fills it,
    and each field is read back by its name: a field that stood elsewhere would hold another number, a struct that was longer would have
    its guard overwritten. No function of the library tells its own sizes; it is looked at as a host looks at it.
+   And whether each call that passes on that a type is wrong tells which.
    Prints each struct's size and offsets; the last line is `ok` where everything agrees. */
 #include "callbridge.h"
 
@@ -55,6 +56,7 @@ static void guarded(const char *what, const uint8_t *guard, size_t size)
 static void answered(const char *what, cb_refusal refusal)
 {
     expect(what, refusal.number, 0);
+    expect(what, refusal.type, 0);
 }
 
 static void questions(void)
@@ -214,16 +216,125 @@ static void walks(void)
            offsetof(cb_walk, position), offsetof(cb_walk, general), offsetof(cb_walk, vector), offsetof(cb_walk, overflow));
 }
 
+static void told(const char *what, cb_refusal is, uint8_t number, uint8_t type)
+{
+    expect(what, is.number, number);
+    expect(what, is.type, type);
+}
+
+#define TYPES 40
+#define INTS (11 + 4 * TYPES + 2)
+
+static const uint8_t right[4] = {0, 3, 0, 0};   /* int */
+static const uint8_t broken[4] = {4, 0, 0, 0};  /* no kind */
+static const uint8_t large[4] = {1, 0, 0, 16};  /* an array of 4096 ints */
+
+/* void f(int, ...), called with two ints: forty types, all int */
+static void describe(uint8_t *description)
+{
+    static const uint8_t head[11] = {'K', 'C', 'B', 1, 0, TYPES, 1, 1, 2, 255, 0};
+    memcpy(description, head, 11);
+    for (size_t i = 0; i < TYPES; i++) {
+        memcpy(description + 11 + 4 * i, right, 4);
+    }
+    memset(description + 11 + 4 * TYPES, 0, 2);
+}
+
+static void replace(uint8_t *description, size_t type, const uint8_t *record)
+{
+    memcpy(description + 11 + 4 * type, record, 4);
+}
+
+/* The calls that take a description. */
+static void told_of_description(const uint8_t *bad, uint8_t number, uint8_t type)
+{
+    cb_extent extent;
+    cb_classes classes;
+    cb_part run;
+    cb_layout whole;
+    cb_placement list[2];
+    cb_placed placed;
+    cb_gathered gathered;
+    uint8_t bytes[8] = {0}, registers[CB_REGISTER_IMAGE], stack[1], image[CB_RETURN_IMAGE];
+    told("cb_check", cb_check(bad, INTS), number, type);
+    told("cb_type_extent", cb_type_extent(bad, INTS, 0, &extent), number, type);
+    told("cb_type_classes", cb_type_classes(bad, INTS, 0, &classes), number, type);
+    told("cb_member_run", cb_member_run(bad, INTS, 0, &run), number, type);
+    told("cb_layout_of", cb_layout_of(bad, INTS, &whole), number, type);
+    told("cb_lay_out", cb_lay_out(bad, INTS, &whole, list, 2), number, type);
+    told("cb_place_values", cb_place_values(bad, INTS, 0, bytes, 8, registers, sizeof registers, stack, 0, &placed), number, type);
+    memset(registers, 0, sizeof registers);
+    told("cb_gather_values", cb_gather_values(bad, INTS, registers, sizeof registers, stack, 0, bytes, 8, &gathered), number, type);
+    told("cb_put_returned", cb_put_returned(bad, INTS, 0, bytes, 0, image, sizeof image), number, type);
+    memset(image, 0, sizeof image);
+    told("cb_take_returned", cb_take_returned(bad, INTS, image, sizeof image, bytes, 0, &gathered), number, type);
+}
+
+/* The calls on a station: attach, and those that read the seat, in which the bytes are spoilt behind the library's back. */
+static void told_of_seat(const uint8_t *bad, uint8_t number, uint8_t type)
+{
+    uint8_t good[INTS], seat[CB_SEAT_LENGTH], registers[CB_REGISTER_IMAGE] = {0}, stack[1] = {0}, out[4];
+    cb_station station = cb_new_station();
+    cb_walk walk;
+    cb_part part;
+    describe(good);
+    memset(seat, 0, sizeof seat);
+    told("cb_attach", cb_attach(&station, seat, sizeof seat, bad, INTS), number, type);
+    answered("cb_attach", cb_attach(&station, seat, sizeof seat, good, INTS));
+    answered("cb_open_walk", cb_open_walk(&station, seat, sizeof seat, &walk));
+    memcpy(seat, bad, INTS);
+    told("cb_step", cb_step(&station, seat, sizeof seat, &walk, registers, sizeof registers, stack, 0, 0, out, 4), number, type);
+    told("cb_show", cb_show(&station, seat, sizeof seat, &walk, registers, sizeof registers, stack, 0, 0, &part), number, type);
+    told("cb_open_walk", cb_open_walk(&station, seat, sizeof seat, &walk), number, type);
+}
+
+static void told_everywhere(const uint8_t *bad, uint8_t number, uint8_t type)
+{
+    uint8_t text[CB_LISTING_ROOM];
+    char should[32], line[CB_REFUSAL_ROOM];
+    cb_refusal refusal = cb_check(bad, INTS);
+    told_of_description(bad, number, type);
+    told_of_seat(bad, number, type);
+    size_t length = cb_write_listing(bad, INTS, text);
+    snprintf(should, sizeof should, "refused %d type %d\n", number, type);
+    if (length != strlen(should) || memcmp(text, should, length) != 0) {
+        printf("the listing is %.*s, should be %s", (int)length, (const char *)text, should);
+        wrong = 1;
+    }
+    printf("refused %s\n", cb_refusal_line(refusal, line));
+}
+
+/* The lowest type that breaks the rule: 6 before 7, whichever type is lower; type 0 is one like the others. */
+static void broken_types(void)
+{
+    uint8_t description[INTS];
+    describe(description);
+    replace(description, 39, large);
+    replace(description, 12, large);
+    told_everywhere(description, CB_TYPE_TOO_LARGE, 12);
+    replace(description, 39, broken);
+    told_everywhere(description, CB_WRONG_TYPE_RECORD, 39);
+    replace(description, 12, broken);
+    told_everywhere(description, CB_WRONG_TYPE_RECORD, 12);
+    replace(description, 0, broken);
+    told_everywhere(description, CB_WRONG_TYPE_RECORD, 0);
+    told("cb_check of a byte less", cb_check(description, INTS - 1), CB_WRONG_LENGTH, 0);
+    describe(description);
+    description[INTS - 1] = TYPES;
+    told("cb_check of type 40", cb_check(description, INTS), CB_WRONG_TYPE_NUMBER, 0);
+}
+
 int main(void)
 {
     expect("cb_version()", cb_version(), CB_VERSION);
-    expect("cb_check(nothing)", cb_check(mixed, 0).number, CB_TOO_SHORT);
-    printf("cb_refusal %zu: number %zu\n", sizeof(cb_refusal), offsetof(cb_refusal, number));
+    told("cb_check(nothing)", cb_check(mixed, 0), CB_TOO_SHORT, 0);
+    printf("cb_refusal %zu: number %zu type %zu\n", sizeof(cb_refusal), offsetof(cb_refusal, number), offsetof(cb_refusal, type));
     questions();
     layouts();
     lists();
     moves();
     walks();
+    broken_types();
     if (!wrong) {
         printf("ok\n");
     }

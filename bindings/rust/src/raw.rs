@@ -3,11 +3,13 @@
 //! What a caller must keep to stands in the header: buffers with their own lengths, none of which
 //! overlap where one is written to, and no null pointer.
 
-/// Why a call was refused, number 0 for none.
+/// Why a call was refused, number 0 for none. `type_number` is a type's where `number` is 6 or 7, and 0
+/// otherwise.
 #[repr(C)]
 #[derive(Clone, Copy, Debug, PartialEq, Eq)]
 pub struct Refusal {
     pub number: u8,
+    pub type_number: u8,
 }
 
 #[repr(C)]

@@ -4,9 +4,12 @@ use crate::raw;
 use std::fmt;
 use std::num::NonZeroU8;
 
-/// The number of a refusal, 1 to 20.
+/// The number of a refusal, 1 to 20, and for 6 and 7 the type that is wrong.
 #[derive(Clone, Copy, PartialEq, Eq, Hash)]
-pub struct Refusal(NonZeroU8);
+pub struct Refusal {
+    number: NonZeroU8,
+    type_number: u8,
+}
 
 /// In the order of their numbers; the header has the same.
 const TEXTS: [&str; 20] = [
@@ -37,7 +40,13 @@ impl Refusal {
     pub const TEXTS: [&'static str; 20] = TEXTS;
 
     pub fn number(self) -> u8 {
-        self.0.get()
+        self.number.get()
+    }
+
+    /// The lowest number of a type that breaks the rule: of 6, a type record, or of 7, a type's size.
+    /// None for the other refusals.
+    pub fn type_number(self) -> Option<u8> {
+        matches!(self.number(), 6 | 7).then_some(self.type_number)
     }
 
     /// What it means, in a line.
@@ -49,20 +58,27 @@ impl Refusal {
     pub(crate) fn of(answer: raw::Refusal) -> Result<(), Refusal> {
         match NonZeroU8::new(answer.number) {
             None => Ok(()),
-            Some(number) => Err(Refusal(number)),
+            Some(number) => Err(Refusal { number, type_number: answer.type_number }),
         }
     }
 }
 
 impl fmt::Display for Refusal {
     fn fmt(&self, formatter: &mut fmt::Formatter<'_>) -> fmt::Result {
-        write!(formatter, "refused {}: {}", self.number(), self.text())
+        write!(formatter, "refused {}: {}", self.number(), self.text())?;
+        match self.type_number() {
+            Some(number) => write!(formatter, ", type {number}"),
+            None => Ok(()),
+        }
     }
 }
 
 impl fmt::Debug for Refusal {
     fn fmt(&self, formatter: &mut fmt::Formatter<'_>) -> fmt::Result {
-        write!(formatter, "Refusal({})", self.number())
+        match self.type_number() {
+            Some(number) => write!(formatter, "Refusal({}, type {number})", self.number()),
+            None => write!(formatter, "Refusal({})", self.number()),
+        }
     }
 }
 

@@ -76,7 +76,7 @@ pub fn members(description: &[u8], type_number: u8) -> Result<&[u8], Refusal> {
     Ok(&description[run.offset..run.offset + run.length])
 }
 
-/// The layout as text, or the line `refused n`.
+/// The layout as text, or the line `refused n`, or `refused n type t` where the refusal names a type.
 pub fn listing(description: &[u8]) -> String {
     let mut out = [0u8; 4096];
     // Safety: pointer and length are those of one slice; `out` has the 4096 bytes that the call wants.

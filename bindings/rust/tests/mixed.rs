@@ -40,6 +40,41 @@ fn questions_about_types() {
     assert_eq!(callbridge::extent(MIXED, 6).map_err(number), Err(8));
 }
 
+/// The example with other records for some of its types.
+fn with_records(records: &[(usize, [u8; 4])]) -> Vec<u8> {
+    let mut description = MIXED.to_vec();
+    for (number, record) in records {
+        description[11 + 4 * number..][..4].copy_from_slice(record);
+    }
+    description
+}
+
+#[test]
+fn a_refusal_says_which_type_is_wrong() {
+    let (no_kind, large) = ([4, 0, 0, 0], [1, 0, 0, 16]);
+    let cases = [
+        (with_records(&[(5, no_kind), (0, no_kind)]), 6, 0),
+        (with_records(&[(5, no_kind), (3, no_kind)]), 6, 3),
+        (with_records(&[(5, no_kind), (2, large)]), 6, 5),
+        (with_records(&[(5, large), (2, large)]), 7, 2),
+    ];
+    for (bytes, number, type_number) in cases {
+        let refusal = callbridge::check(&bytes).unwrap_err();
+        assert_eq!((refusal.number(), refusal.type_number()), (number, Some(type_number)));
+        let line = format!("refused {number}: {}, type {type_number}", refusal.text());
+        assert_eq!(refusal.to_string(), line);
+        assert_eq!(callbridge::listing(&bytes), format!("refused {number} type {type_number}\n"));
+        assert_eq!(callbridge::extent(&bytes, 1), Err(refusal));
+        assert_eq!(callbridge::classes(&bytes, 1), Err(refusal));
+        assert_eq!(callbridge::members(&bytes, 1), Err(refusal));
+        assert_eq!(callbridge::lay_out(&bytes), Err(refusal));
+        assert_eq!(Station::new().attach(&bytes), Err(refusal));
+    }
+    let refusal = callbridge::extent(MIXED, 6).unwrap_err();
+    assert_eq!((refusal.number(), refusal.type_number()), (8, None));
+    assert_eq!(refusal.to_string(), format!("refused 8: {}", refusal.text()));
+}
+
 #[test]
 fn places() {
     let (layout, placements) = callbridge::lay_out(MIXED).unwrap();

@@ -3,8 +3,7 @@ use form::Refusal;
 use station::Station;
 use units::Bytes;
 ghost use mathlib.Core.Path.{_≡_};
-ghost use Rattle.form.specs.Reading.{refusalOf};
-ghost use Rattle.station.specs.Paper.{kcb};
+ghost use Rattle.station.specs.Paper.{kcb, refusalUnder};
 ghost use Rattle.station.specs.Attachment.{attachRefusal, attachStation, attachSeat};
 
 // The station after an attach, and the refusal, number 0 for none.
@@ -15,7 +14,7 @@ pub struct Attached {
 
 // Which of 11, 14, 15, 1..10 refuses an attach.
 fn attach_refusal(station: Station, seat: &[u8], d: &[u8]) -> Refusal
-    ensures { λ r. ⌜ r ≡ refusalOf (attachRefusal kcb station (now (seat .entry)) (now (d .entry))) ⌝ }
+    ensures { λ r. ⌜ r ≡ refusalUnder kcb (now (d .entry)) (attachRefusal kcb station (now (seat .entry)) (now (d .entry))) ⌝ }
 {
     if station::wrong_seat(station, seat) {
         return form::refusal_of(11);
@@ -31,7 +30,7 @@ fn attach_refusal(station: Station, seat: &[u8], d: &[u8]) -> Refusal
 
 // Attaches, by value: the station counts up and the seat is filled, or both stay.
 pub fn attaching(station: Station, seat: &mut [u8], d: &[u8]) -> Attached
-    ensures { λ r. ⌜ (r .refusal ≡ refusalOf (attachRefusal kcb station (now (seat .entry)) (now (d .entry))))
+    ensures { λ r. ⌜ (r .refusal ≡ refusalUnder kcb (now (d .entry)) (attachRefusal kcb station (now (seat .entry)) (now (d .entry))))
         × (r .station ≡ attachStation kcb station (now (seat .entry)) (now (d .entry)))
         × (now (seat .exit) ≡ attachSeat kcb station (now (seat .entry)) (now (d .entry))) ⌝ }
 {
@@ -55,7 +54,7 @@ pub fn attaching(station: Station, seat: &mut [u8], d: &[u8]) -> Attached
 
 // Attaches to the station and the seat that the host lends.
 pub fn attach(station: &mut Station, seat: &mut [u8], d: &[u8]) -> Refusal
-    ensures { λ r. ⌜ (r ≡ refusalOf (attachRefusal kcb (now (station .entry)) (now (seat .entry)) (now (d .entry))))
+    ensures { λ r. ⌜ (r ≡ refusalUnder kcb (now (d .entry)) (attachRefusal kcb (now (station .entry)) (now (seat .entry)) (now (d .entry))))
         × (now (station .exit) ≡ attachStation kcb (now (station .entry)) (now (seat .entry)) (now (d .entry)))
         × (now (seat .exit) ≡ attachSeat kcb (now (station .entry)) (now (seat .entry)) (now (d .entry))) ⌝ }
 {

@@ -16,6 +16,7 @@ ghost use Prim.Native.Nat.{_≤_};
 ghost use lib.ListN.{length, drop};
 ghost use Rattle.description.specs.Description.{argumentsIn};
 ghost use Rattle.form.specs.Reading.{refusalOf};
+ghost use Rattle.types.specs.Wrong.{refusalFor};
 ghost use Rattle.questions.specs.Questions.{extentAnswer};
 ghost use Rattle.questions.specs.Runs.{classesAnswer, runAnswer};
 ghost use Rattle.layout.specs.Layout.{layoutAnswer};
@@ -23,8 +24,8 @@ ghost use Rattle.lists.specs.Lists.{listCount, filled};
 ghost use Rattle.layout.specs.Verdict.{verdict};
 ghost use Rattle.moving.specs.Answers.{placeAnswer, registersAfter, stackAfter, gatherAnswer, valuesAfter};
 ghost use Rattle.returning.specs.Answers.{putAnswer, imageAfter, takeAnswer, valueAfter};
-ghost use Rattle.station.specs.Paper.{kcb};
-ghost use Rattle.station.specs.Attachment.{newStation, attachRefusal, attachStation, attachSeat, detachRefusal, detachStation, detachSeat};
+ghost use Rattle.station.specs.Paper.{kcb, refusalUnder};
+ghost use Rattle.station.specs.Attachment.{newStation, described, attachRefusal, attachStation, attachSeat, detachRefusal, detachStation, detachSeat};
 ghost use Rattle.walk.specs.Orders.{asking, stepRefusal};
 ghost use Rattle.walk.specs.Steps.{openAnswer, stepWalk, stepOut};
 ghost use Rattle.show.specs.Show.{shownAnswer};
@@ -39,15 +40,15 @@ ghost use Rattle.listed.specs.Lists.{listGiven, flatAt};
 // CB_VERSION.
 #[no_mangle]
 pub extern "C" fn cb_version() -> u32
-    ensures { λ r. ⌜ r ≡ 1 ⌝ }
+    ensures { λ r. ⌜ r ≡ 2 ⌝ }
 {
-    1
+    2
 }
 
 // The verdict on a description.
 #[no_mangle]
 pub extern "C" fn cb_check(d: &[u8]) -> Refusal
-    ensures { λ r. ⌜ r ≡ refusalOf (verdict (now (d .entry))) ⌝ }
+    ensures { λ r. ⌜ r ≡ refusalFor (now (d .entry)) (verdict (now (d .entry))) ⌝ }
 {
     layout::check(d)
 }
@@ -201,7 +202,7 @@ pub extern "C" fn cb_new_station() -> Station
 // The description into the seat.
 #[no_mangle]
 pub extern "C" fn cb_attach(station: &mut Station, seat: &mut [u8], d: &[u8]) -> Refusal
-    ensures { λ r. ⌜ (r ≡ refusalOf (attachRefusal kcb (now (station .entry)) (now (seat .entry)) (now (d .entry))))
+    ensures { λ r. ⌜ (r ≡ refusalUnder kcb (now (d .entry)) (attachRefusal kcb (now (station .entry)) (now (seat .entry)) (now (d .entry))))
         × (now (station .exit) ≡ attachStation kcb (now (station .entry)) (now (seat .entry)) (now (d .entry)))
         × (now (seat .exit) ≡ attachSeat kcb (now (station .entry)) (now (seat .entry)) (now (d .entry))) ⌝ }
 {
@@ -244,7 +245,7 @@ pub extern "C" fn cb_step(
     asked: u8,
     out: &mut [u8],
 ) -> Refusal
-    ensures { λ r. ⌜ (r ≡ refusalOf (stepRefusal kcb (now (station .entry)) (now (seat .entry)) (now (walk .entry)) (asking (now (registers .entry)) (now (stack .entry)) asked (now (out .entry)))))
+    ensures { λ r. ⌜ (r ≡ refusalUnder kcb (described (now (station .entry)) (now (seat .entry))) (stepRefusal kcb (now (station .entry)) (now (seat .entry)) (now (walk .entry)) (asking (now (registers .entry)) (now (stack .entry)) asked (now (out .entry)))))
         × (now (walk .exit) ≡ stepWalk kcb (now (station .entry)) (now (seat .entry)) (now (walk .entry)) (asking (now (registers .entry)) (now (stack .entry)) asked (now (out .entry))))
         × (now (out .exit) ≡ stepOut kcb (now (station .entry)) (now (seat .entry)) (now (walk .entry)) (asking (now (registers .entry)) (now (stack .entry)) asked (now (out .entry)))) ⌝ }
 {

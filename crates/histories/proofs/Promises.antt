@@ -15,7 +15,7 @@ use Rattle.form.specs.Reading.{refusalOf}
 use Rattle.station.specs.declared.Station.{Station}
 use Rattle.station.specs.Paper.{Paper, arguments}
 use Rattle.station.specs.Attachment.{wrongSeat, described, detachRefusal}
-use Rattle.station.proofs.Attachments.{detach-right, detach-done, attach-last, attach-judged, attach-done}
+use Rattle.station.proofs.Attachments.{under-high, detach-right, detach-done, attach-last, attach-judged, attach-done}
 use Rattle.walk.specs.declared.Walk.{Walk}
 use Rattle.walk.specs.declared.OpenAnswer.the-variants.{Opened, Refused as OpenRefused}
 use Rattle.walk.specs.Orders.{Ask, standing, openRefusal, wrongStack, wrongOut, stepRefusal, showRefusal}
@@ -61,7 +61,7 @@ open-answered : (P : Paper) (s : Station) (seat : List ℕ) (b : Bool) (w : Walk
     → openAnswer P s seat ≡ cond b (Opened w) (OpenRefused (refusalOf 16))
 unfolding openAnswer openedIf
 open-answered P s seat true w e f = rw (e, f)
-open-answered P s seat false w e f = rw e
+open-answered P s seat false w e f = rw e (ap OpenRefused (under-high P _ 16 (omega arith)))
 
 flip : (b : Bool) → cond b 0 16 ≡ first (rule 16 (not b) ∷ [])
 flip true = refl

@@ -34,8 +34,10 @@ fn print_number(text: &[u8], n: u64) {
     io::print_decimal(STDOUT_FILENO, n);
 }
 
+// The number, and the type that breaks the rule of 6 or 7, which is 0 for the others; both are 0 for an accepted call.
 fn print_refusal(text: &[u8], refusal: Refusal) {
     print_number(text, refusal.number as u64);
+    print_number(b" ", refusal.ty as u64);
 }
 
 // A digit in base 16.
@@ -365,7 +367,7 @@ fn open(state: State, seat: &[u8]) -> State {
     match answer {
         OpenAnswer::Opened(walk) => {
             let next = with_walk(state, slot, walk);
-            print(b"open 0");
+            print(b"open 0 0");
             print_slot(next, slot);
             next
         }

@@ -7,7 +7,7 @@ use Prim.Native.Nat.{ℕ, _+_, _<_}
 use lib.Dec.{ltb}
 use lib.ListN.{length, getD}
 use Rattle.description.specs.Description.{argumentsIn, kindAt, aAt, countAt, memberStart}
-use Rattle.form.specs.Reading.{refusalOf}
+use Rattle.types.specs.Wrong.{refusalFor}
 use Rattle.types.specs.Decode.{tyAt}
 use Rattle.classes.specs.declared.Class.the-variants.{NoClass}
 use Rattle.classes.specs.Classes.{codeOf}
@@ -43,18 +43,18 @@ use Rattle.handed.specs.Handed.{placedGiven, gatheredGiven}
 use Rattle.walked.specs.Walked.{ofRegisters, ofStack, openGiven, shownGiven}
 use Rattle.listed.specs.Lists.{flatAt, listGiven}
 
--- a call answers the number n; it leaves the new record where n is 0, and where it is not the record that was lent
-pub record Tells {A : Type 0} (o : Outcome A) (n : ℕ) (new : A) : Type 0 where
-  pub number : refusalIn o ≡ refusalOf n
+-- a call about the description d answers the number n, with the type that it names; it leaves the new record where n is 0, and where it is not the record that was lent
+pub record Tells {A : Type 0} (o : Outcome A) (d : List ℕ) (n : ℕ) (new : A) : Type 0 where
+  pub refusal : refusalIn o ≡ refusalFor d n
   pub left : (old : A) → leftIn o old ≡ leaves n new old
 
 -- cb_type_extent, cb_type_classes, cb_member_run
 abbrev pub ExtentTold : Type 0
-ExtentTold = (d : List ℕ) (t : ℕ) → Tells (extentGiven (extentAnswer d t)) (questionRefusal d t) (extentOf (tyAt d t))
+ExtentTold = (d : List ℕ) (t : ℕ) → Tells (extentGiven (extentAnswer d t)) d (questionRefusal d t) (extentOf (tyAt d t))
 
 abbrev pub ClassesTold : Type 0
 ClassesTold = (d : List ℕ) (t : ℕ)
-    → Tells (classesGiven (classesAnswer d t)) (questionRefusal d t)
+    → Tells (classesGiven (classesAnswer d t)) d (questionRefusal d t)
     (record { first = codeOf (getD (classesOf (tyAt d t)) 0 NoClass); second = codeOf (getD (classesOf (tyAt d t)) 1 NoClass) })
 
 -- "or as the empty part for .. another kind"
@@ -62,27 +62,27 @@ unfoldable pub runOf : List ℕ → ℕ → Part
 runOf d t = cond (ltb (kindAt d t) 2) nowhere (ofDescription (record { 0 = memberStart d + aAt d t }) (record { 0 = countAt d t }))
 
 abbrev pub RunTold : Type 0
-RunTold = (d : List ℕ) (t : ℕ) → Tells (runGiven (runAnswer d t)) (questionRefusal d t) (runOf d t)
+RunTold = (d : List ℕ) (t : ℕ) → Tells (runGiven (runAnswer d t)) d (questionRefusal d t) (runOf d t)
 
 -- cb_layout_of, cb_lay_out
 abbrev pub LayoutTold : Type 0
-LayoutTold = (d : List ℕ) → Tells (layoutGiven (argumentsIn d) (layoutAnswer d)) (verdict d) (layoutOf (wholeOf d) (argumentsIn d))
+LayoutTold = (d : List ℕ) → Tells (layoutGiven (argumentsIn d) (layoutAnswer d)) d (verdict d) (layoutOf (wholeOf d) (argumentsIn d))
 
 abbrev pub ListTold : Type 0
-ListTold = (d : List ℕ) (room : ℕ) → Tells (listGiven d room) (listRefusal d room) (layoutOf (wholeOf d) (argumentsIn d))
+ListTold = (d : List ℕ) (room : ℕ) → Tells (listGiven d room) d (listRefusal d room) (layoutOf (wholeOf d) (argumentsIn d))
 
 -- cb_place_values, cb_gather_values
 abbrev pub PlacedTold : Type 0
 PlacedTold = (d vals : List ℕ) (registers stack : ℕ)
-    → Tells (placedGiven (placeAnswer d vals registers stack)) (placeRefusal d vals registers stack) (record { vector = usedAt d (argumentsIn d) .vector })
+    → Tells (placedGiven (placeAnswer d vals registers stack)) d (placeRefusal d vals registers stack) (record { vector = usedAt d (argumentsIn d) .vector })
 
 abbrev pub GatheredTold : Type 0
 GatheredTold = (d r s : List ℕ) (values : ℕ)
-    → Tells (gatheredGiven (gatherAnswer d r s values)) (gatherRefusal d values (length r) (length s)) (record { hidden = hiddenIn d (r ++ s) })
+    → Tells (gatheredGiven (gatherAnswer d r s values)) d (gatherRefusal d values (length r) (length s)) (record { hidden = hiddenIn d (r ++ s) })
 
 -- cb_open_walk, cb_show
 abbrev pub OpenTold : Type 0
-OpenTold = (s : Station) (seat : List ℕ) → Tells (openGiven (openAnswer kcb s seat)) (openRefusal kcb s seat) (openWalk kcb s seat)
+OpenTold = (s : Station) (seat : List ℕ) → Tells (openGiven (openAnswer kcb s seat)) (described s seat) (openRefusal kcb s seat) (openWalk kcb s seat)
 
 -- the part that shows an argument
 abbrev pub partOf : ShownAnswer → Part
@@ -93,7 +93,7 @@ partOf (Refused r) = nowhere
 
 abbrev pub ShownTold : Type 0
 ShownTold = (s : Station) (seat : List ℕ) (w : Walk) (a : Ask)
-    → Tells (shownGiven (shownAnswer kcb s seat w a)) (showRefusal kcb s seat w a) (partOf (shownIn kcb (described s seat) w))
+    → Tells (shownGiven (shownAnswer kcb s seat w a)) (described s seat) (showRefusal kcb s seat w a) (partOf (shownIn kcb (described s seat) w))
 
 -- the entries of an accepted list mean the layout's placements, and the summary means the layout
 abbrev pub ListMeans : Type 0

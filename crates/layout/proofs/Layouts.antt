@@ -11,6 +11,8 @@ use Rattle.units.specs.Raise.{raise}
 use Rattle.description.specs.Description.{typesIn, namedIn, argumentsIn}
 use Rattle.form.specs.declared.Refusal.{Refusal}
 use Rattle.form.specs.Reading.{refusalOf}
+use Rattle.types.specs.Wrong.{refusalFor}
+use Rattle.types.proofs.Wrong.{no-type}
 use Rattle.types.specs.Table.{filled, sizesAfter}
 use Rattle.classify.specs.Table.{fullEntry}
 use Rattle.uses.specs.Uses.{usesRefusal}
@@ -24,7 +26,7 @@ use Rattle.places.proofs.Prefix.{total-append}
 use Rattle.layout.specs.Arguments.{shapesFrom, shapes, returnPlace, hidden, usedFirst, usedAt, areaOf}
 use Rattle.layout.specs.Asks.{Before, AskArguments, IsLaid}
 use Rattle.layout.specs.Verdict.{verdict}
-use Rattle.layout.specs.Layout.{valuesOf, layoutOf, layoutAnswer, tableAfter}
+use Rattle.layout.specs.Layout.{valuesOf, layoutOf, layoutAnswer, refusalIn, tableAfter}
 use Rattle.layout.specs.declared.LayoutAnswer.the-variants.{Laid, Refused}
 use Rattle.layout.specs.declared.Layout.{Layout}
 use Rattle.layout.specs.declared.Laying.{Laying}
@@ -128,15 +130,15 @@ module _ (d : List ℕ) where
       λ i. record { used = u i; area = record { 0 = area i }; values = record { 0 = v i }; returns = p i; hidden = q i; named = n i }
 
 -- the answer
-answered : (d : List ℕ) (b : Bool) → eqb (verdict d) 0 ≡ b → layoutAnswer d ≡ cond b (Laid (layoutOf d)) (Refused (refusalOf (verdict d)))
+answered : (d : List ℕ) (b : Bool) → eqb (verdict d) 0 ≡ b → layoutAnswer d ≡ cond b (Laid (layoutOf d)) (Refused (refusalFor d (verdict d)))
 unfolding layoutAnswer
 answered d b e = rw e
 
 pub answer-laid : (d : List ℕ) (l : Layout) → l ≡ layoutOf d → verdict d ≡ 0 → Laid l ≡ layoutAnswer d
 answer-laid d l e v = ap Laid e ∙ sym (answered d true (eq-eqb (verdict d) 0 v))
 
-pub answer-refused : (d : List ℕ) (n : ℕ) (r : Refusal) → r ≡ refusalOf n → verdict d ≡ n → (n ≡ 0 → ⊥) → Refused r ≡ layoutAnswer d
-answer-refused d n r e v z = ap Refused (e ∙ ap refusalOf (sym v)) ∙ sym (answered d false (ne-eqb (verdict d) 0 (λ q. z (sym v ∙ q))))
+pub answer-refused : (d : List ℕ) (n : ℕ) (r : Refusal) → r ≡ refusalFor d n → verdict d ≡ n → (n ≡ 0 → ⊥) → Refused r ≡ layoutAnswer d
+answer-refused d n r e v z = ap Refused (e ∙ ap (refusalFor d) (sym v)) ∙ sym (answered d false (ne-eqb (verdict d) 0 (λ q. z (sym v ∙ q))))
 
 -- by the area that was found
 module _ (d : List ℕ) (right : usesRefusal d ≡ 0) (l : Layout) (is : l ≡ layoutOf d) where
@@ -145,7 +147,7 @@ module _ (d : List ℕ) (right : usesRefusal d ≡ 0) (l : Layout) (is : l ≡ l
   area-is = ap (λ (k : Layout). k .area .0) is
 
   pub answer-wide : (r : Refusal) → r ≡ refusalOf 10 → ltb 16384 (l .area .0) ≡ true → Refused r ≡ layoutAnswer d
-  answer-wide r e h = answer-refused d 10 r e (ten d right (omega (arith, area-is, ltb-true 16384 (l .area .0) h))) (λ z. omega arith)
+  answer-wide r e h = answer-refused d 10 r (e ∙ sym (no-type d 10 refl refl)) (ten d right (omega (arith, area-is, ltb-true 16384 (l .area .0) h))) (λ z. omega arith)
 
   pub answer-small : ltb 16384 (l .area .0) ≡ false → Laid l ≡ layoutAnswer d
   answer-small h = answer-laid d l is (no-ten d right (omega (arith, area-is, ltb-false 16384 (l .area .0) h)))
@@ -156,14 +158,22 @@ laid-accepted d l e = by (eqb (verdict d) 0) refl
   where
     by : (b : Bool) → eqb (verdict d) 0 ≡ b → (verdict d ≡ 0) × (l ≡ layoutOf d)
     by true q = (eqb-true (verdict d) 0 q, let z : Laid l ≡ Laid (layoutOf d) = sym e ∙ answered d true q in cc)
-    by false q = absurd (let z : Laid l ≡ Refused (refusalOf (verdict d)) = sym e ∙ answered d false q in let f : _≡_ {A = ℕ} 0 1 = cc in omega arith)
+    by false q = absurd (let z : Laid l ≡ Refused (refusalFor d (verdict d)) = sym e ∙ answered d false q in let f : _≡_ {A = ℕ} 0 1 = cc in omega arith)
 
-pub refused-verdict : (d : List ℕ) (r : Refusal) → layoutAnswer d ≡ Refused r → r ≡ refusalOf (verdict d)
+pub refused-verdict : (d : List ℕ) (r : Refusal) → layoutAnswer d ≡ Refused r → r ≡ refusalFor d (verdict d)
 refused-verdict d r e = by (eqb (verdict d) 0) refl
   where
-    by : (b : Bool) → eqb (verdict d) 0 ≡ b → r ≡ refusalOf (verdict d)
+    by : (b : Bool) → eqb (verdict d) 0 ≡ b → r ≡ refusalFor d (verdict d)
     by true q = absurd (let z : Refused r ≡ Laid (layoutOf d) = sym e ∙ answered d true q in let f : _≡_ {A = ℕ} 0 1 = cc in omega arith)
-    by false q = let z : Refused r ≡ Refused (refusalOf (verdict d)) = sym e ∙ answered d false q in cc
+    by false q = let z : Refused r ≡ Refused (refusalFor d (verdict d)) = sym e ∙ answered d false q in cc
+
+-- an answer carries the description's refusal
+pub told : (d : List ℕ) → refusalIn (layoutAnswer d) ≡ refusalFor d (verdict d)
+told d = by (eqb (verdict d) 0) refl
+  where
+    by : (b : Bool) → eqb (verdict d) 0 ≡ b → refusalIn (layoutAnswer d) ≡ refusalFor d (verdict d)
+    by true q = ap refusalIn (answered d true q) ∙ sym (no-type d 0 refl refl) ∙ ap (refusalFor d) (sym (eqb-true (verdict d) 0 q))
+    by false q = ap refusalIn (answered d false q)
 
 -- no answer is 0 and refused: a refusal that is passed on has a number
 pub refused-nonzero : (d : List ℕ) (r : Refusal) → layoutAnswer d ≡ Refused r → verdict d ≡ 0 → ⊥

@@ -5,7 +5,9 @@ use mathlib.Core.List.{List}
 use Prim.Native.Nat.{ℕ}
 use lib.Dec.{eqb}
 use Rattle.description.specs.Description.{typesIn, namedIn, argumentsIn}
+use Rattle.form.specs.declared.Refusal.{Refusal}
 use Rattle.form.specs.Reading.{refusalOf}
+use Rattle.types.specs.Wrong.{refusalFor}
 use Rattle.types.specs.Table.{filled, sizesAfter}
 use Rattle.classify.specs.Table.{fullEntry}
 use Rattle.uses.specs.Uses.{usesRefusal}
@@ -34,7 +36,12 @@ layoutOf d = record {
 
 -- "1..10"
 unfoldable pub layoutAnswer : List ℕ → LayoutAnswer
-layoutAnswer d = cond (eqb (verdict d) 0) (Laid (layoutOf d)) (Refused (refusalOf (verdict d)))
+layoutAnswer d = cond (eqb (verdict d) 0) (Laid (layoutOf d)) (Refused (refusalFor d (verdict d)))
+
+-- the refusal that an answer carries
+abbrev pub refusalIn : LayoutAnswer → Refusal
+refusalIn (Laid l) = refusalOf 0
+refusalIn (Refused r) = r
 
 -- the table once it is worked out: classes too, where none of 1 to 9 refuses
 unfoldable pub tableAfter : List ℕ → List ℕ → List ℕ

@@ -7,12 +7,12 @@ use units::Bytes;
 ghost use mathlib.Core.Path.{_≡_};
 ghost use Prim.Native.Nat.{_-_, _≤_};
 ghost use Rattle.description.specs.Description.{argumentsIn};
-ghost use Rattle.form.specs.Reading.{refusalOf};
+ghost use Rattle.types.specs.Wrong.{refusalFor};
 ghost use Rattle.classify.specs.Table.{Tabled};
 ghost use Rattle.uses.specs.Uses.{usesRefusal};
 ghost use Rattle.layout.specs.Arguments.{shapesFrom, returnPlace, hidden, usedAt};
 ghost use Rattle.layout.specs.Verdict.{verdict};
-ghost use Rattle.layout.specs.Layout.{layoutOf, layoutAnswer, tableAfter};
+ghost use Rattle.layout.specs.Layout.{layoutOf, layoutAnswer, refusalIn, tableAfter};
 ghost use Rattle.layout.specs.Placements.{stepAt, turnAt};
 ghost use Rattle.layout.specs.Asks.{AskArgument, AskArguments, IsLaid};
 
@@ -197,7 +197,7 @@ pub fn layout_with(d: &[u8], table: &mut [u32; 64]) -> LayoutAnswer
 {
     let number = uses::uses_refusal_with(d, table);
     if number != 0 {
-        return LayoutAnswer::Refused(form::refusal_of(number));
+        return LayoutAnswer::Refused(types::refusal_for(d, number));
     }
     classify::fill_classes(d, table);
     let layout = lay(d, table);
@@ -216,13 +216,19 @@ pub fn layout_of(d: &[u8]) -> LayoutAnswer
     layout_with(d, &mut table)
 }
 
-// Which of the refusals 1 to 10 the description gets; number 0 where it is accepted.
-pub fn check(d: &[u8]) -> Refusal
-    ensures { λ r. ⌜ r ≡ refusalOf (verdict (now (d .entry))) ⌝ }
+// The refusal that an answer carries, for a caller that passes it on.
+pub fn refusal_in(answer: LayoutAnswer) -> Refusal
+    ensures { λ r. ⌜ r ≡ refusalIn answer ⌝ }
 {
-    let answer = layout_of(d);
     match answer {
         LayoutAnswer::Laid(_) => form::refusal_of(0),
         LayoutAnswer::Refused(refusal) => refusal,
     }
+}
+
+// Which of the refusals 1 to 10 the description gets; number 0 where it is accepted.
+pub fn check(d: &[u8]) -> Refusal
+    ensures { λ r. ⌜ r ≡ refusalFor (now (d .entry)) (verdict (now (d .entry))) ⌝ }
+{
+    refusal_in(layout_of(d))
 }

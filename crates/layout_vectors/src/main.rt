@@ -202,8 +202,10 @@ fn print_laid(d: &[u8], room: usize, begun: Begun, layout: Layout, table: &[u32;
     print(b"\n");
 }
 
+// The number, and the type that breaks the rule of 6 or 7, which is 0 for the others.
 fn print_refusal(refusal: Refusal) {
     print_number(b"refused ", refusal.number as u64);
+    print_number(b" ", refusal.ty as u64);
     print(b"\n");
 }
 

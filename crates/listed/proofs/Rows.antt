@@ -9,6 +9,7 @@ use lib.ListN.{replicate}
 use Rattle.description.specs.Description.{argumentsIn}
 use Rattle.form.specs.declared.Refusal.{Refusal}
 use Rattle.form.specs.Reading.{refusalOf}
+use Rattle.types.specs.Wrong.{refusalFor}
 use Rattle.places.specs.declared.Used.{Used}
 use Rattle.layout.specs.declared.Layout.{Layout as Whole}
 use Rattle.layout.specs.declared.Placement.{Placement as Record}
@@ -35,7 +36,7 @@ module _ (d : List ℕ) (room : ℕ) where
   unfolding listAnswer listCount
   laid-count l e = by (eqb (listRefusal d room) 0) refl e
     where
-      by : (b : Bool) → eqb (listRefusal d room) 0 ≡ b → cond b (Laid (wholeOf d)) (Refused (refusalOf (listRefusal d room))) ≡ Laid l
+      by : (b : Bool) → eqb (listRefusal d room) 0 ≡ b → cond b (Laid (wholeOf d)) (Refused (refusalFor d (listRefusal d room))) ≡ Laid l
           → cond b (argumentsIn d) 0 ≡ argumentsIn d
       by true q z = refl
       by false q z = absurd (let f : _≡_ {A = ℕ} 0 1 = cc in omega arith)

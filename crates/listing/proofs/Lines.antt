@@ -100,7 +100,7 @@ walk-is variadic u general vector z g v w x y n =
     rw (ne-eqb variadic 0 z)
     (wrote-join (wrote-join (wrote-join (wrote-same w (ap (numbered (walk ++ gp)) g)) (wrote-same x (ap (λ (k : ℕ). numbered fp (48 + k)) v))) y) n)
 
--- the lines of an accepted description, and that of a refusal
+-- the lines of an accepted description
 pub laid-is : {a : List ℕ} {at : ℕ} {b : List ℕ} {p : ℕ} {c : List ℕ} {q : ℕ} {e : List ℕ} {r : ℕ} {f : List ℕ} {s : ℕ} (d : List ℕ) (l : Layout) {all first k variadic : ℕ}
     → all ≡ argumentsIn d → first ≡ namedIn d → k ≡ returnIn d → variadic ≡ variadicIn d
     → Wrote 60 a at (headLine all first l) b p → Wrote 3328 b p (recordLines d 0 (argumentsIn d)) c q → Wrote 30 c q (returnLine k (l .returns)) e r → Wrote 34 e r (walkLine variadic (l .named)) f s
@@ -110,11 +110,6 @@ laid-is d l all first k variadic v w x y =
     wrote-join
     (wrote-join (wrote-join (wrote-same v (ap₂ (λ (m n : ℕ). headLine m n l) all first)) w) (wrote-same x (ap (λ (n : ℕ). returnLine n (l .returns)) k)))
     (wrote-same y (ap (λ (n : ℕ). walkLine n (l .named)) variadic))
-
-pub refused-is : {a : List ℕ} {at : ℕ} {b : List ℕ} {p : ℕ} {c : List ℕ} {q : ℕ} (d : List ℕ) (r : Refusal)
-    → Wrote 13 a at (numbered refused (r .number)) b p → Wrote 1 b p newline c q → Wrote 3452 a at (textOf d (Refused r)) c q
-unfolding refusedLine
-refused-is d r v w = wrote-more (wrote-join v w) (omega arith)
 
 pub accepted-laid : (d : List ℕ) (l : Layout) → layoutAnswer d ≡ Laid l → Accepted d l
 accepted-laid d l e = let k = laid-accepted d l e in record { right = k .0; laid = k .1 }

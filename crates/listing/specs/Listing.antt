@@ -1,9 +1,10 @@
 -- The lister's text: document 01, "The lister". Assumes nothing: these are definitions.
-use mathlib.Core.Bool.{Bool, true, false}
+use mathlib.Core.Bool.{Bool, true, false, _||_}
 use mathlib.Core.List.{List, [], _++_}
 use Prim.Native.Nat.{ℕ, zero, suc, _+_, _*_}
 use lib.Dec.{eqb}
 use Rattle.description.specs.Description.{variadicIn, namedIn, argumentsIn, returnIn}
+use Rattle.form.specs.declared.Refusal.{Refusal}
 use Rattle.places.specs.declared.Used.{Used}
 use Rattle.places.specs.declared.ReturnPlace.{ReturnPlace}
 use Rattle.layout.specs.declared.Layout.{Layout}
@@ -48,9 +49,18 @@ walkWords false u = numbered gp (8 * u .general .0) ++ numbered fp (48 + 16 * u 
 unfoldable pub walkLine : ℕ → Used → List ℕ
 walkLine variadic u = walk ++ walkWords (eqb variadic 0) u ++ newline
 
+-- request 2026-01: 6 and 7 name a type
+unfoldable pub namesType : ℕ → Bool
+namesType n = eqb n 6 || eqb n 7
+
+-- "The lister prints `refused 6 type 12`"
+abbrev pub wrongWords : Bool → ℕ → List ℕ
+wrongWords true t = numbered type t
+wrongWords false t = []
+
 -- "A refusal is the one line `refused n`"
-unfoldable pub refusedLine : ℕ → List ℕ
-refusedLine n = numbered refused n ++ newline
+unfoldable pub refusedLine : Refusal → List ℕ
+refusedLine r = numbered refused (r .number) ++ wrongWords (namesType (r .number)) (r .ty) ++ newline
 
 -- ---- the whole
 
@@ -59,7 +69,7 @@ laidText d l = headLine (argumentsIn d) (namedIn d) l ++ recordLines d 0 (argume
 
 abbrev pub textOf : List ℕ → LayoutAnswer → List ℕ
 textOf d (Laid l) = laidText d l
-textOf d (Refused r) = refusedLine (r .number)
+textOf d (Refused r) = refusedLine r
 
 unfoldable pub listing : List ℕ → List ℕ
 listing d = textOf d (layoutAnswer d)

@@ -1,6 +1,7 @@
 // The lister's text (document 01, "The lister"), written into a lent buffer: each function stores from index `at` on and answers
 // the index behind. A record's line has at most 52 bytes and the three other lines together 124, so that with 64 records no
 // listing is over 3,452.
+use form::Refusal;
 use layout::Layout;
 use layout::LayoutAnswer;
 use layout::Placement;
@@ -14,7 +15,7 @@ ghost use lib.ListN.{length, drop};
 ghost use Rattle.description.specs.Description.{argumentsIn};
 ghost use Rattle.classify.specs.Table.{Tabled};
 ghost use Rattle.text.specs.Written.{Wrote};
-ghost use Rattle.listing.specs.Listing.{headLine, recordLine, recordLines, typeWords, returnLine, walkLine, laidText, listing};
+ghost use Rattle.listing.specs.Listing.{headLine, recordLine, recordLines, typeWords, returnLine, walkLine, namesType, refusedLine, laidText, listing};
 ghost use Rattle.listing.specs.Asks.{SmallRecord, SmallUsed, SmallLayout, Accepted};
 
 // "Line one: version, A, N, registers used (hidden address included), vector count, area".
@@ -131,6 +132,30 @@ fn put_laid(d: &[u8], out: &mut [u8; 4096], layout: Layout, table: &[u32; 64]) -
     put_walk(out, behind_return, variadic, named)
 }
 
+// Whether a refusal with this number names a type.
+fn names_type(number: u8) -> bool
+    ensures { λ r. ⌜ r ≡ namesType number ⌝ }
+{
+    if number == 6 {
+        return true;
+    }
+    number == 7
+}
+
+// The line of a refusal: `refused 8`, or `refused 6 type 12`. The number decides, since the type can be 0.
+fn put_refused(out: &mut [u8; 4096], refusal: Refusal) -> usize
+    ensures { λ r. ⌜ Wrote 25 (now (out .entry)) 0 (refusedLine refusal) (now (out .exit)) r ⌝ }
+{
+    let number = refusal.number;
+    let ty = refusal.ty;
+    let behind_number = text::put_number(out, 0, b"refused ", number as usize);
+    if names_type(number) {
+        let behind_type = text::put_number(out, behind_number, b" type ", ty as usize);
+        return text::put(out, behind_type, b"\n");
+    }
+    text::put(out, behind_number, b"\n")
+}
+
 // The listing of any bytes, at the start of `out`: all behind it stays. The answer is its length.
 pub fn write_listing(d: &[u8], out: &mut [u8; 4096]) -> usize
     ensures { λ r. ⌜ (r ≡ length (listing (now (d .entry)))) × (r ≤ 3452)
@@ -141,9 +166,6 @@ pub fn write_listing(d: &[u8], out: &mut [u8; 4096]) -> usize
     let answer = layout::layout_with(d, &mut table);
     match answer {
         LayoutAnswer::Laid(layout) => put_laid(d, out, layout, &table),
-        LayoutAnswer::Refused(refusal) => {
-            let next = text::put_number(out, 0, b"refused ", refusal.number as usize);
-            text::put(out, next, b"\n")
-        }
+        LayoutAnswer::Refused(refusal) => put_refused(out, refusal),
     }
 }

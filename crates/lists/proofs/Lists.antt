@@ -11,6 +11,8 @@ use lib.ListN.{getD, replicate}
 use Rattle.description.specs.Description.{argumentsIn}
 use Rattle.form.specs.Order.{FirstAt}
 use Rattle.form.specs.Reading.{refusalOf}
+use Rattle.types.specs.Wrong.{refusalFor}
+use Rattle.types.proofs.Wrong.{no-type}
 use Rattle.form.specs.declared.Refusal.{Refusal}
 use Rattle.form.proofs.Order.{first-exactly, none-exactly, first-before, first-behind, none-before}
 use Rattle.places.specs.declared.Used.{Used}
@@ -71,20 +73,20 @@ module _ (d : List ℕ) (room : ℕ) where
   begun-accepted e r a n u =
       rw (eq-eqb (listRefusal d room) 0 e) (λ i. record { answer = a i; count = n i; used = (u ∙ sym (used-none d)) i })
 
-  begun-refused : (listRefusal d room ≡ 0 → ⊥) → (r : Begun) → r .answer ≡ Refused (refusalOf (listRefusal d room)) → r .count ≡ 0 → r .used ≡ fresh false → r ≡ begunOf d room
+  begun-refused : (listRefusal d room ≡ 0 → ⊥) → (r : Begun) → r .answer ≡ Refused (refusalFor d (listRefusal d room)) → r .count ≡ 0 → r .used ≡ fresh false → r ≡ begunOf d room
   unfolding begunOf listAnswer listCount listUsed
   begun-refused e r a n u = rw (ne-eqb (listRefusal d room) 0 e) (λ i. record { answer = a i; count = n i; used = u i })
 
   pub begin-refused : (f : Refusal) (r : Begun) → layoutAnswer d ≡ Refused f → r .answer ≡ Refused f → r .count ≡ 0 → r .used ≡ fresh false → r ≡ begunOf d room
   begin-refused f r e a n u =
       let z = refused-nonzero d f e in
-      begun-refused (λ q. z (sym (list-verdict z) ∙ q)) r (a ∙ ap Refused (refused-verdict d f e ∙ ap refusalOf (sym (list-verdict z)))) n u
+      begun-refused (λ q. z (sym (list-verdict z) ∙ q)) r (a ∙ ap Refused (refused-verdict d f e ∙ ap (refusalFor d) (sym (list-verdict z)))) n u
 
   pub begin-short : (l : Layout) (f : Refusal) (r : Begun) → layoutAnswer d ≡ Laid l → room < argumentsIn d → f ≡ refusalOf 11 → r .answer ≡ Refused f → r .count ≡ 0
       → r .used ≡ fresh false → r ≡ begunOf d room
   begin-short l f r e h q a n u =
       let v = eleven (laid-accepted d l e .0) h in
-      begun-refused (λ z. omega arith) r (a ∙ ap Refused (q ∙ ap refusalOf (sym v))) n u
+      begun-refused (λ z. omega arith) r (a ∙ ap Refused (q ∙ sym (no-type d 11 refl refl) ∙ ap (refusalFor d) (sym v))) n u
 
   pub begin-laid : (l : Layout) (r : Begun) → layoutAnswer d ≡ Laid l → argumentsIn d ≤ room → r .answer ≡ Laid l → r .count ≡ argumentsIn d → r .used ≡ fresh (l .hidden)
       → r ≡ begunOf d room

@@ -7,7 +7,7 @@ use lib.Dec.{ltb, eqb}
 use lib.ListN.{replicate}
 use Rattle.description.specs.Description.{argumentsIn}
 use Rattle.form.specs.Order.{first, numbered}
-use Rattle.form.specs.Reading.{refusalOf}
+use Rattle.types.specs.Wrong.{refusalFor}
 unfoldable pub use Rattle.types.specs.Table.{filled}
 use Rattle.places.specs.declared.Used.{Used}
 use Rattle.places.specs.Places.{fresh}
@@ -28,7 +28,7 @@ unfoldable pub listRefusal : List ℕ → ℕ → ℕ
 listRefusal d room = first (numbered 1 (verdictConditions d ++ shortList d room ∷ []))
 
 unfoldable pub listAnswer : List ℕ → ℕ → LayoutAnswer
-listAnswer d room = cond (eqb (listRefusal d room) 0) (Laid (layoutOf d)) (Refused (refusalOf (listRefusal d room)))
+listAnswer d room = cond (eqb (listRefusal d room) 0) (Laid (layoutOf d)) (Refused (refusalFor d (listRefusal d room)))
 
 -- how many records are written: none for a refusal
 unfoldable pub listCount : List ℕ → ℕ → ℕ

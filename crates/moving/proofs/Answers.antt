@@ -15,6 +15,8 @@ use Rattle.units.specs.declared.Registers.{Registers}
 use Rattle.description.specs.Description.{argumentsIn}
 use Rattle.form.specs.declared.Refusal.{Refusal}
 use Rattle.form.specs.Reading.{refusalOf}
+use Rattle.types.specs.Wrong.{refusalFor}
+use Rattle.types.proofs.Wrong.{no-type}
 use Rattle.places.specs.Places.{fresh}
 use Rattle.places.specs.declared.Used.{Used}
 use Rattle.layout.specs.declared.Layout.{Layout}
@@ -40,29 +42,25 @@ module _ (d : List ℕ) (h : ℕ) (vals r s : List ℕ) where
   abbrev pub PlaceEnd : PlaceAnswer → List ℕ → List ℕ → Type 0
   PlaceEnd x r′ s′ = (x ≡ placeAnswer d vals (length r) (length s)) × ((r′ ≡ registersAfter d h vals r s) × (s′ ≡ stackAfter d h vals r s))
 
-  place-refused : (x : Refusal) (n : ℕ) → x .number ≡ n → placeRefusal d vals (length r) (length s) ≡ n → (n ≡ 0 → ⊥) → PlaceEnd (NotPlaced x) r s
-  unfolding placeAnswer registersAfter stackAfter refusalOf
+  place-refused : (x : Refusal) (n : ℕ) → x ≡ refusalFor d n → placeRefusal d vals (length r) (length s) ≡ n → (n ≡ 0 → ⊥) → PlaceEnd (NotPlaced x) r s
+  unfolding placeAnswer registersAfter stackAfter
   place-refused x n e f z =
       let q = ne-eqb (placeRefusal d vals (length r) (length s)) 0 (λ p. z (sym f ∙ p)) in
-      let g = e ∙ sym f in
-      (rw q (λ i. NotPlaced (record { number = g i })), (rw q, rw q))
+      (rw q (ap NotPlaced (e ∙ ap (refusalFor d) (sym f))), (rw q, rw q))
 
   -- 1 to 10
-  pub place-laid-not : (x y : Refusal) → layoutAnswer d ≡ Refused y → x .number ≡ y .number → PlaceEnd (NotPlaced x) r s
-  unfolding refusalOf
+  pub place-laid-not : (x y : Refusal) → layoutAnswer d ≡ Refused y → x ≡ y → PlaceEnd (NotPlaced x) r s
   place-laid-not x y a e =
-      let number : y .number ≡ verdict d = ap (λ (z : Refusal). z .number) (refused-verdict d y a) in
       let nonzero = refused-nonzero d y a in
-      place-refused x (verdict d) (e ∙ number) (place-verdict d vals (length r) (length s) nonzero) nonzero
+      place-refused x (verdict d) (e ∙ refused-verdict d y a) (place-verdict d vals (length r) (length s) nonzero) nonzero
 
   module _ (l : Layout) (laid : layoutAnswer d ≡ Laid l) where
     same-lengths : (b : Bool) → wrongLength l (length vals) (length r) (length s) ≡ b → wrongLength (layoutOf d) (length vals) (length r) (length s) ≡ b
     same-lengths b e = ap (λ (x : Layout). wrongLength x (length vals) (length r) (length s)) (sym (laid-accepted d l laid .1)) ∙ e
 
     pub place-wrong-length : (x : Refusal) → x ≡ refusalOf 11 → wrongLength l (length vals) (length r) (length s) ≡ true → PlaceEnd (NotPlaced x) r s
-    unfolding refusalOf
     place-wrong-length x e w =
-        place-refused x 11 (ap (λ (z : Refusal). z .number) e) (place-eleven d vals (length r) (length s) (laid-accepted d l laid .0) (same-lengths true w)) (λ z. omega arith)
+        place-refused x 11 (e ∙ sym (no-type d 11 refl refl)) (place-eleven d vals (length r) (length s) (laid-accepted d l laid .0) (same-lengths true w)) (λ z. omega arith)
 
     module _ (w : wrongLength l (length vals) (length r) (length s) ≡ false) where
       pub place-lengths : Lent d (length vals) (length r) (length s)
@@ -74,9 +72,8 @@ module _ (d : List ℕ) (h : ℕ) (vals r s : List ℕ) where
 
       module _ (n m : ℕ) (found : n ≡ firstBroken d vals) (all : m ≡ argumentsIn d) where
         pub place-wrong-bool : (x : Refusal) → x ≡ refusalOf 12 → n < m → PlaceEnd (NotPlaced x) r s
-        unfolding refusalOf
         place-wrong-bool x e t =
-            place-refused x 12 (ap (λ (z : Refusal). z .number) e) (place-twelve d vals (length r) (length s) place-lengths (broken-holds d vals (omega (arith, found, all)))) (λ z. omega arith)
+            place-refused x 12 (e ∙ sym (no-type d 12 refl refl)) (place-twelve d vals (length r) (length s) place-lengths (broken-holds d vals (omega (arith, found, all)))) (λ z. omega arith)
 
         pub place-done : (r″ s″ : List ℕ) → m ≤ n → length r″ ≡ length r → r″ ++ s″ ≡ placed d h vals → PlaceEnd (Placed (l .used .vector)) r″ s″
         unfolding placeAnswer registersAfter stackAfter layoutOf
@@ -94,28 +91,24 @@ module _ (d r s v : List ℕ) where
   abbrev pub GatherEnd : GatherAnswer → List ℕ → Type 0
   GatherEnd x v′ = (x ≡ gatherAnswer d r s (length v)) × (v′ ≡ valuesAfter d r s v)
 
-  gather-refused : (x : Refusal) (n : ℕ) → x .number ≡ n → gatherRefusal d (length v) (length r) (length s) ≡ n → (n ≡ 0 → ⊥) → GatherEnd (NotGathered x) v
-  unfolding gatherAnswer valuesAfter refusalOf
+  gather-refused : (x : Refusal) (n : ℕ) → x ≡ refusalFor d n → gatherRefusal d (length v) (length r) (length s) ≡ n → (n ≡ 0 → ⊥) → GatherEnd (NotGathered x) v
+  unfolding gatherAnswer valuesAfter
   gather-refused x n e f z =
       let q = ne-eqb (gatherRefusal d (length v) (length r) (length s)) 0 (λ p. z (sym f ∙ p)) in
-      let g = e ∙ sym f in
-      (rw q (λ i. NotGathered (record { number = g i })), rw q)
+      (rw q (ap NotGathered (e ∙ ap (refusalFor d) (sym f))), rw q)
 
-  pub gather-laid-not : (x y : Refusal) → layoutAnswer d ≡ Refused y → x .number ≡ y .number → GatherEnd (NotGathered x) v
-  unfolding refusalOf
+  pub gather-laid-not : (x y : Refusal) → layoutAnswer d ≡ Refused y → x ≡ y → GatherEnd (NotGathered x) v
   gather-laid-not x y a e =
-      let number : y .number ≡ verdict d = ap (λ (z : Refusal). z .number) (refused-verdict d y a) in
       let nonzero = refused-nonzero d y a in
-      gather-refused x (verdict d) (e ∙ number) (gather-verdict d (length v) (length r) (length s) nonzero) nonzero
+      gather-refused x (verdict d) (e ∙ refused-verdict d y a) (gather-verdict d (length v) (length r) (length s) nonzero) nonzero
 
   module _ (l : Layout) (laid : layoutAnswer d ≡ Laid l) where
     same-lengths-2 : (b : Bool) → wrongLength l (length v) (length r) (length s) ≡ b → wrongLength (layoutOf d) (length v) (length r) (length s) ≡ b
     same-lengths-2 b e = ap (λ (x : Layout). wrongLength x (length v) (length r) (length s)) (sym (laid-accepted d l laid .1)) ∙ e
 
     pub gather-wrong-length : (x : Refusal) → x ≡ refusalOf 11 → wrongLength l (length v) (length r) (length s) ≡ true → GatherEnd (NotGathered x) v
-    unfolding refusalOf
     gather-wrong-length x e w =
-        gather-refused x 11 (ap (λ (z : Refusal). z .number) e) (gather-eleven d (length v) (length r) (length s) (laid-accepted d l laid .0) (same-lengths-2 true w)) (λ z. omega arith)
+        gather-refused x 11 (e ∙ sym (no-type d 11 refl refl)) (gather-eleven d (length v) (length r) (length s) (laid-accepted d l laid .0) (same-lengths-2 true w)) (λ z. omega arith)
 
     module _ (w : wrongLength l (length v) (length r) (length s) ≡ false) where
       pub gather-lengths : Lent d (length v) (length r) (length s)

@@ -13,7 +13,7 @@ use lib.Seq.{take-at, drop-at}
 use Rattle.addresses.specs.Addresses.{gather}
 use Rattle.addresses.proofs.Parts.{split-image}
 use Rattle.description.specs.Description.{argumentsIn, kindAt, aAt, argumentAt, IsBytes}
-use Rattle.form.specs.Reading.{refusalOf}
+use Rattle.types.specs.Wrong.{refusalFor}
 use Rattle.layout.specs.Arguments.{shapeAt, hidden, areaOf}
 use Rattle.layout.specs.Layout.{valuesOf}
 use Rattle.layout.specs.Verdict.{verdict}
@@ -110,7 +110,7 @@ unused-unseen d r s q t v e f same = (
 )
   where
     answer : ℕ → ℕ → ℕ → GatherAnswer
-    answer m n x = cond (eqb (gatherRefusal d (length v) m n) 0) (Gathered x) (NotGathered (refusalOf (gatherRefusal d (length v) m n)))
+    answer m n x = cond (eqb (gatherRefusal d (length v) m n) 0) (Gathered x) (NotGathered (refusalFor d (gatherRefusal d (length v) m n)))
 
     left : ℕ → ℕ → List ℕ → List ℕ
     left m n x = cond (eqb (gatherRefusal d (length v) m n) 0) x v

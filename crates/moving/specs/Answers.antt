@@ -6,7 +6,7 @@ use Prim.Native.Nat.{ℕ}
 use lib.Dec.{eqb}
 use lib.ListN.{length, take, drop}
 use Rattle.description.specs.Description.{argumentsIn}
-use Rattle.form.specs.Reading.{refusalOf}
+use Rattle.types.specs.Wrong.{refusalFor}
 use Rattle.layout.specs.Arguments.{usedAt}
 use Rattle.filling.specs.Images.{placed, gathered, hiddenIn}
 use Rattle.lent.specs.Orders.{placeRefusal, gatherRefusal}
@@ -18,7 +18,7 @@ use Rattle.moving.specs.declared.GatherAnswer.the-variants.{Gathered, Re
 -- "The vector count (for al) is the number of vector registers used"
 unfoldable pub placeAnswer : List ℕ → List ℕ → ℕ → ℕ → PlaceAnswer
 placeAnswer d vals registers stack =
-    cond (eqb (placeRefusal d vals registers stack) 0) (Placed (usedAt d (argumentsIn d) .vector)) (NotPlaced (refusalOf (placeRefusal d vals registers stack)))
+    cond (eqb (placeRefusal d vals registers stack) 0) (Placed (usedAt d (argumentsIn d) .vector)) (NotPlaced (refusalFor d (placeRefusal d vals registers stack)))
 
 -- the register image and the stack image at exit, r and s at entry
 unfoldable pub registersAfter : List ℕ → ℕ → List ℕ → List ℕ → List ℕ → List ℕ
@@ -30,7 +30,7 @@ stackAfter d h vals r s = cond (eqb (placeRefusal d vals (length r) (length s)) 
 -- the hidden address, 0 where none is used
 unfoldable pub gatherAnswer : List ℕ → List ℕ → List ℕ → ℕ → GatherAnswer
 gatherAnswer d r s values =
-    cond (eqb (gatherRefusal d values (length r) (length s)) 0) (Gathered (hiddenIn d (r ++ s))) (NotGathered (refusalOf (gatherRefusal d values (length r) (length s))))
+    cond (eqb (gatherRefusal d values (length r) (length s)) 0) (Gathered (hiddenIn d (r ++ s))) (NotGathered (refusalFor d (gatherRefusal d values (length r) (length s))))
 
 -- the values at exit, v at entry
 unfoldable pub valuesAfter : List ℕ → List ℕ → List ℕ → List ℕ → List ℕ

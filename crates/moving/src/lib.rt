@@ -5,7 +5,6 @@ use units::Bytes;
 use units::Registers;
 ghost use mathlib.Core.Path.{_≡_};
 ghost use lib.ListN.{length};
-ghost use Rattle.layout.specs.Layout.{numberOf};
 ghost use Rattle.moving.specs.Answers.{placeAnswer, registersAfter, stackAfter, gatherAnswer, valuesAfter};
 
 pub enum PlaceAnswer {
@@ -18,16 +17,6 @@ pub enum GatherAnswer {
     // The hidden address, 0 where none is used.
     Gathered(u64),
     Refused(Refusal),
-}
-
-// Why no layout was laid.
-fn refusal_in(answer: LayoutAnswer) -> Refusal
-    ensures { λ r. ⌜ r .number ≡ numberOf answer ⌝ }
-{
-    match answer {
-        LayoutAnswer::Laid(_) => form::refusal_of(0),
-        LayoutAnswer::Refused(refusal) => refusal,
-    }
 }
 
 // Places packed values: every byte of both images is written, or none.
@@ -45,7 +34,7 @@ pub fn place_values(
     let mut table = [0u32; 64];
     let answer = layout::layout_with(d, &mut table);
     let LayoutAnswer::Laid(layout) = answer else {
-        return PlaceAnswer::Refused(refusal_in(answer));
+        return PlaceAnswer::Refused(layout::refusal_in(answer));
     };
     if lent::wrong_length(
         layout,
@@ -71,7 +60,7 @@ pub fn gather_values(d: &[u8], registers: &[u8], stack: &[u8], values: &mut [u8]
     let mut table = [0u32; 64];
     let answer = layout::layout_with(d, &mut table);
     let LayoutAnswer::Laid(layout) = answer else {
-        return GatherAnswer::Refused(refusal_in(answer));
+        return GatherAnswer::Refused(layout::refusal_in(answer));
     };
     if lent::wrong_length(
         layout,

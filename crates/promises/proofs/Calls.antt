@@ -11,7 +11,7 @@ use denote.Ref.{now}
 use Rattle.tightness.proofs.Laws.{result, bytes, told}
 use Rattle.addresses.specs.Addresses.{gather}
 use Rattle.description.specs.Description.{headerOf}
-use Rattle.form.specs.Reading.{refusalOf}
+use Rattle.form.specs.Reading.{refusalAt, refusalBy, refusalOf}
 use Rattle.types.specs.Basic.{lp64}
 use Rattle.types.specs.Size.{sizeTy, alignTy}
 use Rattle.types.specs.Decode.{tyAt}
@@ -25,7 +25,7 @@ use Rattle.filling.specs.Images.{addressesOf, gathered}
 use Rattle.lent.specs.Orders.{placeRefusal, gatherRefusal}
 use Rattle.moving.specs.Answers.{placeAnswer, gatherAnswer, registersAfter, stackAfter, valuesAfter}
 use Rattle.station.specs.declared.Station.{Station}
-use Rattle.station.specs.Paper.{kcb}
+use Rattle.station.specs.Paper.{kcb, refusalUnder}
 use Rattle.station.specs.Attachment.{described, attachRefusal, attachStation, attachSeat, detachRefusal, detachStation, detachSeat}
 use Rattle.walk.specs.declared.Walk.{Walk}
 use Rattle.walk.specs.Orders.{Ask, asking, stepRefusal, showRefusal}
@@ -96,8 +96,8 @@ gathers d r s v = record {
   gathered = λ e. gathers-all d r s v (gather-zero d r s (length v) e);
 }
 
-attaches : (s : Station) (seat d : List ℕ) → Attaches s seat d (refusalOf (attachRefusal kcb s seat d)) (attachStation kcb s seat d) (attachSeat kcb s seat d)
-unfolding refusalOf
+attaches : (s : Station) (seat d : List ℕ) → Attaches s seat d (refusalUnder kcb d (attachRefusal kcb s seat d)) (attachStation kcb s seat d) (attachSeat kcb s seat d)
+unfolding refusalUnder refusalBy refusalAt
 attaches s seat d = record {
   answered = demand-1 .walk .attach s seat d;
   refused = demand-1 .frame .attach s seat d;
@@ -105,7 +105,7 @@ attaches s seat d = record {
 }
 
 detaches : (s : Station) (seat : List ℕ) → DetachesAll s seat (refusalOf (detachRefusal s seat)) (detachStation s seat) (detachSeat s seat)
-unfolding refusalOf
+unfolding refusalOf refusalAt
 detaches s seat = record {
   answered = demand-1 .walk .detach s seat;
   refused = demand-1 .frame .detach s seat;
@@ -116,8 +116,8 @@ opens : (s : Station) (seat : List ℕ) → Opens s seat (openAnswer kcb s seat)
 unfolding openWalk
 opens s seat = record { answered = demand-1 .walk .open-walk s seat }
 
-steps : (s : Station) (seat : List ℕ) (w : Walk) (a : Ask) → Steps s seat w a (refusalOf (stepRefusal kcb s seat w a)) (stepWalk kcb s seat w a) (stepOut kcb s seat w a)
-unfolding refusalOf
+steps : (s : Station) (seat : List ℕ) (w : Walk) (a : Ask) → Steps s seat w a (refusalUnder kcb (described s seat) (stepRefusal kcb s seat w a)) (stepWalk kcb s seat w a) (stepOut kcb s seat w a)
+unfolding refusalUnder refusalBy refusalAt
 steps s seat w a = record {
   answered = demand-1 .walk .step s seat w a;
   refused = demand-1 .frame .step s seat w a;

@@ -7,7 +7,8 @@ use borrow.Author.Tests.{ne-eqb}
 use lib.ListN.{length}
 use Rattle.description.specs.Description.{typesIn}
 use Rattle.form.specs.Order.{formRefusal}
-use Rattle.form.specs.Reading.{refusalOf}
+use Rattle.form.specs.Reading.{refusalAt, refusalBy, refusalOf}
+use Rattle.types.specs.Wrong.{refusalFor}
 use Rattle.types.specs.Basic.{lp64}
 use Rattle.types.specs.Size.{alignTy}
 use Rattle.types.specs.Decode.{tyAt}
@@ -24,7 +25,7 @@ use Rattle.layout.proofs.Verdict.{accepted-uses}
 use Rattle.layout.proofs.Records.{accepted-bounded}
 use Rattle.lent.specs.Orders.{placeRefusal, gatherRefusal}
 use Rattle.moving.specs.Answers.{registersAfter, stackAfter, valuesAfter}
-use Rattle.station.specs.Paper.{kcb}
+use Rattle.station.specs.Paper.{kcb, refusalUnder}
 use Rattle.station.specs.Attachment.{attachRefusal, detachRefusal}
 use Rattle.station.proofs.Attachments.{attach-left, detach-left}
 use Rattle.walk.specs.Orders.{openRefusal, stepRefusal, showRefusal}
@@ -37,7 +38,7 @@ use Rattle.promises.proofs.MemberRuns.{run-of, run-empty}
 -- ---- A1, A2
 
 a1 : A1-Verdict
-unfolding verdict refusalOf
+unfolding verdict refusalFor refusalBy refusalAt
 a1 d = answered refl refl
 
 a2-below : A2-Below
@@ -70,7 +71,7 @@ a2-layout = record {
 }
 
 a2-walk : A2-Walk
-unfolding kcb attachRefusal detachRefusal openRefusal stepRefusal showRefusal refusalOf
+unfolding kcb attachRefusal detachRefusal openRefusal stepRefusal showRefusal refusalUnder refusalBy refusalOf refusalAt
 a2-walk = record {
   attach = λ s seat d. answered refl refl;
   detach = λ s seat. answered refl refl;

@@ -7,7 +7,9 @@ use lib.Dec.{ltb, eqb}
 use lib.ListN.{length, getD}
 use Rattle.description.specs.Description.{argumentsIn, kindAt, aAt, countAt, memberStart, headerOf}
 use Rattle.form.specs.Order.{formRefusal}
-use Rattle.form.specs.Reading.{refusalOf, readingOf}
+use Rattle.form.specs.Conditions.{firstBroken}
+use Rattle.form.specs.Reading.{refusalAt, refusalBy, readingOf}
+use Rattle.types.specs.Wrong.{refusalFor}
 use Rattle.form.specs.declared.Reading.the-variants.{Accepted, Refused as NotRead}
 use Rattle.types.specs.Basic.{lp64}
 use Rattle.types.specs.Size.{sizeTy, alignTy}
@@ -30,7 +32,7 @@ use Rattle.moving.specs.Answers.{placeAnswer, gatherAnswer}
 use Rattle.moving.specs.declared.PlaceAnswer.the-variants.{Placed, Refused as NotPlaced}
 use Rattle.moving.specs.declared.GatherAnswer.the-variants.{Gathered, Refused as NotGathered}
 use Rattle.station.specs.declared.Station.{Station}
-use Rattle.station.specs.Paper.{kcb}
+use Rattle.station.specs.Paper.{kcb, refusalUnder}
 use Rattle.station.specs.Attachment.{described}
 use Rattle.walk.specs.declared.Walk.{Walk}
 use Rattle.walk.specs.declared.OpenAnswer.the-variants.{Opened, Refused as NotOpened}
@@ -46,60 +48,60 @@ use Rattle.promises.specs.Demand1.{members}
 use Rattle.promises.proofs.Answering.{decided}
 
 pub reading-means : (d : List ℕ) → ofReading (readingOf d) ≡ outcome (formRefusal d) (headerOf d)
-unfolding readingOf refusalOf
-reading-means d = decided ofReading (Accepted (headerOf d)) (λ n. NotRead (refusalOf n)) (headerOf d) refl (λ n. refl) (formRefusal d)
+unfolding readingOf refusalAt
+reading-means d = decided ofReading (Accepted (headerOf d)) (λ n. NotRead (refusalAt n (cond (eqb n 6) (firstBroken d) 0))) (headerOf d) refl (λ n. refl) (formRefusal d)
 
 module _ (d : List ℕ) (t : ℕ) where
   pub extent-means : ofExtent (extentAnswer d t) ≡ outcome (questionRefusal d t) (sizeTy lp64 (tyAt d t), alignTy lp64 (tyAt d t))
-  unfolding extentAnswer refusalOf
+  unfolding extentAnswer refusalFor refusalBy refusalAt
   extent-means =
-      decided ofExtent (Known (extentOf (tyAt d t))) (λ n. NoExtent (refusalOf n)) (sizeTy lp64 (tyAt d t), alignTy lp64 (tyAt d t)) refl (λ n. refl) (questionRefusal d t)
+      decided ofExtent (Known (extentOf (tyAt d t))) (λ n. NoExtent (refusalFor d n)) (sizeTy lp64 (tyAt d t), alignTy lp64 (tyAt d t)) refl (λ n. refl) (questionRefusal d t)
 
   pub size-means : ofSize (sizeAnswer (extentAnswer d t)) ≡ outcome (questionRefusal d t) (sizeTy lp64 (tyAt d t))
-  unfolding extentAnswer refusalOf
+  unfolding extentAnswer refusalFor refusalBy refusalAt
   size-means =
-      decided (λ x. ofSize (sizeAnswer x)) (Known (extentOf (tyAt d t))) (λ n. NoExtent (refusalOf n)) (sizeTy lp64 (tyAt d t)) refl (λ n. refl) (questionRefusal d t)
+      decided (λ x. ofSize (sizeAnswer x)) (Known (extentOf (tyAt d t))) (λ n. NoExtent (refusalFor d n)) (sizeTy lp64 (tyAt d t)) refl (λ n. refl) (questionRefusal d t)
 
   pub align-means : ofAlign (alignAnswer (extentAnswer d t)) ≡ outcome (questionRefusal d t) (alignTy lp64 (tyAt d t))
-  unfolding extentAnswer refusalOf
+  unfolding extentAnswer refusalFor refusalBy refusalAt
   align-means =
-      decided (λ x. ofAlign (alignAnswer x)) (Known (extentOf (tyAt d t))) (λ n. NoExtent (refusalOf n)) (alignTy lp64 (tyAt d t)) refl (λ n. refl) (questionRefusal d t)
+      decided (λ x. ofAlign (alignAnswer x)) (Known (extentOf (tyAt d t))) (λ n. NoExtent (refusalFor d n)) (alignTy lp64 (tyAt d t)) refl (λ n. refl) (questionRefusal d t)
 
   pub classes-means : ofClasses (classesAnswer d t) ≡ outcome (questionRefusal d t) (getD (classesOf (tyAt d t)) 0 NoClass, getD (classesOf (tyAt d t)) 1 NoClass)
-  unfolding classesAnswer refusalOf
+  unfolding classesAnswer refusalFor refusalBy refusalAt
   classes-means =
-      decided ofClasses (pairOf (classesOf (tyAt d t))) (λ n. NoClasses (refusalOf n)) (getD (classesOf (tyAt d t)) 0 NoClass, getD (classesOf (tyAt d t)) 1 NoClass) refl (λ n. refl) (questionRefusal d t)
+      decided ofClasses (pairOf (classesOf (tyAt d t))) (λ n. NoClasses (refusalFor d n)) (getD (classesOf (tyAt d t)) 0 NoClass, getD (classesOf (tyAt d t)) 1 NoClass) refl (λ n. refl) (questionRefusal d t)
 
   run-by : (b : Bool) → ofRun (cond b NoRun (Run (record { 0 = memberStart d + aAt d t }) (countAt d t))) ≡ accepted (cond b none (run (memberStart d + aAt d t) (countAt d t)))
   run-by true = refl
   run-by false = refl
 
   pub run-means : ofRun (runAnswer d t) ≡ outcome (questionRefusal d t) (members d t)
-  unfolding runAnswer refusalOf
+  unfolding runAnswer refusalFor refusalBy refusalAt
   run-means =
-      decided ofRun (cond (ltb (kindAt d t) 2) NoRun (Run (record { 0 = memberStart d + aAt d t }) (countAt d t))) (λ n. NotRun (refusalOf n)) (members d t) (run-by (ltb (kindAt d t) 2)) (λ n. refl) (questionRefusal d t)
+      decided ofRun (cond (ltb (kindAt d t) 2) NoRun (Run (record { 0 = memberStart d + aAt d t }) (countAt d t))) (λ n. NotRun (refusalFor d n)) (members d t) (run-by (ltb (kindAt d t) 2)) (λ n. refl) (questionRefusal d t)
 
 pub layout-means : (d : List ℕ) → ofLayout (layoutAnswer d) ≡ outcome (verdict d) (layoutOf d)
-unfolding layoutAnswer refusalOf
-layout-means d = decided ofLayout (Laid (layoutOf d)) (λ n. NotLaid (refusalOf n)) (layoutOf d) refl (λ n. refl) (verdict d)
+unfolding layoutAnswer refusalFor refusalBy refusalAt
+layout-means d = decided ofLayout (Laid (layoutOf d)) (λ n. NotLaid (refusalFor d n)) (layoutOf d) refl (λ n. refl) (verdict d)
 
 pub list-means : (d : List ℕ) (room : ℕ) → ofLayout (listAnswer d room) ≡ outcome (listRefusal d room) (layoutOf d)
-unfolding listAnswer refusalOf
-list-means d room = decided ofLayout (Laid (layoutOf d)) (λ n. NotLaid (refusalOf n)) (layoutOf d) refl (λ n. refl) (listRefusal d room)
+unfolding listAnswer refusalFor refusalBy refusalAt
+list-means d room = decided ofLayout (Laid (layoutOf d)) (λ n. NotLaid (refusalFor d n)) (layoutOf d) refl (λ n. refl) (listRefusal d room)
 
 pub placing-means : (d values : List ℕ) (r s : ℕ) → ofPlacing (placeAnswer d values r s) ≡ outcome (placeRefusal d values r s) (usedAt d (argumentsIn d) .vector .0)
-unfolding placeAnswer refusalOf
+unfolding placeAnswer refusalFor refusalBy refusalAt
 placing-means d values r s =
-    decided ofPlacing (Placed (usedAt d (argumentsIn d) .vector)) (λ n. NotPlaced (refusalOf n)) (usedAt d (argumentsIn d) .vector .0) refl (λ n. refl) (placeRefusal d values r s)
+    decided ofPlacing (Placed (usedAt d (argumentsIn d) .vector)) (λ n. NotPlaced (refusalFor d n)) (usedAt d (argumentsIn d) .vector .0) refl (λ n. refl) (placeRefusal d values r s)
 
 pub gathering-means : (d r s : List ℕ) (values : ℕ) → ofGathering (gatherAnswer d r s values) ≡ outcome (gatherRefusal d values (length r) (length s)) (hiddenIn d (r ++ s))
-unfolding gatherAnswer refusalOf
+unfolding gatherAnswer refusalFor refusalBy refusalAt
 gathering-means d r s values =
-    decided ofGathering (Gathered (hiddenIn d (r ++ s))) (λ n. NotGathered (refusalOf n)) (hiddenIn d (r ++ s)) refl (λ n. refl) (gatherRefusal d values (length r) (length s))
+    decided ofGathering (Gathered (hiddenIn d (r ++ s))) (λ n. NotGathered (refusalFor d n)) (hiddenIn d (r ++ s)) refl (λ n. refl) (gatherRefusal d values (length r) (length s))
 
 pub opening-means : (s : Station) (seat : List ℕ) → ofOpening (openAnswer kcb s seat) ≡ outcome (openRefusal kcb s seat) (openWalk kcb s seat)
-unfolding openAnswer openedIf refusalOf
-opening-means s seat = decided ofOpening (Opened (openWalk kcb s seat)) (λ n. NotOpened (refusalOf n)) (openWalk kcb s seat) refl (λ n. refl) (openRefusal kcb s seat)
+unfolding openAnswer openedIf refusalUnder refusalBy refusalAt
+opening-means s seat = decided ofOpening (Opened (openWalk kcb s seat)) (λ n. NotOpened (refusalUnder kcb (described s seat) n)) (openWalk kcb s seat) refl (λ n. refl) (openRefusal kcb s seat)
 
 -- where an argument lies is no refusal
 part-means : (source : Source) (shape : Shape) → ofShown (partIn source shape) ≡ accepted (shownPart (partIn source shape))
@@ -112,6 +114,6 @@ part-means (fromStack o) shape = refl
 
 pub shown-means : (s : Station) (seat : List ℕ) (w : Walk) (a : Ask)
     → ofShown (shownAnswer kcb s seat w a) ≡ outcome (showRefusal kcb s seat w a) (shownPart (shownIn kcb (described s seat) w))
-unfolding shownAnswer shownIn refusalOf
+unfolding shownAnswer shownIn refusalUnder refusalBy refusalAt
 shown-means s seat w a =
-    decided ofShown (shownIn kcb (described s seat) w) (λ n. NotShown (refusalOf n)) (shownPart (shownIn kcb (described s seat) w)) (part-means (readAt (offsetsOf w) (shapeAt kcb (described s seat) (w .position))) (shapeAt kcb (described s seat) (w .position))) (λ n. refl) (showRefusal kcb s seat w a)
+    decided ofShown (shownIn kcb (described s seat) w) (λ n. NotShown (refusalUnder kcb (described s seat) n)) (shownPart (shownIn kcb (described s seat) w)) (part-means (readAt (offsetsOf w) (shapeAt kcb (described s seat) (w .position))) (shapeAt kcb (described s seat) (w .position))) (λ n. refl) (showRefusal kcb s seat w a)

@@ -14,6 +14,7 @@ use lib.ListN.{length, getD, take, drop}
 use Rattle.description.specs.Description.{IsBytes, typesIn, kindAt, aAt, countAt, headerOf, argumentsIn}
 use Rattle.form.specs.Order.{formRefusal}
 use Rattle.form.specs.Reading.{refusalOf, readingOf}
+use Rattle.types.specs.Wrong.{refusalFor}
 use Rattle.types.specs.Basic.{lp64}
 use Rattle.types.specs.Size.{sizeTy, alignTy}
 use Rattle.types.specs.Decode.{tyAt}
@@ -35,7 +36,7 @@ use Rattle.layout.specs.Statements.{Bounded}
 use Rattle.filling.specs.Images.{hiddenIn}
 use Rattle.moving.specs.Answers.{placeAnswer, gatherAnswer, registersAfter, stackAfter, valuesAfter}
 use Rattle.station.specs.declared.Station.{Station}
-use Rattle.station.specs.Paper.{kcb}
+use Rattle.station.specs.Paper.{kcb, refusalUnder}
 use Rattle.station.specs.Attachment.{described, attachRefusal, attachStation, attachSeat, detachRefusal, detachStation, detachSeat}
 use Rattle.walk.specs.declared.Walk.{Walk}
 use Rattle.walk.specs.Orders.{Ask, stepRefusal, showRefusal}
@@ -48,7 +49,7 @@ use Rattle.promises.specs.Orders.{checkOrder, formOrder, typesOrder, use
 
 -- what `check` answers of any bytes: n exactly where condition n of the ten holds and no lower one does, and 0 exactly where none holds
 abbrev pub A1-Verdict : Type 0
-A1-Verdict = (d : List ℕ) → Answered (ofRefusal (refusalOf (verdict d))) (checkOrder d) tt
+A1-Verdict = (d : List ℕ) → Answered (ofRefusal (refusalFor d (verdict d))) (checkOrder d) tt
 
 -- ---- A2: the same of each call, in the order that document 01 gives it
 
@@ -86,12 +87,12 @@ pub record A2-Layout : Type 0 where
 
 -- station and walk. What is lent may be anything: the station and the walk record of any making, the seat and the images of any length
 pub record A2-Walk : Type 0 where
-  pub attach : (s : Station) (seat d : List ℕ) → Answered (ofRefusal (refusalOf (attachRefusal kcb s seat d))) (attachOrder s seat d) tt
+  pub attach : (s : Station) (seat d : List ℕ) → Answered (ofRefusal (refusalUnder kcb d (attachRefusal kcb s seat d))) (attachOrder s seat d) tt
   pub detach : (s : Station) (seat : List ℕ) → Answered (ofRefusal (refusalOf (detachRefusal s seat))) (detachOrder s seat) tt
   pub open-walk : (s : Station) (seat : List ℕ) → Answered (ofOpening (openAnswer kcb s seat)) (openOrder s seat) (openWalk kcb s seat)
-  pub step : (s : Station) (seat : List ℕ) (w : Walk) (a : Ask) → Answered (ofRefusal (refusalOf (stepRefusal kcb s seat w a))) (stepOrder s seat w a) tt
+  pub step : (s : Station) (seat : List ℕ) (w : Walk) (a : Ask) → Answered (ofRefusal (refusalUnder kcb (described s seat) (stepRefusal kcb s seat w a))) (stepOrder s seat w a) tt
   pub show-number : (s : Station) (seat : List ℕ) (w : Walk) (a : Ask)
-      → Answered (ofRefusal (refusalOf (showRefusal kcb s seat w a))) (showOrder s seat w a) tt
+      → Answered (ofRefusal (refusalUnder kcb (described s seat) (showRefusal kcb s seat w a))) (showOrder s seat w a) tt
   pub shown-at : (s : Station) (seat : List ℕ) (w : Walk) (a : Ask)
       → Answered (ofShown (shownAnswer kcb s seat w a)) (showOrder s seat w a) (shownPart (shownIn kcb (described s seat) w))
 

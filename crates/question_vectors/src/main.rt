@@ -31,8 +31,10 @@ fn print_number(text: &[u8], n: u64) {
     io::print_decimal(STDOUT_FILENO, n);
 }
 
+// The number, and the type that breaks the rule of 6 or 7, which is 0 for the others.
 fn print_refusal(refusal: Refusal) {
     print_number(b"refused ", refusal.number as u64);
+    print_number(b" ", refusal.ty as u64);
 }
 
 fn print_class(class: Class) {

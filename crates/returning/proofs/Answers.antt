@@ -9,6 +9,8 @@ use lib.ListN.{length, getD}
 use Rattle.description.specs.Description.{typesIn, returnIn}
 use Rattle.form.specs.declared.Refusal.{Refusal}
 use Rattle.form.specs.Reading.{refusalOf}
+use Rattle.types.specs.Wrong.{refusalFor}
+use Rattle.types.proofs.Wrong.{no-type}
 use Rattle.places.specs.declared.ReturnPlace.{ReturnPlace}
 use Rattle.layout.specs.declared.Layout.{Layout}
 use Rattle.layout.specs.declared.LayoutAnswer.the-variants.{Laid, Refused}
@@ -78,29 +80,24 @@ module _ (d : List ℕ) (h : ℕ) (v i : List ℕ) where
   abbrev pub PutEnd : PutAnswer → List ℕ → Type 0
   PutEnd x img = (x ≡ putAnswer d v (length i)) × (img ≡ imageAfter d h v i)
 
-  put-refused : (x : Refusal) (n : ℕ) → x .number ≡ n → putRefusal d v (length i) ≡ n → (n ≡ 0 → ⊥) → PutEnd (NotPut x) i
-  unfolding putAnswer imageAfter refusalOf
+  put-refused : (x : Refusal) (n : ℕ) → x ≡ refusalFor d n → putRefusal d v (length i) ≡ n → (n ≡ 0 → ⊥) → PutEnd (NotPut x) i
+  unfolding putAnswer imageAfter
   put-refused x n e f z =
       let q = ne-eqb (putRefusal d v (length i)) 0 (λ p. z (sym f ∙ p)) in
-      let g = e ∙ sym f in
-      (rw q (λ j. NotPut (record { number = g j })), rw q)
+      (rw q (ap NotPut (e ∙ ap (refusalFor d) (sym f))), rw q)
 
   -- 1 to 10
-  pub put-laid-not : (x y : Refusal) → layoutAnswer d ≡ Refused y → x .number ≡ y .number → PutEnd (NotPut x) i
-  unfolding refusalOf
+  pub put-laid-not : (x y : Refusal) → layoutAnswer d ≡ Refused y → x ≡ y → PutEnd (NotPut x) i
   put-laid-not x y a e =
-      let number : y .number ≡ verdict d = ap (λ (z : Refusal). z .number) (refused-verdict d y a) in
       let nonzero = refused-nonzero d y a in
-      put-refused x (verdict d) (e ∙ number) (put-verdict d v (length i) nonzero) nonzero
+      put-refused x (verdict d) (e ∙ refused-verdict d y a) (put-verdict d v (length i) nonzero) nonzero
 
   pub put-wrong-length : (x : Refusal) → x ≡ refusalOf 11 → verdict d ≡ 0 → wrongLength (returnLength d) (length v) (length i) ≡ true → PutEnd (NotPut x) i
-  unfolding refusalOf
-  put-wrong-length x e a w = put-refused x 11 (ap (λ (z : Refusal). z .number) e) (put-eleven d v (length i) a w) (λ z. omega arith)
+  put-wrong-length x e a w = put-refused x 11 (e ∙ sym (no-type d 11 refl refl)) (put-eleven d v (length i) a w) (λ z. omega arith)
 
   module _ (lent : Lent d (length v) (length i)) (b : Bool) (w : b ≡ wrongBool d v) where
     pub put-wrong-bool : (x : Refusal) → x ≡ refusalOf 12 → b ≡ true → PutEnd (NotPut x) i
-    unfolding refusalOf
-    put-wrong-bool x e t = put-refused x 12 (ap (λ (z : Refusal). z .number) e) (put-twelve d v (length i) lent (sym w ∙ t)) (λ z. omega arith)
+    put-wrong-bool x e t = put-refused x 12 (e ∙ sym (no-type d 12 refl refl)) (put-twelve d v (length i) lent (sym w ∙ t)) (λ z. omega arith)
 
     pub put-done : (place : ReturnPlace) (img : List ℕ) → b ≡ false → place ≡ returnPlace d → img ≡ returnImage place h v → PutEnd Put img
     unfolding putAnswer imageAfter
@@ -114,23 +111,19 @@ module _ (d i v : List ℕ) where
   abbrev pub TakeEnd : TakeAnswer → List ℕ → Type 0
   TakeEnd x w = (x ≡ takeAnswer d i (length v)) × (w ≡ valueAfter d i v)
 
-  take-refused : (x : Refusal) (n : ℕ) → x .number ≡ n → takeRefusal d i (length v) ≡ n → (n ≡ 0 → ⊥) → TakeEnd (NotTaken x) v
-  unfolding takeAnswer valueAfter refusalOf
+  take-refused : (x : Refusal) (n : ℕ) → x ≡ refusalFor d n → takeRefusal d i (length v) ≡ n → (n ≡ 0 → ⊥) → TakeEnd (NotTaken x) v
+  unfolding takeAnswer valueAfter
   take-refused x n e f z =
       let q = ne-eqb (takeRefusal d i (length v)) 0 (λ p. z (sym f ∙ p)) in
-      let g = e ∙ sym f in
-      (rw q (λ j. NotTaken (record { number = g j })), rw q)
+      (rw q (ap NotTaken (e ∙ ap (refusalFor d) (sym f))), rw q)
 
-  pub take-laid-not : (x y : Refusal) → layoutAnswer d ≡ Refused y → x .number ≡ y .number → TakeEnd (NotTaken x) v
-  unfolding refusalOf
+  pub take-laid-not : (x y : Refusal) → layoutAnswer d ≡ Refused y → x ≡ y → TakeEnd (NotTaken x) v
   take-laid-not x y a e =
-      let number : y .number ≡ verdict d = ap (λ (z : Refusal). z .number) (refused-verdict d y a) in
       let nonzero = refused-nonzero d y a in
-      take-refused x (verdict d) (e ∙ number) (take-verdict d i (length v) nonzero) nonzero
+      take-refused x (verdict d) (e ∙ refused-verdict d y a) (take-verdict d i (length v) nonzero) nonzero
 
   pub take-wrong-length : (x : Refusal) → x ≡ refusalOf 11 → verdict d ≡ 0 → wrongLength (returnLength d) (length v) (length i) ≡ true → TakeEnd (NotTaken x) v
-  unfolding refusalOf
-  take-wrong-length x e a w = take-refused x 11 (ap (λ (z : Refusal). z .number) e) (take-eleven d i (length v) a w) (λ z. omega arith)
+  take-wrong-length x e a w = take-refused x 11 (e ∙ sym (no-type d 11 refl refl)) (take-eleven d i (length v) a w) (λ z. omega arith)
 
   pub take-done : Lent d (length v) (length i) → (place : ReturnPlace) (n : ℕ) (w : List ℕ) → place ≡ returnPlace d → n ≡ returnedAddress place i
       → w ≡ returnValue place (length v) i → TakeEnd (Taken n) w

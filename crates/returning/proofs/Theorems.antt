@@ -10,7 +10,8 @@ use lib.Dec.{eqb}
 use lib.ListN.{length, getD}
 use Rattle.addresses.specs.Addresses.{gather, scatter}
 use Rattle.description.specs.Description.{IsBytes}
-use Rattle.form.specs.Reading.{refusalOf}
+use Rattle.form.specs.Reading.{refusalAt, refusalBy}
+use Rattle.types.specs.Wrong.{refusalFor}
 use Rattle.places.specs.declared.ReturnPlace.{ReturnPlace}
 use Rattle.places.specs.declared.ReturnPlace.the-variants.{Void, Memory, One, Two, St0, St0St1}
 use Rattle.places.specs.declared.Register.the-variants.{General}
@@ -105,7 +106,7 @@ module _ (d img jmg v : List ℕ) (as-long : length img ≡ length jmg) where
   unfolding takeAnswer valueAfter
   refused-same t =
       let u : eqb (takeRefusal d jmg (length v)) 0 ≡ false = rw refusal-same at t in
-      (rw (t, u) (ap (λ (m : ℕ). NotTaken (refusalOf m)) refusal-same), rw (t, u))
+      (rw (t, u) (ap (λ (m : ℕ). NotTaken (refusalFor d m)) refusal-same), rw (t, u))
 
 pub unused-unseen : UnusedUnseen
 unused-unseen d img jmg v e same = by (eqb (takeRefusal d img (length v)) 0) refl
@@ -123,29 +124,29 @@ unused-unseen d img jmg v e same = by (eqb (takeRefusal d img (length v)) 0) ref
         )
 
 -- the number of an answer that is made by whether the number is 0
-module _ (n : ℕ) where
-  put-told : putNumber (cond (eqb n 0) Put (NotPut (refusalOf n))) ≡ n
-  unfolding refusalOf
+module _ (d : List ℕ) (n : ℕ) where
+  put-told : putNumber (cond (eqb n 0) Put (NotPut (refusalFor d n))) ≡ n
+  unfolding refusalFor refusalBy refusalAt
   put-told = by (eqb n 0) refl
     where
-      by : (b : Bool) → eqb n 0 ≡ b → putNumber (cond b Put (NotPut (refusalOf n))) ≡ n
+      by : (b : Bool) → eqb n 0 ≡ b → putNumber (cond b Put (NotPut (refusalFor d n))) ≡ n
       by true e = sym (eqb-true n 0 e)
       by false e = refl
 
-  take-told : (h : ℕ) → takeNumber (cond (eqb n 0) (Taken h) (NotTaken (refusalOf n))) ≡ n
-  unfolding refusalOf
+  take-told : (h : ℕ) → takeNumber (cond (eqb n 0) (Taken h) (NotTaken (refusalFor d n))) ≡ n
+  unfolding refusalFor refusalBy refusalAt
   take-told h = by (eqb n 0) refl
     where
-      by : (b : Bool) → eqb n 0 ≡ b → takeNumber (cond b (Taken h) (NotTaken (refusalOf n))) ≡ n
+      by : (b : Bool) → eqb n 0 ≡ b → takeNumber (cond b (Taken h) (NotTaken (refusalFor d n))) ≡ n
       by true e = sym (eqb-true n 0 e)
       by false e = refl
 
 pub refusals-told : RefusalsTold
 unfolding putAnswer imageAfter takeAnswer valueAfter
 refusals-told d h v i = record {
-  put = put-told (putRefusal d v (length i));
+  put = put-told d (putRefusal d v (length i));
   unput = λ z. rw (ne-eqb (putRefusal d v (length i)) 0 z);
-  take = take-told (takeRefusal d i (length v)) (returnedAddress (returnPlace d) i);
+  take = take-told d (takeRefusal d i (length v)) (returnedAddress (returnPlace d) i);
   untaken = λ z. rw (ne-eqb (takeRefusal d i (length v)) 0 z);
 }
 

@@ -5,7 +5,7 @@ use mathlib.Core.List.{List}
 use Prim.Native.Nat.{ℕ}
 use lib.Dec.{eqb}
 use lib.ListN.{length}
-use Rattle.form.specs.Reading.{refusalOf}
+use Rattle.types.specs.Wrong.{refusalFor}
 use Rattle.layout.specs.Arguments.{returnPlace}
 use Rattle.return_image.specs.Image.{returnImage, returnValue, returnedAddress}
 use Rattle.returning.specs.Orders.{putRefusal, takeRefusal}
@@ -15,7 +15,7 @@ use Rattle.returning.specs.declared.TakeAnswer.{TakeAnswer}
 use Rattle.returning.specs.declared.TakeAnswer.the-variants.{Taken, Refused as NotTaken}
 
 unfoldable pub putAnswer : List ℕ → List ℕ → ℕ → PutAnswer
-putAnswer d v image = cond (eqb (putRefusal d v image) 0) Put (NotPut (refusalOf (putRefusal d v image)))
+putAnswer d v image = cond (eqb (putRefusal d v image) 0) Put (NotPut (refusalFor d (putRefusal d v image)))
 
 -- the image at exit, i at entry
 unfoldable pub imageAfter : List ℕ → ℕ → List ℕ → List ℕ → List ℕ
@@ -24,7 +24,7 @@ imageAfter d h v i = cond (eqb (putRefusal d v (length i)) 0) (returnImage (retu
 -- the hidden address, 0 where none is carried
 unfoldable pub takeAnswer : List ℕ → List ℕ → ℕ → TakeAnswer
 takeAnswer d img value =
-    cond (eqb (takeRefusal d img value) 0) (Taken (returnedAddress (returnPlace d) img)) (NotTaken (refusalOf (takeRefusal d img value)))
+    cond (eqb (takeRefusal d img value) 0) (Taken (returnedAddress (returnPlace d) img)) (NotTaken (refusalFor d (takeRefusal d img value)))
 
 -- the value at exit, v at entry
 unfoldable pub valueAfter : List ℕ → List ℕ → List ℕ → List ℕ

@@ -5,7 +5,6 @@ use units::Bytes;
 ghost use mathlib.Core.Path.{_≡_};
 ghost use lib.ListN.{length};
 ghost use Rattle.classify.specs.Table.{Tabled};
-ghost use Rattle.layout.specs.Layout.{numberOf};
 ghost use Rattle.layout.specs.Verdict.{verdict};
 ghost use Rattle.returning.specs.Returned.{returnedSize, returnLength};
 ghost use Rattle.returning.specs.Orders.{wrongLength, wrongBool};
@@ -20,16 +19,6 @@ pub enum TakeAnswer {
     // The hidden address, 0 where none is carried.
     Taken(u64),
     Refused(Refusal),
-}
-
-// Why no layout was laid.
-fn refusal_in(answer: LayoutAnswer) -> Refusal
-    ensures { λ r. ⌜ r .number ≡ numberOf answer ⌝ }
-{
-    match answer {
-        LayoutAnswer::Laid(_) => form::refusal_of(0),
-        LayoutAnswer::Refused(refusal) => refusal,
-    }
 }
 
 // The size of the returned type, by the table. Void has none.
@@ -76,7 +65,7 @@ pub fn put_returned(d: &[u8], hidden: u64, value: &[u8], image: &mut [u8]) -> Pu
     let mut table = [0u32; 64];
     let answer = layout::layout_with(d, &mut table);
     let LayoutAnswer::Laid(layout) = answer else {
-        return PutAnswer::Refused(refusal_in(answer));
+        return PutAnswer::Refused(layout::refusal_in(answer));
     };
     let place = layout.returns;
     let right = return_image::length_for(place, returned_size(d, &table));
@@ -98,7 +87,7 @@ pub fn take_returned(d: &[u8], image: &[u8], value: &mut [u8]) -> TakeAnswer
     let mut table = [0u32; 64];
     let answer = layout::layout_with(d, &mut table);
     let LayoutAnswer::Laid(layout) = answer else {
-        return TakeAnswer::Refused(refusal_in(answer));
+        return TakeAnswer::Refused(layout::refusal_in(answer));
     };
     let place = layout.returns;
     let right = return_image::length_for(place, returned_size(d, &table));

@@ -12,7 +12,6 @@ use borrow.Author.Tests.{eq-eqb, ne-eqb}
 use Rattle.addresses.specs.Addresses.{All, run, gather}
 use Rattle.addresses.proofs.Runs.{all-run, run-shift, gather-run}
 use Rattle.addresses.proofs.Parts.{gather-left, gather-right}
-use Rattle.form.specs.Reading.{refusalOf}
 use Rattle.form.specs.declared.Refusal.{Refusal}
 use Rattle.places.specs.declared.Kind.{Kind}
 use Rattle.places.specs.declared.Kind.the-variants.{General as general, Vector as vector, Upper as upper}
@@ -25,8 +24,9 @@ use Rattle.places.specs.Recorded.{asked}
 use Rattle.places.proofs.Fits.{fits-true}
 use Rattle.places.proofs.Apart.{spread-adjoin, slots-inside}
 use Rattle.station.specs.declared.Station.{Station}
-use Rattle.station.specs.Paper.{Paper, kcb, arguments, shapeAt, usedAt, areaOf}
+use Rattle.station.specs.Paper.{Paper, kcb, refusalUnder, arguments, shapeAt, usedAt, areaOf}
 use Rattle.station.specs.Attachment.{described}
+use Rattle.station.proofs.Attachments.{under-none}
 use Rattle.walk.specs.declared.Walk.{Walk}
 use Rattle.walk.specs.declared.Fetch.{Fetch}
 use Rattle.walk.specs.declared.Standing.{Standing}
@@ -142,8 +142,8 @@ shows-none P s seat w a h = rw (ne-eqb (showRefusal P s seat w a) 0 h)
 
 -- ---- as code has it
 
-pub number-is : (P : Paper) (n : ℕ) (d : List ℕ) (p : ℕ) (t : Standing) (r : Refusal) → IsStanding P n d p t → r ≡ refusalIn t → r ≡ refusalOf n
-number-is P n d p (Before c) r h e = e ∙ ap refusalOf (sym (h .0))
+pub number-is : (P : Paper) (n : ℕ) (d : List ℕ) (p : ℕ) (t : Standing) (r : Refusal) → IsStanding P n d p t → r ≡ refusalIn t → r ≡ refusalUnder P d n
+number-is P n d p (Before c) r h e = e ∙ sym (under-none P d 0 refl) ∙ ap (refusalUnder P d) (sym (h .0))
 number-is P n d p (Not q) r h e = e ∙ h .1
 
 module _ (s : Station) (seat : List ℕ) (w : Walk) (a : Ask) (t : Standing) (h : IsStanding kcb (showRefusal kcb s seat w a) (described s seat) (w .position) t) where

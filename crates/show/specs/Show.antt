@@ -5,12 +5,11 @@ use mathlib.Core.List.{List, [], _∷_}
 use Prim.Native.Nat.{ℕ, _+_, _≤_}
 use lib.Dec.{eqb}
 use lib.ListN.{take, drop}
-use Rattle.form.specs.Reading.{refusalOf}
 use Rattle.places.specs.declared.Kind.{Kind}
 use Rattle.places.specs.declared.Kind.the-variants.{General as general, Vector as vector, Upper as upper}
 use Rattle.places.specs.Shapes.{Shape}
 use Rattle.station.specs.declared.Station.{Station}
-use Rattle.station.specs.Paper.{Paper, shapeAt}
+use Rattle.station.specs.Paper.{Paper, refusalUnder, shapeAt}
 use Rattle.station.specs.Attachment.{described}
 use Rattle.walk.specs.declared.Walk.{Walk}
 use Rattle.walk.specs.Offsets.{Source, fromRegisters, fromStack, readAt}
@@ -81,7 +80,7 @@ module _ (P : Paper) where
 
   unfoldable pub shownAnswer : Station → List ℕ → Walk → Ask → ShownAnswer
   shownAnswer s seat w a =
-      cond (eqb (showRefusal P s seat w a) 0) (shownIn (described s seat) w) (Refused (refusalOf (showRefusal P s seat w a)))
+      cond (eqb (showRefusal P s seat w a) 0) (shownIn (described s seat) w) (Refused (refusalUnder P (described s seat) (showRefusal P s seat w a)))
 
   -- what show answers; the out buffer of the ask is not looked at
   unfoldable pub showPart : Station → List ℕ → Walk → Ask → List ℕ

@@ -10,9 +10,9 @@ use walk::Walk;
 ghost use mathlib.Core.Path.{_≡_};
 ghost use mathlib.Core.Bool.{cond};
 ghost use mathlib.Core.List.{[]};
-ghost use Rattle.form.specs.Reading.{refusalOf};
 ghost use Rattle.places.specs.Recorded.{listed, asked as askedOf};
-ghost use Rattle.station.specs.Paper.{kcb};
+ghost use Rattle.station.specs.Paper.{kcb, refusalUnder};
+ghost use Rattle.station.specs.Attachment.{described};
 ghost use Rattle.walk.specs.Offsets.{sourceOf};
 ghost use Rattle.walk.specs.Orders.{asking, showRefusal};
 ghost use Rattle.show.specs.Show.{alike, onePiece, partIn};
@@ -101,7 +101,7 @@ pub fn show_number(
     stack: &[u8],
     asked: u8,
 ) -> Refusal
-    ensures { λ r. ⌜ r ≡ refusalOf (showRefusal kcb station (now (seat .entry)) walk (asking (now (registers .entry)) (now (stack .entry)) asked [])) ⌝ }
+    ensures { λ r. ⌜ r ≡ refusalUnder kcb (described station (now (seat .entry))) (showRefusal kcb station (now (seat .entry)) walk (asking (now (registers .entry)) (now (stack .entry)) asked [])) ⌝ }
 {
     let standing = standing::checked(station, seat, walk, registers, stack, asked);
     standing::refusal_in(standing)

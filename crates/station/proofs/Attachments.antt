@@ -10,7 +10,8 @@ use lib.Dec.{leb, ltb, eqb}
 use lib.ListN.{length, getD, take, drop, replicate, length-append, length-replicate}
 use borrow.Author.Tests.{eq-eqb, ne-eqb, le-leb, lt-leb, eqb-true, ltb-false, leb-false, not-false}
 use Rattle.form.specs.Order.{Rule, rule, first, numbered}
-use Rattle.form.specs.Reading.{refusalOf}
+use Rattle.form.specs.Reading.{refusalAt, refusalBy, refusalOf}
+use Rattle.form.proofs.Named.{names-none}
 use Rattle.form.specs.declared.Refusal.{Refusal}
 use Rattle.addresses.specs.Addresses.{All, run, gather, scatter}
 use Rattle.addresses.specs.Copy.{copied, cleared}
@@ -18,7 +19,7 @@ use Rattle.addresses.proofs.Runs.{gather-run, scatter-whole, all-run, length-ru
 use Rattle.addresses.proofs.Parts.{scatter-left}
 use Rattle.station.specs.declared.Station.{Station}
 use Rattle.station.specs.Outcome.{leaves, NoneHolds, Answers, Positive}
-use Rattle.station.specs.Paper.{Paper, verdictOf}
+use Rattle.station.specs.Paper.{Paper, verdictOf, refusalUnder}
 use Rattle.station.specs.Attachment.{wrongSeat, described, seatOf, freed, holding, detachOrder, detachRefusal, detachStation, detachSeat, attachOrder, attachRefusal, attachStation, attachSeat}
 use Rattle.station.proofs.Orders.{kept, left, first-rest, or-false, positive-numbered, accepts-exactly, refuses-exactly}
 
@@ -128,8 +129,22 @@ module _ (P : Paper) (s : Station) (seat d : List ℕ) where
 
 -- a refusal's number is the number that it was made of
 pub number-of : (n : ℕ) (r : Refusal) → r ≡ refusalOf n → r .number ≡ n
-unfolding refusalOf
+unfolding refusalOf refusalAt
 number-of n r e = ap (λ (q : Refusal). q .number) e
+
+module _ (P : Paper) (d : List ℕ) (n : ℕ) where
+  pub number-under : (r : Refusal) → r ≡ refusalUnder P d n → r .number ≡ n
+  unfolding refusalUnder refusalBy refusalAt
+  number-under r e = ap (λ (q : Refusal). q .number) e
+
+  -- no type is named where nothing is refused, nor by a number above 7
+  pub under-none : n ≡ 0 → refusalUnder P d n ≡ refusalOf n
+  unfolding refusalUnder
+  under-none e = names-none (P .broken d) (P .large d) n (ne-eqb n 6 (λ q. omega arith)) (ne-eqb n 7 (λ q. omega arith))
+
+  pub under-high : 7 < n → refusalUnder P d n ≡ refusalOf n
+  unfolding refusalUnder
+  under-high l = names-none (P .broken d) (P .large d) n (ne-eqb n 6 (λ q. omega arith)) (ne-eqb n 7 (λ q. omega arith))
 
 replicate-add : (m n : ℕ) → replicate {A = ℕ} (m + n) 0 ≡ replicate m 0 ++ replicate n 0
 replicate-add zero n = let e : zero + n ≡ n = omega arith in ap (λ (k : ℕ). replicate k 0) e

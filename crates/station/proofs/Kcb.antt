@@ -7,6 +7,7 @@ use lib.ListN.{length, getD, take}
 use Rattle.description.specs.Description.{argumentsIn, argumentAt, IsBytes}
 use Rattle.addresses.specs.Addresses.{run}
 use Rattle.form.proofs.Form.{accepted-length}
+use Rattle.types.specs.Wrong.{refusalFor}
 use Rattle.types.proofs.Large.{accepted-form}
 use Rattle.uses.proofs.Uses.{accepted-types}
 use Rattle.layout.specs.Arguments.{shapeAt as layoutShape, shapesFrom, shapes, usedAt as layoutUsed, areaOf as layoutArea}
@@ -16,11 +17,15 @@ use Rattle.layout.proofs.Verdict.{accepted-uses}
 use Rattle.places.specs.declared.Used.{Used}
 use Rattle.places.specs.Shapes.{Shape}
 use Rattle.places.specs.Places.{fresh, after}
-use Rattle.station.specs.Paper.{kcb, verdictOf, arguments, shapeAt, typeAt, usedAt, areaOf}
+use Rattle.station.specs.Paper.{kcb, verdictOf, refusalUnder, arguments, shapeAt, typeAt, usedAt, areaOf}
 
 pub kcb-verdict : (d : List ℕ) → verdictOf kcb d ≡ verdict d
 unfolding kcb verdictOf verdict
 kcb-verdict d = refl
+
+pub kcb-refusal : (d : List ℕ) (n : ℕ) → refusalUnder kcb d n ≡ refusalFor d n
+unfolding kcb refusalUnder refusalFor
+kcb-refusal d n = refl
 
 pub kcb-arguments : (d : List ℕ) → arguments kcb d ≡ argumentsIn d
 unfolding kcb arguments

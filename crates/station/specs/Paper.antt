@@ -7,7 +7,11 @@ use lib.Dec.{eqb}
 use lib.ListN.{length, getD, take}
 use Rattle.addresses.specs.Addresses.{run}
 use Rattle.description.specs.Description.{variadicIn, namedIn, argumentsIn, argumentAt}
+use Rattle.form.specs.Conditions.{firstBroken}
 use Rattle.form.specs.Order.{first, numbered}
+use Rattle.form.specs.Reading.{refusalBy}
+use Rattle.form.specs.declared.Refusal.{Refusal}
+use Rattle.types.specs.Large.{firstLarge}
 use Rattle.places.specs.declared.Used.{Used}
 use Rattle.places.specs.Shapes.{Shape}
 use Rattle.places.specs.Places.{fresh, after, area}
@@ -16,6 +20,8 @@ use Rattle.layout.specs.Verdict.{verdictConditions}
 
 pub record Paper : Type 0 where
   pub conditions : List ℕ → List Bool  -- of refusals 1 to 10, in order
+  pub broken : List ℕ → ℕ  -- the lowest type that breaks rule 6
+  pub large : List ℕ → ℕ  -- the lowest type that breaks rule 7
   pub variadic : List ℕ → Bool
   pub hidden : List ℕ → Bool  -- a hidden address takes rdi
   pub named : List ℕ → ℕ  -- N
@@ -26,6 +32,10 @@ module _ (P : Paper) where
   -- 1 to 10, or 0
   unfoldable pub verdictOf : List ℕ → ℕ
   verdictOf d = first (numbered 1 (P .conditions d))
+
+  -- the refusal of a description under number n: 6 and 7 name a type (request 2026-01)
+  unfoldable pub refusalUnder : List ℕ → ℕ → Refusal
+  refusalUnder d n = refusalBy (P .broken d) (P .large d) n
 
   -- A
   unfoldable pub arguments : List ℕ → ℕ
@@ -50,6 +60,8 @@ module _ (P : Paper) where
 unfoldable pub kcb : Paper
 kcb = record {
   conditions = verdictConditions;
+  broken = firstBroken;
+  large = firstLarge;
   variadic = λ d. eqb (variadicIn d) 1;
   hidden = layoutHidden;
   named = namedIn;

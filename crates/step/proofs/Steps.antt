@@ -17,8 +17,9 @@ use Rattle.places.specs.Shapes.{Shape}
 use Rattle.places.specs.Recorded.{asked, Small}
 use Rattle.station.specs.declared.Station.{Station}
 use Rattle.station.specs.Outcome.{leaves}
-use Rattle.station.specs.Paper.{Paper, kcb, shapeAt}
+use Rattle.station.specs.Paper.{Paper, kcb, refusalUnder, shapeAt}
 use Rattle.station.specs.Attachment.{wrongSeat, described}
+use Rattle.station.proofs.Attachments.{under-none, under-high}
 use Rattle.station.proofs.Orders.{kept, left}
 use Rattle.walk.specs.declared.Walk.{Walk}
 use Rattle.walk.specs.declared.Fetch.{Fetch}
@@ -100,14 +101,14 @@ module _ (s : Station) (seat : List ℕ) (w : Walk) (regs stack out : List ℕ) 
   a = asking regs stack ty out
 
   pub leaves-refused : (q r : Refusal) → t ≡ Refused q → r ≡ refusalIn t
-      → (r ≡ refusalOf (stepRefusal kcb s seat w a)) × (w ≡ stepWalk kcb s seat w a) × (out ≡ stepOut kcb s seat w a)
+      → (r ≡ refusalUnder kcb (described s seat) (stepRefusal kcb s seat w a)) × (w ≡ stepWalk kcb s seat w a) × (out ≡ stepOut kcb s seat w a)
   leaves-refused q r e p =
       let g : IsStanding kcb (showRefusal kcb s seat w (asking regs stack ty [])) (described s seat) (w .position) (Refused q) = rw e at h in
       let b = show-blind kcb s seat w regs stack out ty in
       let n : showRefusal kcb s seat w a ≢ 0 = λ z. g .0 (b ∙ z) in
       let x = step-early kcb s seat w a n in
       let y = step-left kcb s seat w a (λ z. n (sym x ∙ z)) in
-      (p ∙ ap refusalIn e ∙ g .1 ∙ ap refusalOf (b ∙ sym x), y .0, y .1)
+      (p ∙ ap refusalIn e ∙ g .1 ∙ ap (refusalUnder kcb (described s seat)) (b ∙ sym x), y .0, y .1)
 
   module _ (c : Coded) (e : t ≡ Before c) where
     stands : IsStanding kcb (showRefusal kcb s seat w (asking regs stack ty [])) (described s seat) (w .position) (Before c)
@@ -123,13 +124,13 @@ module _ (s : Station) (seat : List ℕ) (w : Walk) (regs stack out : List ℕ) 
     size-is = ap (λ (x : Shape). x .size) (stands .1)
 
     pub leaves-out : (r : Refusal) (b : Bool) → r ≡ refusalOf 11 → b ≡ eqb (length out) (c .size .0) → not b ≡ true
-        → (r ≡ refusalOf (stepRefusal kcb s seat w a)) × (w ≡ stepWalk kcb s seat w a) × (out ≡ stepOut kcb s seat w a)
+        → (r ≡ refusalUnder kcb (described s seat) (stepRefusal kcb s seat w a)) × (w ≡ stepWalk kcb s seat w a) × (out ≡ stepOut kcb s seat w a)
     unfolding wrongOut
     leaves-out r b p q z =
         let k : wrongOut kcb (described s seat) w a ≡ true = ap (λ (n : ℕ). not (eqb (length out) n)) (sym size-is) ∙ ap not (sym q) ∙ z in
         let x : stepRefusal kcb s seat w a ≡ 11 = step-late kcb s seat w a accepted ∙ (rw k) in
         let y = step-left kcb s seat w a (λ m. omega arith) in
-        (p ∙ ap refusalOf (sym x), y .0, y .1)
+        (p ∙ sym (under-high kcb (described s seat) 11 (omega arith)) ∙ ap (refusalUnder kcb (described s seat)) (sym x), y .0, y .1)
 
     pub reached-here : Reached w
     reached-here = is-ready .reached
@@ -149,13 +150,13 @@ module _ (s : Station) (seat : List ℕ) (w : Walk) (regs stack out : List ℕ) 
     pub leaves-moved : (r : Refusal) (b : Bool) (f : Fetch) (v : Walk) (last : List ℕ) → r ≡ refusalOf 0 → b ≡ eqb (length out) (c .size .0) → not b ≡ false
         → sourceOf f ≡ readAt (offsetsOf w) (asked c) → last ≡ gather (regs ++ stack) (bytesFrom (sourceOf f) (c .size .0))
         → v ≡ withOffsets (w .number) (suc (w .position)) (step (offsetsOf w) (asked c))
-        → (r ≡ refusalOf (stepRefusal kcb s seat w a)) × (v ≡ stepWalk kcb s seat w a) × (last ≡ stepOut kcb s seat w a)
+        → (r ≡ refusalUnder kcb (described s seat) (stepRefusal kcb s seat w a)) × (v ≡ stepWalk kcb s seat w a) × (last ≡ stepOut kcb s seat w a)
     unfolding wrongOut movedOn bytesAt
     leaves-moved r b f v last p q z g m n =
         let k : wrongOut kcb (described s seat) w a ≡ false = ap (λ (i : ℕ). not (eqb (length out) i)) (sym size-is) ∙ ap not (sym q) ∙ z in
         let x : stepRefusal kcb s seat w a ≡ 0 = step-late kcb s seat w a accepted ∙ (rw k) in
         let y = step-done kcb s seat w a x in (
-          p ∙ ap refusalOf (sym x),
+          p ∙ sym (under-none kcb (described s seat) 0 refl) ∙ ap (refusalUnder kcb (described s seat)) (sym x),
           n ∙ ap (λ (i : Shape). withOffsets (w .number) (suc (w .position)) (step (offsetsOf w) i)) (stands .1) ∙ sym (y .0),
           m ∙ ap₂ (λ (o : Source) (i : ℕ). gather (regs ++ stack) (bytesFrom o i)) (g ∙ ap (readAt (offsetsOf w)) (stands .1)) size-is ∙ sym (y .1),
         )

@@ -9,8 +9,8 @@ ghost use mathlib.Core.Path.{_≡_};
 ghost use mathlib.Core.List.{_++_};
 ghost use lib.ListN.{length};
 ghost use Rattle.addresses.specs.Addresses.{gather};
-ghost use Rattle.form.specs.Reading.{refusalOf};
-ghost use Rattle.station.specs.Paper.{kcb};
+ghost use Rattle.station.specs.Paper.{kcb, refusalUnder};
+ghost use Rattle.station.specs.Attachment.{described};
 ghost use Rattle.walk.specs.Offsets.{bytesFrom, sourceOf};
 ghost use Rattle.walk.specs.Orders.{asking, stepRefusal};
 ghost use Rattle.walk.specs.Steps.{stepWalk, stepOut};
@@ -56,7 +56,7 @@ pub fn stepping(
     asked: u8,
     out: &mut [u8],
 ) -> Stepped
-    ensures { λ r. ⌜ (r .refusal ≡ refusalOf (stepRefusal kcb station (now (seat .entry)) walk (asking (now (registers .entry)) (now (stack .entry)) asked (now (out .entry)))))
+    ensures { λ r. ⌜ (r .refusal ≡ refusalUnder kcb (described station (now (seat .entry))) (stepRefusal kcb station (now (seat .entry)) walk (asking (now (registers .entry)) (now (stack .entry)) asked (now (out .entry)))))
         × (r .walk ≡ stepWalk kcb station (now (seat .entry)) walk (asking (now (registers .entry)) (now (stack .entry)) asked (now (out .entry))))
         × (now (out .exit) ≡ stepOut kcb station (now (seat .entry)) walk (asking (now (registers .entry)) (now (stack .entry)) asked (now (out .entry)))) ⌝ }
 {
@@ -93,7 +93,7 @@ pub fn step(
     asked: u8,
     out: &mut [u8],
 ) -> Refusal
-    ensures { λ r. ⌜ (r ≡ refusalOf (stepRefusal kcb (now (station .entry)) (now (seat .entry)) (now (walk .entry)) (asking (now (registers .entry)) (now (stack .entry)) asked (now (out .entry)))))
+    ensures { λ r. ⌜ (r ≡ refusalUnder kcb (described (now (station .entry)) (now (seat .entry))) (stepRefusal kcb (now (station .entry)) (now (seat .entry)) (now (walk .entry)) (asking (now (registers .entry)) (now (stack .entry)) asked (now (out .entry)))))
         × (now (walk .exit) ≡ stepWalk kcb (now (station .entry)) (now (seat .entry)) (now (walk .entry)) (asking (now (registers .entry)) (now (stack .entry)) asked (now (out .entry))))
         × (now (out .exit) ≡ stepOut kcb (now (station .entry)) (now (seat .entry)) (now (walk .entry)) (asking (now (registers .entry)) (now (stack .entry)) asked (now (out .entry)))) ⌝ }
 {

@@ -17,6 +17,9 @@ use Rattle.layout.proofs.place_argument.Symbol as place-argument-symbol
 use Rattle.layout.proofs.used_after
 use Rattle.layout.proofs.used_after.Met as used-after-met
 use Rattle.layout.proofs.used_after.Symbol as used-after-symbol
+use Rattle.layout.proofs.refusal_in
+use Rattle.layout.proofs.refusal_in.Met as refusal-in-met
+use Rattle.layout.proofs.refusal_in.Symbol as refusal-in-symbol
 
 pub meets-layout-place-argument : Meets place_argument.ended (λ M. place_argument.clauses {M = M}) place-argument-symbol.routine
 meets-layout-place-argument M = place-argument-met.met
@@ -50,3 +53,9 @@ meets-layout-check M = check-met.met
 
 pub tight-layout-check : Tight check.ended (λ M. check.clauses {M = M})
 tight-layout-check c r q w v a b = (equal (result check.ended c) (a .ensured) (b .ensured), refl)
+
+pub meets-layout-refusal-in : Meets refusal_in.ended (λ M. refusal_in.clauses {M = M}) refusal-in-symbol.routine
+meets-layout-refusal-in M = refusal-in-met.met
+
+pub tight-layout-refusal-in : Tight refusal_in.ended (λ M. refusal_in.clauses {M = M})
+tight-layout-refusal-in c r q w v a b = (equal (result refusal_in.ended c) (a .ensured) (b .ensured), refl)

@@ -26,6 +26,9 @@ use Rattle.types.proofs.types_refusal_with.Symbol as types-refusal-with-symbol
 use Rattle.types.proofs.wide
 use Rattle.types.proofs.wide.Met as wide-met
 use Rattle.types.proofs.wide.Symbol as wide-symbol
+use Rattle.types.proofs.refusal_for
+use Rattle.types.proofs.refusal_for.Met as refusal-for-met
+use Rattle.types.proofs.refusal_for.Symbol as refusal-for-symbol
 
 pub meets-types-basic-extent : Meets basic_extent.ended (λ M. basic_extent.clauses {M = M}) basic-extent-symbol.routine
 meets-types-basic-extent M = basic-extent-met.met
@@ -77,3 +80,9 @@ meets-types-types-refusal M = types-refusal-met.met
 
 pub tight-types-types-refusal : Tight types_refusal.ended (λ M. types_refusal.clauses {M = M})
 tight-types-types-refusal c r q w v a b = (equal (result types_refusal.ended c) (a .ensured) (b .ensured), refl)
+
+pub meets-types-refusal-for : Meets refusal_for.ended (λ M. refusal_for.clauses {M = M}) refusal-for-symbol.routine
+meets-types-refusal-for M = refusal-for-met.met
+
+pub tight-types-refusal-for : Tight refusal_for.ended (λ M. refusal_for.clauses {M = M})
+tight-types-refusal-for c r q w v a b = (equal (result refusal_for.ended c) (a .ensured) (b .ensured), refl)

@@ -11,9 +11,6 @@ use Rattle.walk.proofs.moved_on.Symbol as moved-on-symbol
 use Rattle.walk.proofs.walk_at
 use Rattle.walk.proofs.walk_at.Met as walk-at-met
 use Rattle.walk.proofs.walk_at.Symbol as walk-at-symbol
-use Rattle.walk.proofs.why_unlaid
-use Rattle.walk.proofs.why_unlaid.Met as why-unlaid-met
-use Rattle.walk.proofs.why_unlaid.Symbol as why-unlaid-symbol
 
 pub meets-walk-fetch-at : Meets fetch_at.ended (λ M. fetch_at.clauses {M = M}) fetch-at-symbol.routine
 meets-walk-fetch-at M = fetch-at-met.met
@@ -32,9 +29,3 @@ meets-walk-walk-at M = walk-at-met.met
 
 pub tight-walk-walk-at : Tight walk_at.ended (λ M. walk_at.clauses {M = M})
 tight-walk-walk-at c r q w v a b = (equal (result walk_at.ended c) (a .ensured) (b .ensured), refl)
-
-pub meets-walk-why-unlaid : Meets why_unlaid.ended (λ M. why_unlaid.clauses {M = M}) why-unlaid-symbol.routine
-meets-walk-why-unlaid M = why-unlaid-met.met
-
-pub tight-walk-why-unlaid : Tight why_unlaid.ended (λ M. why_unlaid.clauses {M = M})
-tight-walk-why-unlaid c r q w v a b = (equal (result why_unlaid.ended c) (a .ensured) (b .ensured), refl)

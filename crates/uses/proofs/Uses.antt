@@ -16,12 +16,19 @@ use Rattle.form.proofs.Form.{or-none, accepted-whole, accepted-counts}
 use Rattle.types.specs.Large.{typesConditions, typesRefusal}
 use Rattle.types.specs.Asks.{Sized}
 use Rattle.types.proofs.Large.{accepted-form, accepted-sized}
+use Rattle.types.specs.Wrong.{Judged}
+use Rattle.types.proofs.Wrong.{judged}
 use Rattle.uses.specs.Uses.{wrongNumber, wrongReturn, wrongArgument, firstWrong, wrongUse, narrowArgument, narrowUnnamed, firstNarrow, usesConditions, usesRefusal, Typed}
 
 -- the answer is n exactly where condition n holds and no lower one does: here n is 1 + i
 pub uses-exactly : (d : List ℕ) (i : ℕ) → (usesRefusal d ≡ 1 + i) ↔ FirstAt (usesConditions d) i
 unfolding usesRefusal
 uses-exactly d i = first-exactly (usesConditions d) 1 i (omega arith)
+
+-- 6 and 7 among them are judged in order
+pub uses-judged : (d : List ℕ) (n : ℕ) → n ≡ usesRefusal d → Judged d n
+unfolding usesRefusal
+uses-judged d n e = judged d (wrongUse d ∷ narrowUnnamed d ∷ []) n e
 
 pub uses-none-exactly : (d : List ℕ) → (usesRefusal d ≡ 0) ↔ ((j : ℕ) → getD (usesConditions d) j false ≡ false)
 unfolding usesRefusal

@@ -28,7 +28,7 @@ use Rattle.layout.specs.declared.LayoutAnswer.{LayoutAnswer}
 use Rattle.layout.specs.declared.LayoutAnswer.the-variants.{Laid, Refused as Not}
 use Rattle.layout.specs.Arguments.{shapesFrom, hidden, usedAt as layoutUsed, areaOf as layoutArea}
 use Rattle.layout.specs.Verdict.{verdict}
-use Rattle.layout.specs.Layout.{layoutOf, layoutAnswer}
+use Rattle.layout.specs.Layout.{layoutOf, layoutAnswer, refusalIn}
 use Rattle.layout.proofs.Verdict.{accepted-uses}
 use Rattle.layout.proofs.Bounds.{argument-known, type-asked}
 use Rattle.classify.specs.Asks.{AskType}
@@ -36,15 +36,16 @@ use Rattle.layout.proofs.Layouts.{laid-accepted, refused-verdict, refused-nonze
 use Rattle.layout.proofs.Steps.{shape-of-argument}
 use Rattle.station.specs.declared.Station.{Station}
 use Rattle.station.specs.Outcome.{NoneHolds, Answers, Positive}
-use Rattle.station.specs.Paper.{Paper, kcb, verdictOf, arguments, shapeAt, typeAt, usedAt, areaOf}
+use Rattle.station.specs.Paper.{Paper, kcb, verdictOf, refusalUnder, arguments, shapeAt, typeAt, usedAt, areaOf}
 use Rattle.station.specs.Attachment.{wrongSeat, described}
 use Rattle.station.proofs.Orders.{first-rest, first-append, first-early, first-part, or-false, positive-numbered, accepts-exactly, refuses-exactly}
-use Rattle.station.proofs.Kcb.{kcb-verdict, kcb-arguments, kcb-area, kcb-shape, kcb-type}
+use Rattle.station.proofs.Attachments.{under-high}
+use Rattle.station.proofs.Kcb.{kcb-verdict, kcb-refusal, kcb-arguments, kcb-area, kcb-shape, kcb-type}
 use Rattle.walk.specs.declared.Walk.{Walk}
 use Rattle.walk.specs.Offsets.{walkAt}
 use Rattle.walk.specs.Orders.{Ask, asking, withOffsets, standing, wrongRegisters, otherNumber, astray, atEnd, otherType, wrongStack, wrongOut, restOrder, walkOrder, stepOrder, showOrder, stepRefusal, showRefusal, restRefusal}
 use Rattle.walk.specs.declared.Standing.{Standing}
-use Rattle.walk.specs.Asks.{IsStanding, whyUnlaid}
+use Rattle.walk.specs.Asks.{IsStanding}
 use Rattle.walk.proofs.Opens.{standing-is}
 
 -- ---- the layout's answer
@@ -55,11 +56,11 @@ laid-right d r l e p = let z = laid-accepted d l (sym e ∙ p) in (kcb-verdict d
 pub laid-uses : (d : List ℕ) (r : LayoutAnswer) (l : Layout) → r ≡ layoutAnswer d → r ≡ Laid l → usesRefusal d ≡ 0
 laid-uses d r l e p = accepted-uses d (laid-accepted d l (sym e ∙ p) .0)
 
-pub refused-right : (d : List ℕ) (r : LayoutAnswer) (q v : Refusal) → r ≡ layoutAnswer d → r ≡ Not q → v ≡ whyUnlaid r
-    → (v ≡ refusalOf (verdictOf kcb d)) × (verdictOf kcb d ≢ 0)
+pub refused-right : (d : List ℕ) (r : LayoutAnswer) (q v : Refusal) → r ≡ layoutAnswer d → r ≡ Not q → v ≡ refusalIn r
+    → (v ≡ refusalUnder kcb d (verdictOf kcb d)) × (verdictOf kcb d ≢ 0)
 refused-right d r q v e p w =
     let z : layoutAnswer d ≡ Not q = sym e ∙ p in
-    (w ∙ ap whyUnlaid p ∙ refused-verdict d q z ∙ ap refusalOf (sym (kcb-verdict d)), λ v. refused-nonzero d q z (sym (kcb-verdict d) ∙ v))
+    (w ∙ ap refusalIn p ∙ refused-verdict d q z ∙ sym (kcb-refusal d (verdict d)) ∙ ap (refusalUnder kcb d) (sym (kcb-verdict d)), λ v. refused-nonzero d q z (sym (kcb-verdict d) ∙ v))
 
 pub headed : (d : List ℕ) → usesRefusal d ≡ 0 → 11 ≤ length d
 headed d u = accepted-headed d (accepted-form d (accepted-types d u))
@@ -201,8 +202,14 @@ stack-test d a l b e q = rw (kcb-area d) (ap not (sym (q ∙ ap (λ (m : Layout)
 pub shape-here : (d : List ℕ) (p k : ℕ) (s : Coded) → p < argumentsIn d → k ≡ argumentAt d p → asked s ≡ shapeOf (tyAt d k) → asked s ≡ shapeAt kcb d p
 shape-here d p k s l e q = shape-of-argument d p k s e q ∙ sym (kcb-shape d p l)
 
-pub refused-as : (n m : ℕ) (r : Refusal) → r ≡ refusalOf m → 0 < m → n ≡ m → (n ≢ 0) × (r ≡ refusalOf n)
-refused-as n m r e l p = ((λ z. omega arith), e ∙ ap refusalOf (sym p))
+module _ (P : Paper) (d : List ℕ) (n m : ℕ) (r : Refusal) where
+  -- a refusal that is passed on
+  pub refused-on : r ≡ refusalUnder P d m → 0 < m → n ≡ m → (n ≢ 0) × (r ≡ refusalUnder P d n)
+  refused-on e l p = ((λ z. omega arith), e ∙ ap (refusalUnder P d) (sym p))
+
+  -- one of the walk's own
+  pub refused-as : r ≡ refusalOf m → 7 < m → n ≡ m → (n ≢ 0) × (r ≡ refusalUnder P d n)
+  refused-as e l p = refused-on (e ∙ sym (under-high P d m l)) (omega arith) p
 
 -- ---- all of the order
 

@@ -20,9 +20,10 @@ use Rattle.layout.specs.Layout.{layoutOf}
 use Rattle.layout.specs.declared.Layout.{Layout}
 use Rattle.station.specs.declared.Station.{Station}
 use Rattle.station.specs.Outcome.{NoneHolds, Answers, Positive}
-use Rattle.station.specs.Paper.{Paper, kcb, verdictOf, usedAt}
+use Rattle.station.specs.Paper.{Paper, kcb, verdictOf, refusalUnder, usedAt}
 use Rattle.station.specs.Attachment.{wrongSeat, described}
 use Rattle.station.proofs.Orders.{first-append, first-early, positive-numbered, accepts-exactly, refuses-exactly}
+use Rattle.station.proofs.Attachments.{under-high}
 use Rattle.station.proofs.Kcb.{kcb-used}
 use Rattle.walk.specs.declared.Walk.{Walk}
 use Rattle.walk.specs.declared.OpenAnswer.{OpenAnswer}
@@ -33,13 +34,19 @@ use Rattle.walk.specs.Steps.{openedIf, openWalk, openAnswer}
 
 -- ---- as an answer
 
-pub opened-refused : (n m : ℕ) (r : Refusal) (w : Walk) → r ≡ refusalOf m → 0 < m → n ≡ m → Refused r ≡ openedIf n w
-unfolding openedIf
-opened-refused n m r w e l p = rw (p, ne-eqb m 0 (λ q. omega arith)) (ap Refused e)
+module _ (P : Paper) (d : List ℕ) where
+  -- a refusal that is passed on
+  pub opened-not : (n m : ℕ) (r : Refusal) (w : Walk) → r ≡ refusalUnder P d m → 0 < m → n ≡ m → Refused r ≡ openedIf P d n w
+  unfolding openedIf
+  opened-not n m r w e l p = rw (p, ne-eqb m 0 (λ q. omega arith)) (ap Refused e)
 
-pub opened-done : (n : ℕ) (v w : Walk) → n ≡ 0 → v ≡ w → Opened v ≡ openedIf n w
-unfolding openedIf
-opened-done n v w p e = rw (eq-eqb n 0 p) (ap Opened e)
+  -- one of the walk's own
+  pub opened-refused : (n m : ℕ) (r : Refusal) (w : Walk) → r ≡ refusalOf m → 7 < m → n ≡ m → Refused r ≡ openedIf P d n w
+  opened-refused n m r w e l p = opened-not n m r w (e ∙ sym (under-high P d m l)) (omega arith) p
+
+  pub opened-done : (n : ℕ) (v w : Walk) → n ≡ 0 → v ≡ w → Opened v ≡ openedIf P d n w
+  unfolding openedIf
+  opened-done n v w p e = rw (eq-eqb n 0 p) (ap Opened e)
 
 module _ (P : Paper) (d : List ℕ) where
   pub variadic-early : verdictOf P d ≢ 0 → first (variadicOrder P d) ≡ verdictOf P d
@@ -99,14 +106,14 @@ module _ (P : Paper) (s : Station) (seat : List ℕ) where
 
   pub answer-wrong : (r : Refusal) → r ≡ refusalOf 11 → wrongSeat s seat ≡ true → Refused r ≡ openAnswer P s seat
   unfolding openAnswer
-  answer-wrong r q e = opened-refused _ 11 r _ q (omega arith) (open-wrong e)
+  answer-wrong r q e = opened-refused P _ _ 11 r _ q (omega arith) (open-wrong e)
 
   pub answer-idle : (r : Refusal) → r ≡ refusalOf 13 → wrongSeat s seat ≡ false → s .attached ≡ false → Refused r ≡ openAnswer P s seat
   unfolding openAnswer
-  answer-idle r q e a = opened-refused _ 13 r _ q (omega arith) (open-idle e a)
+  answer-idle r q e a = opened-refused P _ _ 13 r _ q (omega arith) (open-idle e a)
 
   pub answer-rest : (r : OpenAnswer) → wrongSeat s seat ≡ false → s .attached ≡ true
-      → r ≡ openedIf (first (variadicOrder P (take (s .length .0) seat))) (standing P (take (s .length .0) seat) (s .number) (P .named (take (s .length .0) seat)))
+      → r ≡ openedIf P (take (s .length .0) seat) (first (variadicOrder P (take (s .length .0) seat))) (standing P (take (s .length .0) seat) (s .number) (P .named (take (s .length .0) seat)))
       → r ≡ openAnswer P s seat
   unfolding openAnswer openWalk described
-  answer-rest r e a q = q ∙ ap (λ (n : ℕ). openedIf n (openWalk P s seat)) (sym (open-rest e a))
+  answer-rest r e a q = q ∙ ap (λ (n : ℕ). openedIf P (described s seat) n (openWalk P s seat)) (sym (open-rest e a))

@@ -9,9 +9,7 @@ use Rattle.places.specs.declared.Kind.{Kind}
 use Rattle.places.specs.declared.Kind.the-variants.{General as general, Vector as vector, Upper as upper}
 use Rattle.places.specs.Places.{generals, vectors}
 use Rattle.places.specs.Recorded.{asked}
-use Rattle.layout.specs.declared.LayoutAnswer.{LayoutAnswer}
-use Rattle.layout.specs.declared.LayoutAnswer.the-variants.{Laid, Refused as NotLaid}
-use Rattle.station.specs.Paper.{Paper, shapeAt}
+use Rattle.station.specs.Paper.{Paper, refusalUnder, shapeAt}
 use Rattle.walk.specs.declared.Walk.{Walk}
 use Rattle.walk.specs.declared.Counts.{Counts}
 use Rattle.walk.specs.declared.Fetch.{Fetch}
@@ -47,12 +45,7 @@ Within (Stack o) n regs stack = o .0 + n ≤ stack
 -- that n is the number: the shape of the argument that the walk stands before where n is 0, and else the refusal
 abbrev pub IsStanding : Paper → ℕ → List ℕ → ℕ → Standing → Type 0
 IsStanding P n d p (Before s) = (n ≡ 0) × (asked s ≡ shapeAt P d p)
-IsStanding P n d p (Refused r) = (n ≢ 0) × (r ≡ refusalOf n)
-
--- the refusal that a layout's answer carries
-abbrev pub whyUnlaid : LayoutAnswer → Refusal
-whyUnlaid (Laid l) = refusalOf 0
-whyUnlaid (NotLaid r) = r
+IsStanding P n d p (Refused r) = (n ≢ 0) × (r ≡ refusalUnder P d n)
 
 -- the refusal that a standing carries
 abbrev pub refusalIn : Standing → Refusal

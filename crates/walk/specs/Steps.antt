@@ -4,10 +4,9 @@ use mathlib.Core.List.{List, _++_}
 use Prim.Native.Nat.{ℕ, suc}
 use lib.Dec.{eqb}
 use Rattle.addresses.specs.Addresses.{gather}
-use Rattle.form.specs.Reading.{refusalOf}
 use Rattle.station.specs.declared.Station.{Station}
 use Rattle.station.specs.Outcome.{leaves}
-use Rattle.station.specs.Paper.{Paper, shapeAt}
+use Rattle.station.specs.Paper.{Paper, refusalUnder, shapeAt}
 use Rattle.station.specs.Attachment.{described}
 use Rattle.walk.specs.declared.Walk.{Walk}
 use Rattle.walk.specs.declared.OpenAnswer.{OpenAnswer}
@@ -20,16 +19,17 @@ abbrev pub numberOf : OpenAnswer → ℕ
 numberOf (Opened w) = 0
 numberOf (Refused r) = r .number
 
-unfoldable pub openedIf : ℕ → Walk → OpenAnswer
-openedIf n w = cond (eqb n 0) (Opened w) (Refused (refusalOf n))
-
 module _ (P : Paper) where
+  -- of d, that n is the number: the walk where n is 0, and else the refusal
+  unfoldable pub openedIf : List ℕ → ℕ → Walk → OpenAnswer
+  openedIf d n w = cond (eqb n 0) (Opened w) (Refused (refusalUnder P d n))
+
   -- "Open gives position N and the offsets after the named arguments (and hidden address)": the record where it answers 0
   unfoldable pub openWalk : Station → List ℕ → Walk
   openWalk s seat = standing P (described s seat) (s .number) (P .named (described s seat))
 
   unfoldable pub openAnswer : Station → List ℕ → OpenAnswer
-  openAnswer s seat = openedIf (openRefusal P s seat) (openWalk s seat)
+  openAnswer s seat = openedIf (described s seat) (openRefusal P s seat) (openWalk s seat)
 
   -- the argument's bytes: fetched where 3.5.7 says, from the register image with the stack image after it
   unfoldable pub bytesAt : List ℕ → Walk → Ask → List ℕ

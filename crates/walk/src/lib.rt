@@ -18,7 +18,7 @@ ghost use Rattle.places.specs.Places.{generalFor, vectorFor};
 ghost use Rattle.places.specs.Recorded.{listed, asked as askedOf, Small};
 ghost use Rattle.walk.specs.Offsets.{holds, readAt, step as stepOffsets, sourceOf, walkAt};
 ghost use Rattle.walk.specs.Orders.{offsetsOf, withOffsets};
-ghost use Rattle.walk.specs.Asks.{Reached, IsCounted, readFor, whyUnlaid};
+ghost use Rattle.walk.specs.Asks.{Reached, IsCounted, readFor};
 
 // Where a walk stands: the attachment it was opened under, the next argument, gp_offset, fp_offset and the overflow offset.
 #[repr(C)]
@@ -52,16 +52,6 @@ struct Counts {
 pub enum Standing {
     Before(Shape),
     Refused(Refusal),
-}
-
-// Why no layout was laid, for a caller that passes it on.
-pub fn why_unlaid(answer: LayoutAnswer) -> Refusal
-    ensures { λ r. ⌜ r ≡ whyUnlaid answer ⌝ }
-{
-    match answer {
-        LayoutAnswer::Laid(_) => form::refusal_of(0),
-        LayoutAnswer::Refused(refusal) => refusal,
-    }
 }
 
 // The walk before argument `position`, where so much is used.

@@ -158,7 +158,7 @@ fn printed_functions() -> Vec<Vec<u8>> {
     let mut all: Vec<Vec<u8>> = texts.map(description).collect();
     all.push(bytes_of_hex(LISTER));
     all.extend(limits().into_iter().map(|(_, bytes)| bytes));
-    all.retain(|bytes| check(bytes) == 0);
+    all.retain(|bytes| check(bytes).number == 0);
     all
 }
 

@@ -136,9 +136,10 @@ fn has_wrong_total_length(description: Description) -> bool {
     description.bytes.len() != right
 }
 
-/// 6: "a type record against the rules", any of them, used or not.
-fn has_record_against_rules(description: Description) -> bool {
-    description.all_types().any(|number| is_record_against_rules(description, number))
+/// 6: "a type record against the rules", any of them, used or not; answers "the
+/// lowest type number that breaks the rule".
+fn first_against_rules(description: Description) -> Option<u8> {
+    description.all_types().find(|&number| is_record_against_rules(description, number))
 }
 
 fn is_record_against_rules(description: Description, number: u8) -> bool {
@@ -180,8 +181,8 @@ pub fn form(bytes: &[u8]) -> Result<Description<'_>, Refusal> {
     if has_wrong_total_length(description) {
         return Err(Refusal::WrongTotalLength);
     }
-    if has_record_against_rules(description) {
-        return Err(Refusal::RecordAgainstRules);
+    if let Some(lowest) = first_against_rules(description) {
+        return Err(Refusal::RecordAgainstRules(lowest));
     }
     Ok(description)
 }

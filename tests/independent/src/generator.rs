@@ -35,7 +35,7 @@ pub fn random_description(random: &mut Random, shape: Shape) -> Vec<u8> {
         let mut draft = random_types(random, shape);
         add_arguments(random, shape, &mut draft);
         let bytes = draft.bytes();
-        if check(&bytes) == 0 {
+        if check(&bytes).number == 0 {
             return bytes;
         }
     }

@@ -7,7 +7,7 @@ use crate::generator::{random_description, Shape};
 use crate::moving::{placing, Image, REGISTER_IMAGE};
 use crate::places::accepted;
 use crate::random::Random;
-use crate::refusal::number_or_zero;
+use crate::refusal::{told, Told};
 use crate::station::{attach, detach, Station, SEAT};
 use crate::types::code;
 use crate::walk::{open, show_number, shown_piece, step, Walk};
@@ -190,11 +190,11 @@ impl Scene {
             Command::Attach(description) => {
                 let seat = &mut self.seat[..self.lent];
                 let answer = attach(&mut self.station, seat, description);
-                format!("attach {}", self.after_station_call(number_or_zero(&answer)))
+                format!("attach {}", self.after_station_call(told(&answer)))
             }
             Command::Detach => {
                 let answer = detach(&mut self.station, &mut self.seat[..self.lent]);
-                format!("detach {}", self.after_station_call(number_or_zero(&answer)))
+                format!("detach {}", self.after_station_call(told(&answer)))
             }
             Command::Open { slot } => self.answer_open(*slot),
             Command::Step { slot, asked, out } => self.answer_step(*slot, *asked, *out),
@@ -208,8 +208,8 @@ impl Scene {
         }
     }
 
-    fn after_station_call(&self, number: u8) -> String {
-        format!("{number} {} seat {}", self.station_text(), self.seat_sum())
+    fn after_station_call(&self, told: Told) -> String {
+        format!("{told} {} seat {}", self.station_text(), self.seat_sum())
     }
 
     fn answer_open(&mut self, slot: u8) -> String {
@@ -217,7 +217,7 @@ impl Scene {
         if let Ok(walk) = answer {
             self.walks[slot as usize] = walk;
         }
-        format!("open {} {}", number_or_zero(&answer), self.walk_text(slot))
+        format!("open {} {}", told(&answer), self.walk_text(slot))
     }
 
     fn answer_step(&mut self, slot: u8, asked: u8, length: u16) -> String {
@@ -231,8 +231,8 @@ impl Scene {
             &self.stack,
             &mut out,
         );
-        let number = number_or_zero(&answer);
-        format!("step {number} {} {}", word_and_hex("out", &out), self.walk_text(slot))
+        let told = told(&answer);
+        format!("step {told} {} {}", word_and_hex("out", &out), self.walk_text(slot))
     }
 
     fn answer_show(&self, slot: u8, asked: u8) -> String {
@@ -255,7 +255,7 @@ impl Scene {
     }
 
     fn answer_number(&self, slot: u8, asked: u8) -> String {
-        let number = show_number(
+        let told = show_number(
             &self.station,
             &self.seat[..self.lent],
             &self.walks[slot as usize],
@@ -263,7 +263,7 @@ impl Scene {
             &self.registers,
             &self.stack,
         );
-        format!("number {number}")
+        format!("number {told}")
     }
 }
 

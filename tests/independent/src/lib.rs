@@ -22,6 +22,7 @@ pub mod notation;
 pub mod cases;
 pub mod generator;
 pub mod damage;
+pub mod broken;
 pub mod history;
 pub mod mixture;
 pub mod lister;

@@ -1,6 +1,7 @@
 //! The lister, run as a user runs it: bytes on standard input, text on standard
 //! output, compared with the text of this layout.
 
+use crate::broken::broken;
 use crate::cases::{bytes_of_hex, CASES, LISTER};
 use crate::damage::{damaged, refusals_and_pairs};
 use crate::generator::limits;
@@ -19,8 +20,8 @@ pub struct Outcome {
     pub different: usize,
 }
 
-/// Runs the program on what document 01 prints, on the limits, on each refusal
-/// and pair of them, and on `count` random inputs.
+/// Runs the program on what document 01 prints, on the limits, on broken types,
+/// on each refusal and pair of them, and on `count` random inputs.
 pub fn compare(program: &str, count: usize, seed: u64) -> Outcome {
     let mut random = Random::new(seed);
     let mixture = Mixture::new();
@@ -44,6 +45,7 @@ fn by_hand(random: &mut Random) -> Vec<Vec<u8>> {
     all.push([&lister[..], b"\n"].concat());
     all.extend(CASES.iter().map(|case| description(case.function)));
     all.extend(limits().into_iter().map(|(_, bytes)| bytes));
+    all.extend(broken().into_iter().map(|one| one.bytes));
     for refusals in refusals_and_pairs() {
         all.push(damaged(random, &refusals));
     }

@@ -1,6 +1,7 @@
 //! "The lister": the text for a description.
 
 use crate::places::{accepted, Accepted, Place, Placement, Register, ReturnPlace, ReturnRegister};
+use crate::refusal::Refusal;
 use crate::walk::offsets_after;
 
 pub fn register_name(register: Register) -> String {
@@ -88,11 +89,22 @@ fn walk_line(accepted: &Accepted) -> String {
     )
 }
 
-/// The lister's text. "A refusal is the one line `refused n`."
+/// "A refusal is the one line `refused n`", and for one that names a type, be it
+/// type 0, "`refused 6 type 12`" (02, 2026-01).
+fn refusal_line(refusal: Refusal) -> String {
+    match refusal {
+        Refusal::RecordAgainstRules(lowest) | Refusal::TypeTooLarge(lowest) => {
+            format!("refused {} type {lowest}\n", refusal.number())
+        }
+        _ => format!("refused {}\n", refusal.number()),
+    }
+}
+
+/// The lister's text.
 pub fn listing(bytes: &[u8]) -> String {
     let accepted = match accepted(bytes) {
         Ok(accepted) => accepted,
-        Err(refusal) => return format!("refused {}\n", refusal.number()),
+        Err(refusal) => return refusal_line(refusal),
     };
     let mut text = head_line(&accepted);
     for (position, placement) in accepted.layout.placements.iter().enumerate() {

@@ -1,6 +1,7 @@
 //! Bytes of every kind for long runs: accepted descriptions of all sizes, refused
 //! ones, towers, and bytes that are hardly descriptions at all.
 
+use crate::broken::{broken, random_broken};
 use crate::damage::{damaged, refusals_and_pairs};
 use crate::generator::{limits, random_description, towers, LARGE, MIDDLE, SMALL};
 use crate::random::Random;
@@ -13,7 +14,8 @@ pub struct Mixture {
 
 impl Mixture {
     pub fn new() -> Mixture {
-        let by_hand = limits().into_iter().chain(towers()).map(|(_, bytes)| bytes).collect();
+        let named = limits().into_iter().chain(towers()).map(|(_, bytes)| bytes);
+        let by_hand = named.chain(broken().into_iter().map(|one| one.bytes)).collect();
         Mixture { refusals: refusals_and_pairs(), by_hand }
     }
 
@@ -31,6 +33,7 @@ impl Mixture {
                 let index = random.below(self.refusals.len());
                 damaged(random, &self.refusals[index])
             }
+            16 => random_broken(random),
             _ => changed(random),
         }
     }

@@ -2,7 +2,7 @@
 
 use crate::classes::{classes_of, Class, Classes, IN_MEMORY};
 use crate::description::{Description, ARRAY, VOID};
-use crate::refusal::Refusal;
+use crate::refusal::{told, Refusal, Told};
 use crate::types::{code, types, Types};
 use crate::units::{Bytes, Registers};
 
@@ -274,8 +274,8 @@ pub fn accepted(bytes: &[u8]) -> Result<Accepted<'_>, Refusal> {
 }
 
 /// 0, or the refusal of the whole description.
-pub fn check(bytes: &[u8]) -> u8 {
-    crate::refusal::number_or_zero(&accepted(bytes))
+pub fn check(bytes: &[u8]) -> Told {
+    told(&accepted(bytes))
 }
 
 /// "Layout: 1..10, 11." One record for each argument goes into the lent list;

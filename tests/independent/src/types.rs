@@ -154,15 +154,16 @@ impl<'a> Types<'a> {
 }
 
 /// Refusals 1 to 7. Types only name lower numbers, so sizes are found from 0
-/// upward, each once; the first over 4,096 ends it, so no size here exceeds
-/// 4096 elements of 4096 bytes.
+/// upward, each once; the first over 4,096, which is "the lowest type number
+/// that breaks the rule", ends it, so no size here exceeds 4096 elements of 4096
+/// bytes.
 pub fn types(bytes: &[u8]) -> Result<Types<'_>, Refusal> {
     let description = form(bytes)?;
     let mut types = Types { description, measures: Vec::new() };
     for type_number in 0..description.types() as u8 {
         let found = types.measured(type_number);
         if found.size > LARGEST {
-            return Err(Refusal::TypeTooLarge);
+            return Err(Refusal::TypeTooLarge(type_number));
         }
         types.measures.push(found);
     }

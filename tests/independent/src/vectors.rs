@@ -1,6 +1,7 @@
 //! The vectors: pairs of NAME.in and NAME.out that programs in another language
 //! read and must answer. Formats: vectors/README.md.
 
+use crate::broken::{broken, random_broken, wholly_mended};
 use crate::cases::{bytes_of_hex, CASES, LISTER};
 use crate::classes::classes_of;
 use crate::damage::{damaged, refusals_and_pairs};
@@ -12,6 +13,7 @@ use crate::moving::{gathering, placing, REGISTER_IMAGE};
 use crate::notation::{self, description};
 use crate::places::{accepted, layout, Place, Placement};
 use crate::random::Random;
+use crate::refusal::Told;
 use crate::returning::{putting, taking, value_length, RETURN_IMAGE};
 use crate::station::Station;
 use crate::types::{asked, run_range};
@@ -81,6 +83,14 @@ fn questions(random: &mut Random) -> Writer {
         let bytes = random_description(random, MIDDLE);
         ask_most(random, &mut writer, &bytes, 4);
     }
+    for one in broken() {
+        ask(&mut writer, &one.bytes, 0);
+        ask(&mut writer, &one.bytes, 255);
+    }
+    for _ in 0..20 {
+        let bytes = random_broken(random);
+        ask_most(random, &mut writer, &bytes, 1);
+    }
     writer
 }
 
@@ -108,7 +118,7 @@ fn ask(writer: &mut Writer, bytes: &[u8], type_number: u8) {
 pub fn question_line(bytes: &[u8], type_number: u8) -> String {
     let types = match asked(bytes, type_number) {
         Ok(types) => types,
-        Err(refusal) => return format!("refused {}\n", refusal.number()),
+        Err(refusal) => return format!("refused {}\n", Told::from(refusal)),
     };
     let measure = types.measure(type_number);
     let [first, second] = classes_of(&types, type_number);
@@ -159,6 +169,14 @@ fn layouts(random: &mut Random) -> Writer {
         let bytes = random_description(random, LARGE);
         lay_out(&mut writer, &bytes, 64);
     }
+    for one in broken() {
+        lay_out(&mut writer, &one.bytes, 64);
+        lay_out(&mut writer, &one.bytes, 0);
+    }
+    for _ in 0..20 {
+        let bytes = random_broken(random);
+        lay_out(&mut writer, &bytes, 64);
+    }
     writer
 }
 
@@ -178,7 +196,7 @@ pub fn layout_text(bytes: &[u8], lent: u8) -> String {
     let mut list = vec![empty_placement(); lent as usize];
     match layout(bytes, &mut list) {
         Ok(layout) => format!("{}values {}\n", listing(bytes), layout.values_length()),
-        Err(refusal) => format!("refused {}\n", refusal.number()),
+        Err(refusal) => format!("refused {}\n", Told::from(refusal)),
     }
 }
 
@@ -221,6 +239,9 @@ fn moves(random: &mut Random) -> Writer {
     for _ in 0..25 {
         let one = spoilt_move(random);
         add_move(&mut writer, &one);
+    }
+    for one in broken() {
+        add_move(&mut writer, &move_for(&one.bytes, vec![1; 8], 0xFF, 0, 8));
     }
     writer
 }
@@ -387,11 +408,11 @@ fn move_text(one: &Move) -> String {
     let gathered = gathering(&one.description, &registers, &stack, &mut values);
     let first = match placed {
         Ok(count) => format!("placed {}", count.0),
-        Err(refusal) => format!("refused {}", refusal.number()),
+        Err(refusal) => format!("refused {}", Told::from(refusal)),
     };
     let second = match gathered {
         Ok(hidden_address) => format!("gathered {hidden_address}"),
-        Err(refusal) => format!("refused {}", refusal.number()),
+        Err(refusal) => format!("refused {}", Told::from(refusal)),
     };
     format!(
         "{first}\n{}\n{}\n{second}\n{}\n",
@@ -435,6 +456,9 @@ fn printed_histories(random: &mut Random, script: &mut Script) {
     last_numbers(random, script);
     spoilt_seats(random, script);
     wrong_lengths_in_order(random, script);
+    for one in broken() {
+        types_broken_in_the_seat(script, &one.bytes);
+    }
 }
 
 fn walked_functions() -> Vec<Vec<u8>> {
@@ -638,6 +662,30 @@ fn type_grown_in_the_seat(script: &mut Script) {
     script.add(Command::Number { slot: 0, asked: 0 });
 }
 
+/// A description with broken types, which attach refuses; then the same with
+/// these types mended, and broken by hand in the seat.
+fn types_broken_in_the_seat(script: &mut Script, bytes: &[u8]) {
+    script.add(Command::Reset);
+    script.add(Command::Attach(bytes.to_vec()));
+    let Some(whole) = wholly_mended(bytes) else {
+        return;
+    };
+    script.add(Command::Attach(whole.clone()));
+    script.add(Command::Registers(vec![0; REGISTER_IMAGE]));
+    script.add(Command::Open { slot: 0 });
+    for (index, (&value, &right)) in bytes.iter().zip(&whole).enumerate() {
+        if value != right {
+            script.add(Command::Spoil { index: index as u16, value });
+        }
+    }
+    script.add(Command::Open { slot: 1 });
+    script.add(Command::Show { slot: 0, asked: 0 });
+    script.add(Command::Number { slot: 0, asked: 0 });
+    script.add(Command::Step { slot: 0, asked: 0, out: 4 });
+    script.add(Command::Attach(bytes.to_vec()));
+    script.add(Command::Detach);
+}
+
 /// A fifth block of 4,096 bytes, put into the seat by hand: 10 at open.
 fn area_grown_in_the_seat(script: &mut Script) {
     let mut draft = Draft::new();
@@ -723,6 +771,13 @@ fn listings(random: &mut Random) -> Writer {
         let bytes = random_description(random, SMALL);
         list(&mut writer, &bytes);
     }
+    for one in broken() {
+        list(&mut writer, &one.bytes);
+    }
+    for _ in 0..20 {
+        let bytes = random_broken(random);
+        list(&mut writer, &bytes);
+    }
     writer
 }
 
@@ -767,6 +822,9 @@ fn returns(random: &mut Random) -> Writer {
             spoil_return(random, &mut one);
         }
         add_return(&mut writer, &one);
+    }
+    for one in broken() {
+        add_return(&mut writer, &return_for(&one.bytes, Vec::new()));
     }
     writer
 }
@@ -894,11 +952,11 @@ fn return_text(one: &Return) -> String {
     let taken = taking(&one.description, &image, &mut value);
     let first = match put {
         Ok(()) => "put".to_string(),
-        Err(refusal) => format!("refused {}", refusal.number()),
+        Err(refusal) => format!("refused {}", Told::from(refusal)),
     };
     let second = match taken {
         Ok(hidden_address) => format!("taken {hidden_address}"),
-        Err(refusal) => format!("refused {}", refusal.number()),
+        Err(refusal) => format!("refused {}", Told::from(refusal)),
     };
     let (image, value) = (word_and_hex("image", &image), word_and_hex("value", &value));
     format!("{first}\n{image}\n{second}\n{value}\n")

@@ -5,7 +5,7 @@ use crate::moving::{Image, REGISTER_IMAGE, VECTOR_START};
 use crate::places::{
     accepted, registers_needed, Accepted, Taken, GENERAL_REGISTERS, VECTOR_REGISTERS,
 };
-use crate::refusal::{number_or_zero, Refusal};
+use crate::refusal::{told, Refusal, Told};
 use crate::station::{check_seat, Station};
 use crate::types::Types;
 use crate::units::{Bytes, Registers};
@@ -269,7 +269,8 @@ pub fn show<'a>(
     }
 }
 
-/// "A third call gives the second's refusal number, or 0."
+/// "A third call gives the second's refusal number, or 0", and "passes such a
+/// refusal on", so it "passes the number too" (02, 2026-01).
 pub fn show_number(
     station: &Station,
     seat: &[u8],
@@ -277,6 +278,6 @@ pub fn show_number(
     type_number: u8,
     registers: &[u8],
     stack: &[u8],
-) -> u8 {
-    number_or_zero(&shown_piece(station, seat, walk, type_number, registers, stack))
+) -> Told {
+    told(&shown_piece(station, seat, walk, type_number, registers, stack))
 }

@@ -1,15 +1,19 @@
 //! Refusals: each number, each pair in its order, and each call's own order.
 
+use independent::broken::{broken, mended, random_broken};
 use independent::cases::{bytes_of_hex, LISTER};
+use independent::classes::classes;
 use independent::damage::{damaged, refusals_and_pairs};
 use independent::history::{random_images, random_values};
+use independent::listing::listing;
 use independent::moving::{gathering, placing, REGISTER_IMAGE};
 use independent::notation::description;
-use independent::places::check;
+use independent::places::{check, layout};
 use independent::random::Random;
-use independent::refusal::Refusal;
+use independent::refusal::{told, Refusal, Told};
+use independent::returning::{putting, taking, RETURN_IMAGE};
 use independent::station::{attach, detach, Station, SEAT};
-use independent::types::types;
+use independent::types::{alignment, size, types};
 use independent::walk::{open, show_number, step, Walk};
 
 #[test]
@@ -18,12 +22,95 @@ fn the_lower_of_two_conditions_is_answered() {
     for refusals in refusals_and_pairs() {
         for _ in 0..200 {
             let bytes = damaged(&mut random, &refusals);
-            assert_eq!(check(&bytes), refusals[0], "{refusals:?} {bytes:?}");
+            assert_eq!(check(&bytes).number, refusals[0], "{refusals:?} {bytes:?}");
             let question = types(&bytes).err().map_or(0, Refusal::number);
             let expected = if refusals[0] <= 7 { refusals[0] } else { 0 };
             assert_eq!(question, expected, "{refusals:?} {bytes:?}");
         }
     }
+}
+
+/// What each call tells that takes a description, and those on a seat that holds
+/// it, however it came there.
+fn told_by_each_call(bytes: &[u8]) -> Vec<Told> {
+    let mut registers = vec![9; REGISTER_IMAGE];
+    let mut seat = vec![0; SEAT];
+    let mut new = Station::default();
+    let refused = attach(&mut new, &mut seat, bytes);
+    seat[..bytes.len()].copy_from_slice(bytes);
+    let station = Station { attached: true, length: bytes.len(), number: 1 };
+    let mut walk = Walk::default();
+    let mut image = [0; RETURN_IMAGE];
+    vec![
+        check(bytes),
+        told(&layout(bytes, &mut [])),
+        told(&placing(bytes, 0, &[], &mut registers, &mut [])),
+        told(&gathering(bytes, &registers, &[], &mut [])),
+        told(&putting(bytes, 0, &[], &mut image)),
+        told(&taking(bytes, &image, &mut [])),
+        told(&refused),
+        told(&open(&station, &seat)),
+        told(&step(&station, &seat, &mut walk, 0, &registers, &[], &mut [])),
+        show_number(&station, &seat, &walk, 0, &registers, &[]),
+    ]
+}
+
+fn told_by_each_question(bytes: &[u8]) -> Vec<Told> {
+    let of = |number: u8| {
+        let classes = told(&classes(bytes, number));
+        [told(&size(bytes, number)), told(&alignment(bytes, number)), classes]
+    };
+    [of(0), of(12), of(255)].concat()
+}
+
+#[test]
+fn every_call_tells_the_lowest_type_that_breaks_the_rule() {
+    for one in broken() {
+        let all = told_by_each_call(&one.bytes);
+        assert!(all.iter().all(|told| *told == one.told), "{}: {all:?}", one.name);
+        if one.told.number <= 7 {
+            let all = told_by_each_question(&one.bytes);
+            assert!(all.iter().all(|told| *told == one.told), "{}: {all:?}", one.name);
+        }
+    }
+}
+
+#[test]
+fn the_lister_prints_the_type_by_the_number_of_the_refusal() {
+    for one in broken() {
+        let Told { number, type_number } = one.told;
+        let line = match number {
+            6 | 7 => format!("refused {number} type {type_number}\n"),
+            _ => format!("refused {number}\n"),
+        };
+        assert_eq!(listing(&one.bytes), line, "{}", one.name);
+    }
+}
+
+/// None below it breaks the rule, since mending it and all above it is enough;
+/// it does, since mending the others is not.
+#[test]
+fn the_type_that_is_told_is_the_lowest() {
+    let mut random = Random::new(9);
+    let mut seen = [0; 8];
+    for _ in 0..3000 {
+        let bytes = random_broken(&mut random);
+        let refusal = check(&bytes);
+        let (lowest, types) = (refusal.type_number as usize, bytes[5] as usize);
+        if refusal.number != 6 && refusal.number != 7 {
+            assert_eq!(lowest, 0, "{bytes:?}");
+            continue;
+        }
+        seen[refusal.number as usize] += 1;
+        let below = check(&mended(&bytes, lowest..types));
+        assert!(below.number != refusal.number, "{bytes:?}");
+        assert_eq!(check(&mended(&bytes, lowest + 1..types)), refusal, "{bytes:?}");
+        if refusal.number == 6 {
+            let alone = mended(&mended(&bytes, lowest + 1..types), 0..lowest);
+            assert_eq!(check(&alone), refusal, "{bytes:?}");
+        }
+    }
+    assert!(seen[6] > 500 && seen[7] > 500, "{seen:?}");
 }
 
 #[test]
@@ -36,7 +123,7 @@ fn bytes_changed_at_random_never_break_it() {
             let at = random.below(bytes.len());
             bytes[at] = random.byte();
         }
-        assert!(check(&bytes) <= 10);
+        assert!(check(&bytes).number <= 10);
     }
 }
 
@@ -129,7 +216,7 @@ fn a_plain_function_is_never_16_in_a_step() {
     attach(&mut station, &mut seat, &bytes).expect("accepted");
     assert_eq!(open(&station, &seat), Err(Refusal::NotVariadic));
     let registers = vec![0; REGISTER_IMAGE];
-    let number = |walk: &Walk| show_number(&station, &seat, walk, 0, &registers, &[]);
+    let number = |walk: &Walk| show_number(&station, &seat, walk, 0, &registers, &[]).number;
     let end = Walk { number: 1, position: 1, gp_offset: 8, fp_offset: 48, overflow: 0 };
     assert_eq!(number(&end), 19);
     assert_eq!(number(&Walk { overflow: 8, ..end }), 18);
@@ -145,8 +232,9 @@ fn a_walk_of_an_earlier_attachment_is_refused() {
     let mut seat = random.bytes(SEAT);
     attach(&mut station, &mut seat, &bytes).expect("accepted");
     let walk = open(&station, &seat).expect("variadic");
-    let number =
-        |station: &Station, seat: &[u8]| show_number(station, seat, &walk, 1, &registers, &stack);
+    let number = |station: &Station, seat: &[u8]| {
+        show_number(station, seat, &walk, 1, &registers, &stack).number
+    };
     assert_eq!(number(&station, &seat), 0);
     assert_eq!(attach(&mut station, &mut seat, &bytes), Err(Refusal::AlreadyAttached));
     assert_eq!(number(&station, &seat), 0);

@@ -1,6 +1,13 @@
 //! Counts comparisons, and keeps what differed.
 
+use callbridge::raw::Refusal;
+use independent::refusal::Told;
 use std::fmt::Debug;
+
+/// What the library tells: the refusal's number, and the type's.
+pub fn told_by(refusal: Refusal) -> Told {
+    Told { number: refusal.number, type_number: refusal.type_number }
+}
 
 #[derive(Default)]
 pub struct Comparison {

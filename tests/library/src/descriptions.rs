@@ -1,7 +1,7 @@
 //! Every call about one description: the library's answer, and each byte that was lent, against the independent layout.
 //! What a call fills holds a pattern before, so that a refusal that writes is seen.
 
-use crate::comparison::Comparison;
+use crate::comparison::{told_by, Comparison};
 use callbridge::raw::*;
 use independent::classes::{classes_of, Class};
 use independent::history::random_values;
@@ -9,7 +9,7 @@ use independent::listing::listing;
 use independent::moving::{gathering, placing, REGISTER_IMAGE};
 use independent::places::{self, accepted, Place, Register, ReturnPlace, ReturnRegister};
 use independent::random::Random;
-use independent::refusal::{number_or_zero, Refusal as Refused};
+use independent::refusal::{told, Refusal as Refused, Told};
 use independent::returning::{putting, taking, value_length, RETURN_IMAGE};
 use independent::types::{asked, run_range};
 
@@ -19,7 +19,7 @@ const LISTING_ROOM: usize = 4096;
 
 pub fn compare(random: &mut Random, bytes: &[u8], comparison: &mut Comparison) {
     let refusal = unsafe { cb_check(bytes.as_ptr(), bytes.len()) };
-    comparison.same("cb_check", bytes, refusal.number, places::check(bytes));
+    comparison.same("cb_check", bytes, told_by(refusal), places::check(bytes));
     compare_questions(random, bytes, comparison);
     compare_layouts(random, bytes, comparison);
     compare_listing(bytes, comparison);
@@ -54,7 +54,7 @@ fn class_number(class: Class) -> u8 {
 
 fn compare_question(bytes: &[u8], number: u8, comparison: &mut Comparison) {
     let answer = asked(bytes, number);
-    let refusal = number_or_zero(&answer);
+    let refusal = told(&answer);
 
     let mut extent = Extent { size: UNTOUCHED, align: UNTOUCHED };
     let mut expected = extent;
@@ -76,16 +76,16 @@ fn compare_question(bytes: &[u8], number: u8, comparison: &mut Comparison) {
     }
     let (d, n) = (bytes.as_ptr(), bytes.len());
     let answered = unsafe { cb_type_extent(d, n, number, &mut extent) };
-    comparison.same("cb_type_extent", bytes, (answered.number, extent), (refusal, expected));
+    comparison.same("cb_type_extent", bytes, (told_by(answered), extent), (refusal, expected));
     let answered = unsafe { cb_type_classes(d, n, number, &mut classes) };
     comparison.same(
         "cb_type_classes",
         bytes,
-        (answered.number, classes),
+        (told_by(answered), classes),
         (refusal, expected_classes),
     );
     let answered = unsafe { cb_member_run(d, n, number, &mut run) };
-    comparison.same("cb_member_run", bytes, (answered.number, run), (refusal, expected_run));
+    comparison.same("cb_member_run", bytes, (told_by(answered), run), (refusal, expected_run));
 }
 
 // ---- layouts
@@ -181,11 +181,11 @@ const NO_PLACEMENT: Placement = Placement {
 
 fn compare_layouts(random: &mut Random, bytes: &[u8], comparison: &mut Comparison) {
     let answer = accepted(bytes).map(|accepted| accepted.layout);
-    let refusal = number_or_zero(&answer);
+    let refusal = told(&answer);
     let expected = answer.as_ref().map_or(NO_LAYOUT, |layout| flat_layout(bytes, layout));
     let mut layout = NO_LAYOUT;
     let answered = unsafe { cb_layout_of(bytes.as_ptr(), bytes.len(), &mut layout) };
-    comparison.same("cb_layout_of", bytes, (answered.number, layout), (refusal, expected));
+    comparison.same("cb_layout_of", bytes, (told_by(answered), layout), (refusal, expected));
 
     let count = answer.as_ref().map_or(3, |layout| layout.placements.len());
     for room in [64, count, count.saturating_sub(1), random.below(70)] {
@@ -194,7 +194,7 @@ fn compare_layouts(random: &mut Random, bytes: &[u8], comparison: &mut Compariso
         let (mut refusal, mut expected) = (refusal, expected);
         if let Ok(layout) = &answer {
             if room < count {
-                (refusal, expected) = (Refused::WrongLength.number(), NO_LAYOUT);
+                (refusal, expected) = (Told::from(Refused::WrongLength), NO_LAYOUT);
             } else {
                 for (entry, placement) in expected_list.iter_mut().zip(&layout.placements) {
                     *entry = flat(placement);
@@ -208,7 +208,7 @@ fn compare_layouts(random: &mut Random, bytes: &[u8], comparison: &mut Compariso
         comparison.same(
             "cb_lay_out",
             bytes,
-            (answered.number, layout, list),
+            (told_by(answered), layout, list),
             (refusal, expected, expected_list),
         );
     }
@@ -284,8 +284,8 @@ fn compare_move(
     comparison.same(
         "cb_place_values",
         bytes,
-        (answered.number, placed, &registers, &stack),
-        (number_or_zero(&answer), expected, &expected_registers, &expected_stack),
+        (told_by(answered), placed, &registers, &stack),
+        (told(&answer), expected, &expected_registers, &expected_stack),
     );
 
     // From images in which the unused bytes are anything.
@@ -311,8 +311,8 @@ fn compare_move(
     comparison.same(
         "cb_gather_values",
         bytes,
-        (answered.number, gathered, out),
-        (number_or_zero(&answer), expected, expected_out),
+        (told_by(answered), gathered, out),
+        (told(&answer), expected, expected_out),
     );
 }
 
@@ -357,8 +357,8 @@ fn compare_put(
     comparison.same(
         "cb_put_returned",
         bytes,
-        (answered.number, image),
-        (number_or_zero(&answer), expected),
+        (told_by(answered), image),
+        (told(&answer), expected),
     );
 }
 
@@ -388,7 +388,7 @@ fn compare_take(
     comparison.same(
         "cb_take_returned",
         bytes,
-        (answered.number, taken, value),
-        (number_or_zero(&answer), expected, expected_value),
+        (told_by(answered), taken, value),
+        (told(&answer), expected, expected_value),
     );
 }

@@ -1,7 +1,7 @@
 //! Random histories of calls, played through the library: after each command the line that it answers, in which station, seat, walk
 //! and out buffer stand, against the line of the independent layout.
 
-use crate::comparison::Comparison;
+use crate::comparison::{told_by, Comparison};
 use callbridge::raw::*;
 use independent::history::{
     random_history, word_and_hex, Command, Script, FILLING, SEAT_ROOM, SLOTS,
@@ -122,7 +122,7 @@ impl Desk {
                 };
                 format!(
                     "attach {} {} seat {}",
-                    refusal.number,
+                    told_by(refusal),
                     self.station_text(),
                     self.seat_sum()
                 )
@@ -132,7 +132,7 @@ impl Desk {
                     unsafe { cb_detach(&mut self.station, self.seat.as_mut_ptr(), self.lent) };
                 format!(
                     "detach {} {} seat {}",
-                    refusal.number,
+                    told_by(refusal),
                     self.station_text(),
                     self.seat_sum()
                 )
@@ -141,7 +141,7 @@ impl Desk {
                 let walk = &mut self.walks[*slot as usize];
                 let refusal =
                     unsafe { cb_open_walk(&self.station, self.seat.as_ptr(), self.lent, walk) };
-                format!("open {} {}", refusal.number, self.walk_text(*slot))
+                format!("open {} {}", told_by(refusal), self.walk_text(*slot))
             }
             Command::Step { slot, asked, out } => self.answer_step(*slot, *asked, *out),
             Command::Show { slot, asked } => {
@@ -153,7 +153,7 @@ impl Desk {
                 }
             }
             Command::Number { slot, asked } => {
-                format!("number {}", self.shown(*slot, *asked).0.number)
+                format!("number {}", told_by(self.shown(*slot, *asked).0))
             }
             _ => unreachable!("the other commands are answered above"),
         }
@@ -176,7 +176,7 @@ impl Desk {
                 out.len(),
             )
         };
-        format!("step {} {} {}", refusal.number, word_and_hex("out", &out), self.walk_text(slot))
+        format!("step {} {} {}", told_by(refusal), word_and_hex("out", &out), self.walk_text(slot))
     }
 
     /// The refusal and the part. A refusal must leave the part, which then says that it is nowhere.

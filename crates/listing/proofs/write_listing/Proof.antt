@@ -5,8 +5,9 @@ use native.Mathlib.Omega.{arith}
 use borrow.Author.Needs.{needs}
 use lib.ListN.{length}
 use denote.Ref.{now}
+use Rattle.text.proofs.Written.{wrote-more}
 use Rattle.layout.proofs.Layouts.{laid-accepted}
-use Rattle.listing.proofs.Lines.{refused-is, accepted-laid, listing-length, listing-short, listing-bytes}
+use Rattle.listing.proofs.Lines.{accepted-laid, listing-length, listing-short, listing-bytes}
 use Rattle.layout.specs.declared.LayoutAnswer.the-variants.{Laid, Refused}
 use Rattle.listing.proofs.write_listing.Statement.{statement}
 use Rattle.listing.proofs.write_listing.Tie as tie
@@ -26,20 +27,8 @@ put-laid-requires c κs = (accepted-laid (now (c .before .before .before .before
 enum-known-answer-2 : tie.Need-enum-known-answer-2
 enum-known-answer-2 c = search needs
 
-slice-aggregate-put-number : tie.Need-slice-aggregate-put-number
-slice-aggregate-put-number c = search needs
-
-cast-put-number : tie.Need-cast-put-number
-cast-put-number c = search needs
-
-put-number-requires : tie.Need-put-number-requires
-put-number-requires c κs = search needs
-
-slice-aggregate-put : tie.Need-slice-aggregate-put
-slice-aggregate-put c = search needs
-
-put-requires : tie.Need-put-requires
-put-requires c κs = search needs
+put-refused-requires : tie.Need-put-refused-requires
+put-refused-requires c κs = search needs
 
 returns : tie.Need-returns
 returns c =
@@ -50,11 +39,11 @@ returns c =
 
 returns-2 : tie.Need-returns-2
 returns-2 c =
-    let room : 4096 ≡ length (now (c .before .before .before .before .before .before .before .before .before .before .before .before .before .before .before .args .out)) = omega (arith, c .before .before .before .before .before .before .before .before .before .before .before .before .room .ensures .0, c .before .before .before .before .before .before .before .before .before .before .before .before .room .ensures .1) in
-    let r = c .before .before .before .before .before .before .before .before .answer2 .given .0 .0 in
-    let w = refused-is (now (c .before .before .before .before .before .before .before .before .before .before .before .before .before .before .before .args .d)) r (c .before .before .before .put-number .ensures) (c .put .ensures) in
-    let e = sym (c .before .before .before .before .before .before .before .before .answer2 .given .1) ∙ c .before .before .before .before .before .before .before .before .before .before .layout-with .ensures .0 in
-    (listing-length (now (c .before .before .before .before .before .before .before .before .before .before .before .before .before .before .before .args .d)) (now (c .before .before .before .before .before .before .before .before .before .before .before .before .before .before .before .args .out)) (Refused r) e room w, listing-short (now (c .before .before .before .before .before .before .before .before .before .before .before .before .before .before .before .args .d)) (now (c .before .before .before .before .before .before .before .before .before .before .before .before .before .before .before .args .out)) (Refused r) e room w, listing-bytes (now (c .before .before .before .before .before .before .before .before .before .before .before .before .before .before .before .args .d)) (now (c .before .before .before .before .before .before .before .before .before .before .before .before .before .before .before .args .out)) (Refused r) e room w)
+    let room : 4096 ≡ length (now (c .before .before .before .before .before .before .before .before .before .before .args .out)) = omega (arith, c .before .before .before .before .before .before .before .room .ensures .0, c .before .before .before .before .before .before .before .room .ensures .1) in
+    let r = c .before .before .before .answer2 .given .0 .0 in
+    let w = wrote-more {k = 3452} (c .put-refused .ensures) (omega arith) in
+    let e = sym (c .before .before .before .answer2 .given .1) ∙ c .before .before .before .before .before .layout-with .ensures .0 in
+    (listing-length (now (c .before .before .before .before .before .before .before .before .before .before .args .d)) (now (c .before .before .before .before .before .before .before .before .before .before .args .out)) (Refused r) e room w, listing-short (now (c .before .before .before .before .before .before .before .before .before .before .args .d)) (now (c .before .before .before .before .before .before .before .before .before .before .args .out)) (Refused r) e room w, listing-bytes (now (c .before .before .before .before .before .before .before .before .before .before .args .d)) (now (c .before .before .before .before .before .before .before .before .before .before .args .out)) (Refused r) e room w)
 
 pub write-listing-spec : {M : Type 1} → statement M
 write-listing-spec =
@@ -65,10 +54,6 @@ write-listing-spec =
     enum-known-answer
     put-laid-requires
     enum-known-answer-2
-    slice-aggregate-put-number
-    cast-put-number
-    put-number-requires
-    slice-aggregate-put
-    put-requires
+    put-refused-requires
     returns
     returns-2)

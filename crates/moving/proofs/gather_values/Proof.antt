@@ -6,7 +6,7 @@ use borrow.Author.Needs.{needs}
 use borrow.Author.Tests.{not-true, not-false}
 use Rattle.layout.proofs.Layouts.{laid-accepted}
 use Rattle.moving.proofs.Answers.{gather-laid-not, gather-wrong-length, gather-lengths, gather-first, gather-none, gather-address}
-use Rattle.layout.specs.Layout.{numberOf}
+use Rattle.layout.specs.Layout.{refusalIn}
 use Rattle.moving.proofs.gather_values.Statement.{statement}
 use Rattle.moving.proofs.gather_values.Tie as tie
 
@@ -23,7 +23,7 @@ refusal-in-requires : tie.Need-refusal-in-requires
 refusal-in-requires c κs = search needs
 
 returns : tie.Need-returns
-returns c = gather-laid-not (c .before .before .before .before .before .before .before .before .before .args .d .now) (c .before .before .before .before .before .before .before .before .before .args .registers .now) (c .before .before .before .before .before .before .before .before .before .args .stack .now) (c .before .before .before .before .before .before .before .before .before .args .values .now) _ _ (sym (c .before .before .before .layout-with .ensures .0) ∙ c .before .enum-told .given .1) (c .refusal-in .ensures ∙ ap numberOf (c .before .enum-told .given .1))
+returns c = gather-laid-not (c .before .before .before .before .before .before .before .before .before .args .d .now) (c .before .before .before .before .before .before .before .before .before .args .registers .now) (c .before .before .before .before .before .before .before .before .before .args .stack .now) (c .before .before .before .before .before .before .before .before .before .args .values .now) _ _ (sym (c .before .before .before .layout-with .ensures .0) ∙ c .before .enum-told .given .1) (c .refusal-in .ensures ∙ ap refusalIn (c .before .enum-told .given .1))
 
 wrong-length-requires : tie.Need-wrong-length-requires
 wrong-length-requires c κs = search needs

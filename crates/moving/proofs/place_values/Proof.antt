@@ -6,7 +6,7 @@ use borrow.Author.Needs.{needs}
 use Rattle.layout.proofs.Layouts.{laid-accepted}
 use Rattle.moving.proofs.Answers.{place-laid-not, place-wrong-length, place-lengths, place-hidden, place-wrong-bool, place-done}
 use Rattle.filling.proofs.Turns.{whole}
-use Rattle.layout.specs.Layout.{numberOf}
+use Rattle.layout.specs.Layout.{refusalIn}
 use Rattle.moving.proofs.place_values.Statement.{statement}
 use Rattle.moving.proofs.place_values.Tie as tie
 
@@ -23,7 +23,7 @@ refusal-in-requires : tie.Need-refusal-in-requires
 refusal-in-requires c κs = search needs
 
 returns : tie.Need-returns
-returns c = place-laid-not (c .before .before .before .before .before .before .before .before .before .args .d .now) (c .before .before .before .before .before .before .before .before .before .args .hidden) (c .before .before .before .before .before .before .before .before .before .args .values .now) (c .before .before .before .before .before .before .before .before .before .args .registers .now) (c .before .before .before .before .before .before .before .before .before .args .stack .now) _ _ (sym (c .before .before .before .layout-with .ensures .0) ∙ c .before .enum-told .given .1) (c .refusal-in .ensures ∙ ap numberOf (c .before .enum-told .given .1))
+returns c = place-laid-not (c .before .before .before .before .before .before .before .before .before .args .d .now) (c .before .before .before .before .before .before .before .before .before .args .hidden) (c .before .before .before .before .before .before .before .before .before .args .values .now) (c .before .before .before .before .before .before .before .before .before .args .registers .now) (c .before .before .before .before .before .before .before .before .before .args .stack .now) _ _ (sym (c .before .before .before .layout-with .ensures .0) ∙ c .before .enum-told .given .1) (c .refusal-in .ensures ∙ ap refusalIn (c .before .enum-told .given .1))
 
 wrong-length-requires : tie.Need-wrong-length-requires
 wrong-length-requires c κs = search needs

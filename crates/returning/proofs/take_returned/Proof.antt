@@ -3,7 +3,7 @@
 use mathlib.Core.Path.{sym, ap, _∙_}
 use borrow.Author.Needs.{needs}
 use Rattle.returning.proofs.Answers.{laid-right, laid-place, laid-wrong, laid-lent, laid-returnable, take-laid-not, take-wrong-length, take-done}
-use Rattle.layout.specs.Layout.{numberOf}
+use Rattle.layout.specs.Layout.{refusalIn}
 use Rattle.returning.proofs.take_returned.Statement.{statement}
 use Rattle.returning.proofs.take_returned.Tie as tie
 
@@ -20,7 +20,7 @@ refusal-in-requires : tie.Need-refusal-in-requires
 refusal-in-requires c κs = search needs
 
 returns : tie.Need-returns
-returns c = take-laid-not _ _ _ _ _ (sym (c .before .before .before .layout-with .ensures .0) ∙ c .before .enum-told .given .1) (c .refusal-in .ensures ∙ ap numberOf (c .before .enum-told .given .1))
+returns c = take-laid-not _ _ _ _ _ (sym (c .before .before .before .layout-with .ensures .0) ∙ c .before .enum-told .given .1) (c .refusal-in .ensures ∙ ap refusalIn (c .before .enum-told .given .1))
 
 returned-size-requires : tie.Need-returned-size-requires
 returned-size-requires c κs = let h = laid-right _ _ (sym (c .before .before .before .before .layout-with .ensures .0) ∙ c .before .before .answer .given .1) in (h, c .before .before .before .before .layout-with .ensures .2 h)

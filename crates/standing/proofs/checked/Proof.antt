@@ -21,19 +21,19 @@ refusal-of-requires : tie.Need-refusal-of-requires
 refusal-of-requires c κs = search needs
 
 returns : tie.Need-returns
-returns c = refused-as _ 11 (c .refusal-of .result) (c .refusal-of .ensures) (omega arith) (show-wrong kcb (c .before .before .before .before .before .before .args .station) (now (c .before .before .before .before .before .before .args .seat)) (c .before .before .before .before .before .before .args .walk) (asking (now (c .before .before .before .before .before .before .args .registers)) (now (c .before .before .before .before .before .before .args .stack)) (c .before .before .before .before .before .before .args .asked) []) (sym (c .before .before .wrong-seat .ensures) ∙ c .before .if1 .taken))
+returns c = refused-as kcb _ _ 11 (c .refusal-of .result) (c .refusal-of .ensures) (omega arith) (show-wrong kcb (c .before .before .before .before .before .before .args .station) (now (c .before .before .before .before .before .before .args .seat)) (c .before .before .before .before .before .before .args .walk) (asking (now (c .before .before .before .before .before .before .args .registers)) (now (c .before .before .before .before .before .before .args .stack)) (c .before .before .before .before .before .before .args .asked) []) (sym (c .before .before .wrong-seat .ensures) ∙ c .before .if1 .taken))
 
 refusal-of-requires-2 : tie.Need-refusal-of-requires-2
 refusal-of-requires-2 c κs = search needs
 
 returns-2 : tie.Need-returns-2
-returns-2 c = refused-as _ 11 (c .refusal-of2 .result) (c .refusal-of2 .ensures) (omega arith) (show-registers kcb (c .before .before .before .before .before .before .before .args .station) (now (c .before .before .before .before .before .before .before .args .seat)) (c .before .before .before .before .before .before .before .args .walk) (asking (now (c .before .before .before .before .before .before .before .args .registers)) (now (c .before .before .before .before .before .before .before .args .stack)) (c .before .before .before .before .before .before .before .args .asked) []) (sym (c .before .before .before .wrong-seat .ensures) ∙ c .before .before .if1 .left) (c .before .if2 .taken))
+returns-2 c = refused-as kcb _ _ 11 (c .refusal-of2 .result) (c .refusal-of2 .ensures) (omega arith) (show-registers kcb (c .before .before .before .before .before .before .before .args .station) (now (c .before .before .before .before .before .before .before .args .seat)) (c .before .before .before .before .before .before .before .args .walk) (asking (now (c .before .before .before .before .before .before .before .args .registers)) (now (c .before .before .before .before .before .before .before .args .stack)) (c .before .before .before .before .before .before .before .args .asked) []) (sym (c .before .before .before .wrong-seat .ensures) ∙ c .before .before .if1 .left) (c .before .if2 .taken))
 
 refusal-of-requires-3 : tie.Need-refusal-of-requires-3
 refusal-of-requires-3 c κs = search needs
 
 returns-3 : tie.Need-returns-3
-returns-3 c = refused-as _ 13 (c .refusal-of3 .result) (c .refusal-of3 .ensures) (omega arith) (show-idle kcb (c .before .before .before .before .before .before .before .before .before .args .station) (now (c .before .before .before .before .before .before .before .before .before .args .seat)) (c .before .before .before .before .before .before .before .before .before .args .walk) (asking (now (c .before .before .before .before .before .before .before .before .before .args .registers)) (now (c .before .before .before .before .before .before .before .before .before .args .stack)) (c .before .before .before .before .before .before .before .before .before .args .asked) []) (sym (c .before .before .before .before .before .wrong-seat .ensures) ∙ c .before .before .before .before .if1 .left) (c .before .before .before .if2 .left) (not-true _ (c .before .if3 .taken)))
+returns-3 c = refused-as kcb _ _ 13 (c .refusal-of3 .result) (c .refusal-of3 .ensures) (omega arith) (show-idle kcb (c .before .before .before .before .before .before .before .before .before .args .station) (now (c .before .before .before .before .before .before .before .before .before .args .seat)) (c .before .before .before .before .before .before .before .before .before .args .walk) (asking (now (c .before .before .before .before .before .before .before .before .before .args .registers)) (now (c .before .before .before .before .before .before .before .before .before .args .stack)) (c .before .before .before .before .before .before .before .before .before .args .asked) []) (sym (c .before .before .before .before .before .wrong-seat .ensures) ∙ c .before .before .before .before .if1 .left) (c .before .before .before .if2 .left) (not-true _ (c .before .if3 .taken)))
 
 slice-aggregate-stands : tie.Need-slice-aggregate-stands
 slice-aggregate-stands c = let z = right-seat (c .before .before .before .before .before .before .before .before .before .before .args .station) (now (c .before .before .before .before .before .before .before .before .before .before .args .seat)) (sym (c .before .before .before .before .before .before .wrong-seat .ensures) ∙ c .before .before .before .before .before .if1 .left) in sym (length-take-le (c .before .before .before .before .before .before .before .before .before .before .args .station .length .0) (now (c .before .before .before .before .before .before .before .before .before .before .args .seat)) (omega (arith, z .full, z .within)))

@@ -1,8 +1,8 @@
--- Of either variant.
+-- `refusal_in` meets its contract.
 -- Assumes nothing.
 use borrow.Author.Needs.{needs}
-use Rattle.walk.proofs.why_unlaid.Statement.{statement}
-use Rattle.walk.proofs.why_unlaid.Tie as tie
+use Rattle.layout.proofs.refusal_in.Statement.{statement}
+use Rattle.layout.proofs.refusal_in.Tie as tie
 
 enum-told : tie.Need-enum-told
 enum-told c = search needs
@@ -19,6 +19,6 @@ returns c = rw (c .before .enum-told .given .1) (c .refusal-of .ensures)
 returns-2 : tie.Need-returns-2
 returns-2 c = search needs
 
-pub why-unlaid-spec : {M : Type 1} → statement M
-why-unlaid-spec =
+pub refusal-in-spec : {M : Type 1} → statement M
+refusal-in-spec =
     tie.close (tie.spec enum-told refusal-of-requires enum-known-answer returns returns-2)

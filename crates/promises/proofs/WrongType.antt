@@ -1,0 +1,92 @@
+-- Request 2026-01: the type that each call's refusal names is the lowest that breaks the rule. Assumes nothing.
+use mathlib.Core.Path.{_≡_, refl, sym, ap, _∙_}
+use mathlib.Core.Logic.{_≢_}
+use mathlib.Core.Bool.{Bool, true, false, cond, _&&_, _||_, true≢false}
+use mathlib.Core.List.{List, [], _∷_}
+use Prim.Native.Nat.{ℕ, zero, suc, _<_}
+use native.Mathlib.Omega.{arith}
+use borrow.Author.Tests.{eq-eqb, ne-eqb, ltb-true}
+use lib.Dec.{eqb, ltb}
+use Rattle.description.specs.Description.{typesIn}
+use Rattle.form.specs.Conditions.{wrongRecord, brokenRecord, firstBroken}
+use Rattle.form.specs.Order.{Rule, rule, first, numbered}
+use Rattle.form.specs.Reading.{refusalAt, refusalBy}
+use Rattle.form.proofs.Form.{broken-first, broken-least}
+use Rattle.types.specs.Large.{tooLarge, firstLarge}
+use Rattle.types.specs.Wrong.{refusalFor}
+use Rattle.types.proofs.Large.{large-first, large-least}
+use Rattle.questions.specs.Questions.{questionRefusal}
+use Rattle.layout.specs.Verdict.{verdict}
+use Rattle.lists.specs.Lists.{listRefusal}
+use Rattle.lent.specs.Orders.{placeRefusal, gatherRefusal}
+use Rattle.returning.specs.Orders.{putConditions, takeConditions, putRefusal, takeRefusal}
+use Rattle.station.specs.Paper.{kcb, refusalUnder}
+use Rattle.station.specs.Attachment.{described, attachRefusal}
+use Rattle.station.proofs.Kcb.{kcb-refusal}
+use Rattle.walk.specs.Orders.{openRefusal, stepRefusal, showRefusal}
+use Rattle.promises.specs.Orders.{checkOrder, questionOrder, layoutOrder, placeOrder, gatherOrder, attachOrder, openOrder, stepOrder, showOrder}
+use Rattle.promises.specs.WrongType.{Lowest, Names, WrongType}
+
+-- whether a condition numbered n holds
+abbrev holding : ℕ → List Rule → Bool
+holding n [] = false
+holding n (rule m b ∷ rules) = (eqb m n && b) || holding n rules
+
+-- an order that answers n has such a condition
+holds : (n : ℕ) (rules : List Rule) → n ≢ 0 → first rules ≡ n → holding n rules ≡ true
+holds n [] z e = absurd (z (sym e))
+holds n (rule m true ∷ rules) z e = rw (eq-eqb m n e)
+holds n (rule m false ∷ rules) z e = rest (eqb m n) (holds n rules z e)
+  where
+    rest : (b : Bool) → holding n rules ≡ true → ((b && false) || holding n rules) ≡ true
+    rest true h = h
+    rest false h = h
+
+-- any call whose order has 6 and 7 for those two conditions alone
+module _ (d : List ℕ) (rules : List Rule) (six : holding 6 rules ≡ true → wrongRecord d ≡ true) (seven : holding 7 rules ≡ true → tooLarge d ≡ true) where
+  names : Names d (refusalFor d (first rules))
+  unfolding refusalFor refusalBy refusalAt wrongRecord tooLarge
+  names = record {
+    six = λ e. rw (eq-eqb (first rules) 6 e) (
+      let b : wrongRecord d ≡ true = six (holds 6 rules (λ z. omega arith) e) in
+      record {
+        known = ltb-true (firstBroken d) (typesIn d) b;
+        breaks = broken-first d b;
+        lower = λ j l q. true≢false (sym q ∙ broken-least d j l);
+      }
+    );
+    seven = λ e. rw (e) (
+      let b : tooLarge d ≡ true = seven (holds 7 rules (λ z. omega arith) e) in
+      record {
+        known = ltb-true (firstLarge d) (typesIn d) b;
+        breaks = large-first d b;
+        lower = λ j l q. omega (arith, q, large-least d j l);
+      }
+    );
+    other = λ p q. rw (ne-eqb (first rules) 6 p, ne-eqb (first rules) 7 q);
+  }
+
+-- a condition, and none behind it
+alone : (b : Bool) → (b || false) ≡ true → b ≡ true
+alone true e = refl
+alone false e = e
+
+-- the same of the seat's
+seated : (d : List ℕ) (n : ℕ) → Names d (refusalFor d n) → Names d (refusalUnder kcb d n)
+seated d n h = rw (kcb-refusal d n) h
+
+pub wrong-type : WrongType
+unfolding kcb verdict questionRefusal listRefusal placeRefusal gatherRefusal putRefusal takeRefusal attachRefusal openRefusal stepRefusal showRefusal
+wrong-type = record {
+  check = λ d. names d (checkOrder d) (alone (wrongRecord d)) (alone (tooLarge d));
+  question = λ d t. names d (questionOrder d t) (alone (wrongRecord d)) (alone (tooLarge d));
+  lay-out = λ d room. names d (layoutOrder d room) (alone (wrongRecord d)) (alone (tooLarge d));
+  place-values = λ d values registers stack. names d (placeOrder d values registers stack) (alone (wrongRecord d)) (alone (tooLarge d));
+  gather-values = λ d values registers stack. names d (gatherOrder d values registers stack) (alone (wrongRecord d)) (alone (tooLarge d));
+  put-returned = λ d value image. names d (numbered 1 (putConditions d value image)) (alone (wrongRecord d)) (alone (tooLarge d));
+  take-returned = λ d image value. names d (numbered 1 (takeConditions d image value)) (alone (wrongRecord d)) (alone (tooLarge d));
+  attach = λ s seat d. seated d _ (names d (attachOrder s seat d) (alone (wrongRecord d)) (alone (tooLarge d)));
+  open-walk = λ s seat. seated (described s seat) _ (names (described s seat) (openOrder s seat) (alone (wrongRecord (described s seat))) (alone (tooLarge (described s seat))));
+  step = λ s seat w a. seated (described s seat) _ (names (described s seat) (stepOrder s seat w a) (alone (wrongRecord (described s seat))) (alone (tooLarge (described s seat))));
+  show = λ s seat w a. seated (described s seat) _ (names (described s seat) (showOrder s seat w a) (alone (wrongRecord (described s seat))) (alone (tooLarge (described s seat))));
+}

@@ -1,0 +1,56 @@
+-- Request 2026-01, "Where the type is wrong", beside demand 1: "Refusals 6 and 7 now return the lowest type number that breaks the rule, and every
+-- call that passes such a refusal on passes the number too. All other refusals give 0 there." proofs/WrongType.antt proves `WrongType`.
+-- Assumes nothing: these are definitions.
+use mathlib.Core.Path.{_≡_}
+use mathlib.Core.Logic.{_≢_}
+use mathlib.Core.Bool.{true}
+use mathlib.Core.List.{List}
+use Prim.Native.Nat.{ℕ, _<_}
+use lib.ListN.{length}
+use Rattle.description.specs.Description.{typesIn}
+use Rattle.form.specs.declared.Refusal.{Refusal}
+use Rattle.form.specs.Conditions.{brokenRecord}
+use Rattle.types.specs.Basic.{lp64}
+use Rattle.types.specs.Size.{sizeTy}
+use Rattle.types.specs.Decode.{tyAt}
+use Rattle.types.specs.Wrong.{refusalFor}
+use Rattle.questions.specs.Questions.{questionRefusal}
+use Rattle.layout.specs.Verdict.{verdict}
+use Rattle.lists.specs.Lists.{listRefusal}
+use Rattle.lent.specs.Orders.{placeRefusal, gatherRefusal}
+use Rattle.returning.specs.Orders.{putRefusal, takeRefusal}
+use Rattle.station.specs.declared.Station.{Station}
+use Rattle.station.specs.Paper.{kcb, refusalUnder}
+use Rattle.station.specs.Attachment.{described, attachRefusal}
+use Rattle.walk.specs.declared.Walk.{Walk}
+use Rattle.walk.specs.Orders.{Ask, openRefusal, stepRefusal, showRefusal}
+
+-- k is the lowest of n types that breaks a rule
+pub record Lowest (Breaks : ℕ → Type 0) (n k : ℕ) : Type 0 where
+  pub known : k < n
+  pub breaks : Breaks k
+  pub lower : (j : ℕ) → j < k → Breaks j → ⊥
+
+-- what a refusal of this description says of its types
+pub record Names (d : List ℕ) (r : Refusal) : Type 0 where
+  -- 6: "a type record that breaks its kind's rule"
+  pub six : r .number ≡ 6 → Lowest (λ k. brokenRecord d k ≡ true) (typesIn d) (r .ty)
+  -- 7: "a type over 4,096 bytes"
+  pub seven : r .number ≡ 7 → Lowest (λ k. 4096 < sizeTy lp64 (tyAt d k)) (typesIn d) (r .ty)
+  pub other : r .number ≢ 6 → r .number ≢ 7 → r .ty ≡ 0
+
+-- the refusal of each call, as its contract gives it: of the description that is handed in, or of the one in the seat
+pub record WrongType : Type 0 where
+  pub check : (d : List ℕ) → Names d (refusalFor d (verdict d))
+  pub question : (d : List ℕ) (t : ℕ) → Names d (refusalFor d (questionRefusal d t))
+  pub lay-out : (d : List ℕ) (room : ℕ) → Names d (refusalFor d (listRefusal d room))
+  pub place-values : (d values : List ℕ) (registers stack : ℕ) → Names d (refusalFor d (placeRefusal d values registers stack))
+  pub gather-values : (d : List ℕ) (values registers stack : ℕ) → Names d (refusalFor d (gatherRefusal d values registers stack))
+  pub put-returned : (d value : List ℕ) (image : ℕ) → Names d (refusalFor d (putRefusal d value image))
+  pub take-returned : (d image : List ℕ) (value : ℕ) → Names d (refusalFor d (takeRefusal d image value))
+  pub attach : (s : Station) (seat d : List ℕ) → Names d (refusalUnder kcb d (attachRefusal kcb s seat d))
+  pub open-walk : (s : Station) (seat : List ℕ) → Names (described s seat) (refusalUnder kcb (described s seat) (openRefusal kcb s seat))
+  pub step : (s : Station) (seat : List ℕ) (w : Walk) (a : Ask)
+      → Names (described s seat) (refusalUnder kcb (described s seat) (stepRefusal kcb s seat w a))
+  pub show : (s : Station) (seat : List ℕ) (w : Walk) (a : Ask)
+      → Names (described s seat) (refusalUnder kcb (described s seat) (showRefusal kcb s seat w a))
