@@ -11,6 +11,8 @@ use Rattle.types.specs.Basic.{lp64}
 use Rattle.types.specs.Size.{sizeTy}
 use Rattle.types.specs.Decode.{tyAt}
 use Rattle.types.specs.Asks.{Sized}
+use Rattle.types.specs.Table.{IsEntry}
+use Rattle.types.specs.declared.Extent.{Extent}
 use Rattle.types.proofs.Large.{accepted-sized}
 use Rattle.types.proofs.Laws.{size-low, type-filled}
 use Rattle.classify.specs.Table.{Tabled}
@@ -18,14 +20,13 @@ use Rattle.uses.specs.Uses.{usesRefusal}
 use Rattle.uses.proofs.Uses.{accepted-types, accepted-typed}
 use Rattle.places.specs.declared.Used.{Used}
 use Rattle.places.specs.declared.Placed.{Placed}
-use Rattle.places.specs.declared.Shape.{Shape as Coded}
 use Rattle.places.specs.Shapes.{Shape, Shaped, shapeOf, shapeIn}
 use Rattle.places.specs.Places.{place, next, after, area}
 use Rattle.places.specs.Images.{total}
-use Rattle.places.specs.Recorded.{placeOf, recorded, asked, Room, Small, IsPlaced}
+use Rattle.places.specs.Recorded.{placeOf, recorded, Room, Small, IsPlaced}
 use Rattle.places.proofs.Prefix.{total-append}
 use Rattle.places.proofs.Apart.{after-grows}
-use Rattle.places.proofs.Records.{shape-known}
+use Rattle.places.proofs.Records.{place-is, shape-known}
 use Rattle.layout.specs.Arguments.{shapeAt, shapesFrom, shapes, usedFirst, usedAt, areaOf}
 use Rattle.layout.specs.Asks.{AskArgument}
 use Rattle.layout.specs.Layout.{valuesOf}
@@ -35,7 +36,6 @@ use Rattle.layout.specs.declared.Step.{Step}
 use Rattle.layout.proofs.Arguments.{shapes-none, shapes-cons, shapes-split, used-none, used-next, used-split}
 use Rattle.layout.proofs.Verdict.{accepted-uses}
 use Rattle.layout.proofs.Bounds.{arguments-few, types-few, argument-known, argument-small, argument-shaped, before-room}
-use Rattle.layout.proofs.Steps.{shape-of-argument, step-is}
 use Rattle.layout.proofs.Layouts.{asks-at}
 use Rattle.images.specs.Asks.{AskMove}
 use Rattle.images.proofs.Inside.{place-inside}
@@ -138,16 +138,26 @@ module _ (d : List ℕ) where
     pub turn-type : verdict d ≡ 0 → (n : ℕ) → n ≡ argumentAt d i → n < 64
     turn-type a n e = omega (arith, e, known a i l, types-few d (right a))
 
-    module _ (table : List ℕ) (tabled : Tabled d table) (a : verdict d ≡ 0) (n : ℕ) (e : n ≡ argumentAt d i) (s : Coded) (f : asked s ≡ shapeIn (getD table n 0)) where
-      turn-shape : asked s ≡ shapeAt d i
-      turn-shape = shape-of-argument d i n s e (f ∙ shape-known d table tabled n (omega (arith, e, known a i l)))
+    module _ (table : List ℕ) (tabled : Tabled d table) (a : verdict d ≡ 0) (n : ℕ) (e : n ≡ argumentAt d i) where
+      turn-shape : shapeIn (getD table n 0) ≡ shapeAt d i
+      unfolding shapeAt
+      turn-shape = shape-known d table tabled n (omega (arith, e, known a i l)) ∙ ap (λ (j : ℕ). shapeOf (tyAt d j)) e
 
-      pub turn-small : Room u × Small (asked s)
-      turn-small = (before-room i u (omega (arith, arguments-few d (right a))) (turn-asks a .before), rw turn-shape (argument-small d (right a) i l))
+      pub turn-room-left : Room u
+      turn-room-left = before-room i u (omega (arith, arguments-few d (right a))) (turn-asks a .before)
 
-      pub turn-step : (p : Placed) → IsPlaced (place u (asked s)) (next u (asked s)) p
-          → _≡_ {A = Step} (record { placement = record { ty = n; size = s .size; align = s .align; place = p .place }; used = p .used }) (stepAt d u i)
-      turn-step p h = step-is d u i n s p e turn-shape h
+      pub turn-small : Small (shapeIn (getD table n 0))
+      turn-small = rw turn-shape (argument-small d (right a) i l)
+
+      pub turn-step : (x : Extent) → IsEntry (getD table n 0) x → (p : Placed) → IsPlaced (place u (shapeIn (getD table n 0))) (next u (shapeIn (getD table n 0))) p
+          → _≡_ {A = Step} (record { placement = record { ty = n; size = x .size; align = x .align; place = p .place }; used = p .used }) (stepAt d u i)
+      unfolding stepAt shapeIn
+      turn-step x h p q =
+          let size : x .size .0 ≡ shapeAt d i .size = h .size ∙ ap (λ (s : Shape). s .size) turn-shape in
+          let align : x .align .0 ≡ shapeAt d i .align = h .align ∙ ap (λ (s : Shape). s .align) turn-shape in
+          let placed = place-is (p .place) (place u (shapeIn (getD table n 0))) (q .place) ∙ ap (λ (s : Shape). recorded (place u s)) turn-shape in
+          let used = q .used ∙ ap (λ (s : Shape). next u s) turn-shape in
+          λ j. record { placement = record { ty = e j; size = record { 0 = size j }; align = record { 0 = align j }; place = placed j }; used = used j }
 
     module _ (z : Step) (e : z ≡ stepAt d u i) where
       pub step-size : z .placement .size .0 ≡ shapeAt d i .size

@@ -1,24 +1,33 @@
 // All arguments' bytes into the two images, every byte of which is written, and out of them again (document 01, "Images and moving bytes").
-use places::Kind;
-use places::Kinds;
+use classes::Class;
 use places::Place;
 use places::Placed;
 use places::Register;
-use places::Shape;
 use places::Used;
+use types::Extent;
 use units::Bytes;
 use units::Registers;
 ghost use mathlib.Core.Path.{_≡_};
-ghost use mathlib.Core.Bool.{false};
 ghost use mathlib.Core.List.{_++_};
-ghost use lib.ListN.{length};
+ghost use Prim.Native.Nat.{_^_, _≤_, _<_};
+ghost use lib.ListN.{length, getD};
 ghost use Rattle.addresses.specs.Addresses.{scatter};
+ghost use Rattle.types.specs.Table.{IsEntry};
 ghost use Rattle.classify.specs.Table.{Tabled};
-ghost use Rattle.places.specs.Places.{fits, place, next};
-ghost use Rattle.places.specs.Recorded.{asked, Room, Small, IsPlaced};
+ghost use Rattle.places.specs.Places.{place, next};
+ghost use Rattle.places.specs.Shapes.{shapeIn};
+ghost use Rattle.places.specs.Recorded.{Room, Small, IsPlaced};
+ghost use Rattle.places.specs.Steps.{stackedAt};
 ghost use Rattle.layout.specs.Arguments.{hidden, usedFirst};
 ghost use Rattle.filling.specs.Images.{blankBy, addressesOf, placed, gathered};
-ghost use Rattle.filling.specs.Asks.{Lent};
+ghost use Rattle.filling.specs.Asks.{Lent, IsLone};
+
+// The one register that an argument asks for, or anything else.
+enum Lone {
+    General,
+    Vector,
+    Other,
+}
 
 // Zeros, and the hidden address in rdi where it is used.
 fn blank_images(used: bool, address: u64, registers: &mut [u8], stack: &mut [u8])
@@ -33,19 +42,37 @@ fn blank_images(used: bool, address: u64, registers: &mut [u8], stack: &mut [u8]
     images::put_address(registers, address);
 }
 
-// The next place, of one eightbyte that found no register.
-fn behind_all(used: Used, shape: Shape) -> Placed
-    requires { ⌜ Room used × Small (asked shape) × (fits used (asked shape .kinds) ≡ false) ⌝ }
-    ensures { λ r. ⌜ IsPlaced (place used (asked shape)) (next used (asked shape)) r ⌝ }
+// What an argument of type k asks for, by the table: the one register that most ask for, or anything else.
+fn asked_of(table: &[u32; 64], k: usize) -> Lone
+    requires { ⌜ k < 64 ⌝ }
+    ensures { λ r. ⌜ IsLone (shapeIn (getD (now (table .entry)) k 0) .kinds) r ⌝ }
 {
-    let size = shape.size;
-    let align = shape.align;
-    if units::over(align, Bytes(8)) {
-        return places::place_next(used, shape);
+    let classes = classify::classes_in(table, k);
+    let first = classes[0];
+    let second = classes[1];
+    if !classes::is_same(second, Class::NoClass) {
+        return Lone::Other;
     }
+    if classes::is_same(first, Class::Integer) {
+        return Lone::General;
+    }
+    if classes::is_same(first, Class::Sse) {
+        return Lone::Vector;
+    }
+    Lone::Other
+}
+
+// On the stack, where no register is left.
+fn behind_all(used: Used, extent: Extent) -> Placed
+    requires { ⌜ (used .stack .0 ≤ 2 ^ 20) × (extent .size .0 ≤ 4096) × (extent .align .0 ≤ 16) ⌝ }
+    ensures { λ r. ⌜ r ≡ stackedAt used (extent .size .0) (extent .align .0) ⌝ }
+{
+    let size = extent.size;
+    let align = extent.align;
     let general = used.general;
     let vector = used.vector;
-    let offset = units::raise_to(Bytes(8), used.stack);
+    let multiple = units::larger(Bytes(8), align);
+    let offset = units::raise_to(multiple, used.stack);
     let end = units::raise_to(Bytes(8), units::plus(offset, size));
     Placed {
         place: Place::Stack(offset),
@@ -57,47 +84,44 @@ fn behind_all(used: Used, shape: Shape) -> Placed
     }
 }
 
-// The next place, as `places::place_next` says it: a short way for one eightbyte, which most arguments are.
-fn next_place(used: Used, shape: Shape) -> Placed
-    requires { ⌜ Room used × Small (asked shape) ⌝ }
-    ensures { λ r. ⌜ IsPlaced (place used (asked shape)) (next used (asked shape)) r ⌝ }
+// The place of an argument of type k, by the table, as `places::place_next` says it: a short way for one eightbyte of class INTEGER
+// or SSE, which most arguments are.
+fn next_place(used: Used, table: &[u32; 64], k: usize, extent: Extent) -> Placed
+    requires { ⌜ (k < 64) × Room used × Small (shapeIn (getD (now table) k 0)) × IsEntry (getD (now table) k 0) extent ⌝ }
+    ensures { λ r. ⌜ IsPlaced (place used (shapeIn (getD (now (table .entry)) k 0))) (next used (shapeIn (getD (now (table .entry)) k 0))) r ⌝ }
 {
-    let kinds = shape.kinds;
     let general = used.general;
     let vector = used.vector;
     let stack = used.stack;
-    match kinds {
-        Kinds::Stack => places::place_next(used, shape),
-        Kinds::Two(_, _) => places::place_next(used, shape),
-        Kinds::One(kind) => match kind {
-            Kind::Upper => places::place_next(used, shape),
-            Kind::General => {
-                if !units::at_most(general, Registers(5)) {
-                    return behind_all(used, shape);
-                }
-                Placed {
-                    place: Place::One(Register::General(general)),
-                    used: Used {
-                        general: units::one_more(general),
-                        vector: vector,
-                        stack: stack,
-                    },
-                }
+    let lone = asked_of(table, k);
+    match lone {
+        Lone::Other => places::place_next(used, places::shape_in(table, k)),
+        Lone::General => {
+            if !units::at_most(general, Registers(5)) {
+                return behind_all(used, extent);
             }
-            Kind::Vector => {
-                if !units::at_most(vector, Registers(7)) {
-                    return behind_all(used, shape);
-                }
-                Placed {
-                    place: Place::One(Register::Vector(vector)),
-                    used: Used {
-                        general: general,
-                        vector: units::one_more(vector),
-                        stack: stack,
-                    },
-                }
+            Placed {
+                place: Place::One(Register::General(general)),
+                used: Used {
+                    general: units::one_more(general),
+                    vector: vector,
+                    stack: stack,
+                },
             }
-        },
+        }
+        Lone::Vector => {
+            if !units::at_most(vector, Registers(7)) {
+                return behind_all(used, extent);
+            }
+            Placed {
+                place: Place::One(Register::Vector(vector)),
+                used: Used {
+                    general: general,
+                    vector: units::one_more(vector),
+                    stack: stack,
+                },
+            }
+        }
     }
 }
 
@@ -121,9 +145,9 @@ fn place_all(
     let mut i = 0;
     while i < arguments {
         let k = description::argument_at(d, i);
-        let shape = places::shape_in(table, k);
-        let size = shape.size;
-        let placed = next_place(used, shape);
+        let extent = types::extent_in(table, k);
+        let size = extent.size;
+        let placed = next_place(used, table, k, extent);
         let place = placed.place;
         images::place_one(registers, stack, place, size, values, start);
         start = units::plus(start, size);
@@ -169,9 +193,9 @@ pub fn gather_all(
     let mut i = 0;
     while i < arguments {
         let k = description::argument_at(d, i);
-        let shape = places::shape_in(table, k);
-        let size = shape.size;
-        let placed = next_place(used, shape);
+        let extent = types::extent_in(table, k);
+        let size = extent.size;
+        let placed = next_place(used, table, k, extent);
         let place = placed.place;
         images::gather_one(registers, stack, place, size, values, start);
         start = units::plus(start, size);

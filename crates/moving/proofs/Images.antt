@@ -17,6 +17,7 @@ use Rattle.layout.specs.Layout.{valuesOf}
 use Rattle.layout.specs.Verdict.{verdict}
 use Rattle.layout.proofs.Bounds.{all-shaped}
 use Rattle.images.specs.Words.{littleEndian, number, rdi, addressIn}
+use Rattle.images.proofs.Gathers.{getD-zeros, all-present, gather-at, all-gather}
 use Rattle.images.proofs.Words.{number-of-bytes, bytes-of-number}
 use Rattle.filling.specs.Images.{addressesOf, blankBy, blank, placed, gathered, hiddenIn}
 use Rattle.moving.specs.Statements.{Unused, IsImage}
@@ -28,11 +29,6 @@ length-blank : (b : Bool) (h n : ℕ) → length (blankBy b h n) ≡ 176 + n
 unfolding blankBy
 length-blank true h n = simp length-replicate (omega arith)
 length-blank false h n = simp length-replicate (omega arith)
-
-pub getD-zeros : (n k : ℕ) → _≡_ {A = ℕ} (getD (replicate n 0) k 0) 0
-getD-zeros zero k = refl
-getD-zeros (suc n) zero = refl
-getD-zeros (suc n) (suc k) = getD-zeros n k
 
 -- zero wherever the hidden address is not
 blank-zero : (b : Bool) (h n k : ℕ) → (b ≡ true → 8 ≤ k) → getD (blankBy b h n) k 0 ≡ 0
@@ -53,20 +49,6 @@ unfolding blankBy
 blank-unseen h g n = refl
 
 -- ---- an accepted description
-
--- each address of a list is in it
-pub all-present : (ps : List ℕ) (Q : ℕ → Type 0) → ((p : ℕ) → (Absent p ps → ⊥) → Q p) → All Q ps
-all-present [] Q f = tt
-all-present (p ∷ ps) Q f = (f p (λ a. a .0 refl), all-present ps Q (λ q n. f q (λ a. n (a .1))))
-
-pub gather-at : (ps img : List ℕ) (k : ℕ) → k < length ps → getD (gather img ps) k 0 ≡ getD img (getD ps k 0) 0
-gather-at [] img k l = absurd (omega arith)
-gather-at (p ∷ ps) img zero l = refl
-gather-at (p ∷ ps) img (suc k) l = gather-at ps img k (omega arith)
-
-pub all-gather : (ps img : List ℕ) → All (λ p. getD img p 0 < 256) ps → All (λ b. b < 256) (gather img ps)
-all-gather [] img h = tt
-all-gather (p ∷ ps) img h = (h .0, all-gather ps img (h .1))
 
 module _ (d img jmg : List ℕ) (same : (k : ℕ) → (Unused d k → ⊥) → getD img k 0 ≡ getD jmg k 0) where
   -- no unused byte is gathered

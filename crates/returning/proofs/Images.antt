@@ -15,7 +15,7 @@ use Rattle.places.specs.declared.ReturnPlace.{ReturnPlace}
 use Rattle.places.specs.declared.ReturnPlace.the-variants.{Void, Memory, One, Two, St0, St0St1}
 use Rattle.images.specs.Words.{littleEndian, number}
 use Rattle.images.proofs.Words.{number-of-bytes, bytes-of-number}
-use Rattle.moving.proofs.Images.{getD-zeros, all-present, gather-at, all-gather}
+use Rattle.images.proofs.Gathers.{getD-zeros, all-present, gather-at, all-gather}
 use Rattle.return_image.specs.Moved.{partsOf, sources, targets}
 use Rattle.return_image.specs.Image.{inMemory, rax, blankReturn, returnImage, returnValue, returnedAddress, trimmed}
 use Rattle.return_image.specs.Asks.{Returnable}
