@@ -7,7 +7,7 @@ use borrow.Author.Needs.{needs}
 use lib.ListN.{length}
 use denote.Ref.{now}
 use Rattle.classify.specs.Table.{Right, fullEntry}
-use Rattle.classify.proofs.Table.{right-none, word-small, full-is, full-more, sizes-kept, tabled}
+use Rattle.classify.proofs.Table.{right-none, word-small, full-is, full-more, sizes-kept, classes-kept, tabled}
 use Rattle.description.specs.Description.{typesIn}
 use Rattle.form.proofs.Form.{accepted-headed}
 use Rattle.types.specs.Basic.{sizes}
@@ -30,13 +30,13 @@ byte-at-requires : tie.Need-byte-at-requires Inv-loop μ-loop
 byte-at-requires c κs = omega (arith, accepted-headed (now (c .before .before .before .args .d)) (accepted-form (now (c .before .before .before .args .d)) (c .before .before .before .pre .0)))
 
 loop-holds : tie.Need-loop-holds Inv-loop μ-loop
-loop-holds c = (right-none (now (c .before .before .before .before .args .d)) 1024, filled-none (fullEntry (now (c .before .before .before .before .args .d))) (now (c .before .before .before .before .args .table)), omega arith, c .byte-at .ensures .0)
+loop-holds c = (right-none (now (c .before .before .before .before .args .d)) 512, filled-none (fullEntry (now (c .before .before .before .before .args .d))) (now (c .before .before .before .before .args .table)), omega arith, c .byte-at .ensures .0)
 
 finish-requires : tie.Need-finish-requires Inv-loop μ-loop
 finish-requires c κs =
     let full : length (now (c .before .before .before .before .before .before .before .before .args .table)) ≡ 64 = sym (c .before .before .before .before .before .entries .ensures .1) ∙ c .before .before .before .before .before .entries .ensures .0 in (
       accepted-sized (now (c .before .before .before .before .before .before .before .before .args .d)) (c .before .before .before .before .before .before .before .before .pre .0) (c .before .before .before .loop .k) (omega (arith, c .before .before .loop-test .taken, c .before .before .before .loop .inv .3)),
-      record { sizes = rw (c .before .before .before .loop .inv .1) (sizes-kept (now (c .before .before .before .before .before .before .before .before .args .d)) (now (c .before .before .before .before .before .before .before .before .args .table)) (c .before .before .before .before .before .before .before .before .pre .1) full (c .before .before .before .loop .k) (omega (arith, c .before .before .loop-test .taken, c .before .before .before .loop .inv .3))); right = c .before .before .before .loop .inv .0 },
+      record { sizes = rw (c .before .before .before .loop .inv .1) (sizes-kept (now (c .before .before .before .before .before .before .before .before .args .d)) (now (c .before .before .before .before .before .before .before .before .args .table)) (c .before .before .before .before .before .before .before .before .pre .1) full (c .before .before .before .loop .k) (omega (arith, c .before .before .loop-test .taken, c .before .before .before .loop .inv .3))); right = c .before .before .before .loop .inv .0; classes = rw (c .before .before .before .loop .inv .1) (classes-kept (now (c .before .before .before .before .before .before .before .before .args .d)) (now (c .before .before .before .before .before .before .before .before .args .table)) (c .before .before .before .before .before .before .before .before .pre .1) full (c .before .before .before .loop .k) (omega (arith, c .before .before .loop-test .taken, c .before .before .before .loop .inv .3))) },
     )
 
 word-at-requires : tie.Need-word-at-requires Inv-loop μ-loop
@@ -44,7 +44,7 @@ word-at-requires c κs =
     let full : length (now (c .before .before .before .before .before .before .before .before .before .before .before .args .table)) ≡ 64 = sym (c .before .before .before .before .before .before .before .before .entries .ensures .1) ∙ c .before .before .before .before .before .before .before .before .entries .ensures .0 in
     let low : c .before .before .before .before .before .before .loop .k < typesIn (now (c .before .before .before .before .before .before .before .before .before .before .before .args .d)) = omega (arith, c .before .before .before .before .before .loop-test .taken, c .before .before .before .before .before .before .loop .inv .3) in (
       record { sized = accepted-sized (now (c .before .before .before .before .before .before .before .before .before .before .before .args .d)) (c .before .before .before .before .before .before .before .before .before .before .before .pre .0) (c .before .before .before .before .before .before .loop .k) low; fits = omega (arith, accepted-small (now (c .before .before .before .before .before .before .before .before .before .before .before .args .d)) (c .before .before .before .before .before .before .before .before .before .before .before .pre .0) (c .before .before .before .before .before .before .loop .k) low) },
-      record { sizes = rw (c .before .before .before .before .before .before .loop .inv .1) (sizes-kept (now (c .before .before .before .before .before .before .before .before .before .before .before .args .d)) (now (c .before .before .before .before .before .before .before .before .before .before .before .args .table)) (c .before .before .before .before .before .before .before .before .before .before .before .pre .1) full (c .before .before .before .before .before .before .loop .k) (omega (arith, low))); right = c .before .before .finish .ensures },
+      record { sizes = rw (c .before .before .before .before .before .before .loop .inv .1) (sizes-kept (now (c .before .before .before .before .before .before .before .before .before .before .before .args .d)) (now (c .before .before .before .before .before .before .before .before .before .before .before .args .table)) (c .before .before .before .before .before .before .before .before .before .before .before .pre .1) full (c .before .before .before .before .before .before .loop .k) (omega (arith, low))); right = c .before .before .finish .ensures; classes = rw (c .before .before .before .before .before .before .loop .inv .1) (classes-kept (now (c .before .before .before .before .before .before .before .before .before .before .before .args .d)) (now (c .before .before .before .before .before .before .before .before .before .before .before .args .table)) (c .before .before .before .before .before .before .before .before .before .before .before .pre .1) full (c .before .before .before .before .before .before .loop .k) (omega (arith, low))) },
     )
 
 mul-with-word : tie.Need-mul-with-word Inv-loop μ-loop

@@ -7,8 +7,8 @@ use Rattle.classify.proofs.Table.{right-set}
 use Rattle.classify.proofs.finish_at.Statement.{statement}
 use Rattle.classify.proofs.finish_at.Tie as tie
 
-classify-type-requires : tie.Need-classify-type-requires
-classify-type-requires c κs = search needs
+work-out-requires : tie.Need-work-out-requires
+work-out-requires c κs = search needs
 
 pack-requires : tie.Need-pack-requires
 pack-requires c κs = search needs
@@ -23,13 +23,13 @@ element-write-finished : tie.Need-element-write-finished
 element-write-finished c = search needs
 
 returns : tie.Need-returns
-returns c = right-set (now (c .before .before .before .before .args .d)) (now (c .before .before .before .before .args .finished)) (c .before .before .before .before .args .k) (c .before .before .before .before .args .at) (c .pack .result) (c .before .before .before .before .pre .2 .right) (c .before .before .before .before .pre .1) (c .pack .ensures .1 ∙ c .before .classify-type .ensures)
+returns c = right-set (now (c .before .before .before .before .args .d)) (now (c .before .before .before .before .args .finished)) (c .before .before .before .before .args .k) (c .before .before .before .before .args .at) (c .pack .result) (c .before .before .before .before .pre .2 .right) (c .before .before .before .before .pre .1) (c .pack .ensures .1 ∙ c .before .work-out .ensures)
 
 pub finish-at-spec : {M : Type 1} → statement M
 finish-at-spec =
     tie.close
     (tie.spec
-    classify-type-requires
+    work-out-requires
     pack-requires
     mul-finished
     add-finished

@@ -35,14 +35,14 @@ word-of-requires c κs = search needs
 returns-2 : tie.Need-returns-2
 returns-2 c = c .word-of .ensures ∙ ap wordOf (sym (whole-large (now (c .before .before .before .before .before .before .before .args .d)) (c .before .before .before .before .before .before .before .args .k) (c .before .before .before .before .before .before .before .pre .0 .sized) (λ e. c .before .before .before .before .if1 .left (c .before .before .before .before .before .kind-at .ensures ∙ e)) (rw (← known-extent (now (c .before .before .before .before .before .before .before .args .d)) (now (c .before .before .before .before .before .before .before .args .table)) (c .before .before .before .before .before .before .before .pre .1 .sizes) (c .before .before .before .before .before .before .before .args .k) (c .before .before .before .before .before .before .before .pre .0 .sized) (c .before .before .before .extent-in .result) (c .before .before .before .extent-in .ensures) .size) (sym (c .before .before .over .ensures) ∙ c .before .if2 .taken))))
 
-classify-type-requires : tie.Need-classify-type-requires
-classify-type-requires c κs = search needs
+work-out-requires : tie.Need-work-out-requires
+work-out-requires c κs = search needs
 
 word-of-requires-2 : tie.Need-word-of-requires-2
 word-of-requires-2 c κs = search needs
 
 returns-3 : tie.Need-returns-3
-returns-3 c = c .word-of2 .ensures ∙ ap wordOf (c .before .classify-type .ensures ∙ sym (whole-small (now (c .before .before .before .before .before .before .before .before .args .d)) (c .before .before .before .before .before .before .before .before .args .k) (c .before .before .before .before .before .before .before .before .pre .0 .sized) (rw (← known-extent (now (c .before .before .before .before .before .before .before .before .args .d)) (now (c .before .before .before .before .before .before .before .before .args .table)) (c .before .before .before .before .before .before .before .before .pre .1 .sizes) (c .before .before .before .before .before .before .before .before .args .k) (c .before .before .before .before .before .before .before .before .pre .0 .sized) (c .before .before .before .before .extent-in .result) (c .before .before .before .before .extent-in .ensures) .size) (sym (c .before .before .before .over .ensures) ∙ c .before .before .if2 .left))))
+returns-3 c = c .word-of2 .ensures ∙ ap wordOf (c .before .work-out .ensures ∙ sym (whole-small (now (c .before .before .before .before .before .before .before .before .args .d)) (c .before .before .before .before .before .before .before .before .args .k) (c .before .before .before .before .before .before .before .before .pre .0 .sized) (rw (← known-extent (now (c .before .before .before .before .before .before .before .before .args .d)) (now (c .before .before .before .before .before .before .before .before .args .table)) (c .before .before .before .before .before .before .before .before .pre .1 .sizes) (c .before .before .before .before .before .before .before .before .args .k) (c .before .before .before .before .before .before .before .before .pre .0 .sized) (c .before .before .before .before .extent-in .result) (c .before .before .before .before .extent-in .ensures) .size) (sym (c .before .before .before .over .ensures) ∙ c .before .before .if2 .left))))
 
 pub word-at-spec : {M : Type 1} → statement M
 word-at-spec =
@@ -56,6 +56,6 @@ word-at-spec =
     over-requires
     word-of-requires
     returns-2
-    classify-type-requires
+    work-out-requires
     word-of-requires-2
     returns-3)
