@@ -1,14 +1,16 @@
 -- The loop that looks for a broken _Bool argument. Assumes nothing.
 use mathlib.Core.Path.{_≡_, refl, sym, ap, ap₂, _∙_}
-use mathlib.Core.Bool.{true, false}
+use mathlib.Core.Bool.{Bool, true, false, true≢false}
 use mathlib.Core.List.{List}
 use Prim.Native.Nat.{ℕ, _+_, _-_, _^_, _≤_, _<_}
 use native.Mathlib.Nat.{sub-zero}
 use native.Mathlib.Omega.{arith}
+use borrow.Author.Tests.{ltb-true, ltb-false}
+use lib.Dec.{ltb}
 use lib.ListN.{length, getD}
-use Rattle.description.specs.Description.{argumentsIn, argumentAt}
+use Rattle.description.specs.Description.{typesIn, argumentsIn, argumentAt}
 use Rattle.form.specs.Search.{firstFrom}
-use Rattle.form.proofs.Search.{search-stop, search-on, search-end}
+use Rattle.form.proofs.Search.{search-stop, search-on, search-end, first-bound, first-holds, first-least}
 use Rattle.types.specs.Basic.{lp64}
 use Rattle.types.specs.Size.{sizeTy}
 use Rattle.types.specs.Decode.{tyAt}
@@ -16,8 +18,8 @@ use Rattle.layout.specs.Arguments.{shapeAt}
 use Rattle.layout.specs.Layout.{valuesOf}
 use Rattle.layout.specs.Verdict.{verdict}
 use Rattle.filling.specs.Images.{valueStart}
-use Rattle.lent.specs.Orders.{brokenByte, brokenBool, firstBroken}
-use Rattle.filling.proofs.Turns.{start-none, start-next, size-is, value-some, value-inside, values-small}
+use Rattle.lent.specs.Orders.{isBool, brokenByte, brokenBool, firstBroken}
+use Rattle.filling.proofs.Turns.{known, start-none, start-next, size-is, value-some, value-inside, values-small}
 
 module _ (d vals : List ℕ) where
   -- what is left to search finds what the whole search finds
@@ -67,3 +69,19 @@ module _ (d vals : List ℕ) where
 
     pub searching-end : argumentsIn d ≤ i → i ≡ firstBroken d vals
     searching-end l = sym (search-end (brokenBool d vals) i (argumentsIn d) l) ∙ h .same
+
+-- ---- no type is _Bool
+
+quiet : (d : List ℕ) → firstFrom (isBool d) 0 (typesIn d) ≡ typesIn d → (k byte : ℕ) → k < typesIn d → brokenByte d k byte ≡ false
+unfolding brokenByte
+quiet d e k byte l = rw (first-least (isBool d) 0 (typesIn d) k (omega arith) (omega (arith, e)))
+
+pub none-broken : (d vals : List ℕ) → verdict d ≡ 0 → (r t a : ℕ) → r ≡ firstFrom (isBool d) 0 (typesIn d) → t ≡ typesIn d → r ≡ t → a ≡ argumentsIn d → a ≡ firstBroken d vals
+none-broken d vals ok r t a f g e h = by (ltb (firstBroken d vals) (argumentsIn d)) refl
+  where
+    by : (b : Bool) → ltb (firstBroken d vals) (argumentsIn d) ≡ b → a ≡ firstBroken d vals
+    by true x =
+        let l = ltb-true (firstBroken d vals) (argumentsIn d) x in
+        absurd (true≢false (sym (first-holds (brokenBool d vals) 0 (argumentsIn d) (omega (arith, l)))
+        ∙ quiet d (sym f ∙ e ∙ g) (argumentAt d (firstBroken d vals)) _ (known d ok (firstBroken d vals) l)))
+    by false x = omega (arith, h, ltb-false (firstBroken d vals) (argumentsIn d) x, first-bound (brokenBool d vals) 0 (argumentsIn d))

@@ -8,7 +8,8 @@ ghost use Rattle.description.specs.Description.{typesIn, Whole};
 ghost use Rattle.classify.specs.Table.{Tabled};
 ghost use Rattle.layout.specs.Layout.{valuesOf};
 ghost use Rattle.layout.specs.Verdict.{verdict};
-ghost use Rattle.lent.specs.Orders.{wrongLength, brokenByte, firstBroken};
+ghost use Rattle.form.specs.Search.{firstFrom};
+ghost use Rattle.lent.specs.Orders.{wrongLength, isBool, brokenByte, firstBroken};
 
 // 11: whether a lent buffer has not exactly the length that the layout says.
 pub fn wrong_length(layout: Layout, values: Bytes, registers: Bytes, stack: Bytes) -> bool
@@ -23,22 +24,46 @@ pub fn wrong_length(layout: Layout, values: Bytes, registers: Bytes, stack: Byte
     !units::same(stack, layout.area)
 }
 
-// Whether type k is _Bool, by its own record, and the byte is not 0 or 1.
-pub fn broken_byte(d: &[u8], k: usize, byte: usize) -> bool
+// Whether type k is _Bool, by its own record.
+fn is_bool(d: &[u8], k: usize) -> bool
     requires { ⌜ Whole (now d) × (k < typesIn (now d)) ⌝ }
-    ensures { λ r. ⌜ r ≡ brokenByte (now (d .entry)) k byte ⌝ }
+    ensures { λ r. ⌜ r ≡ isBool (now (d .entry)) k ⌝ }
 {
     if description::kind_at(d, k) != 0 {
         return false;
     }
-    if description::a_at(d, k) != 0 {
+    description::a_at(d, k) == 0
+}
+
+// Whether type k is _Bool, and the byte is not 0 or 1.
+pub fn broken_byte(d: &[u8], k: usize, byte: usize) -> bool
+    requires { ⌜ Whole (now d) × (k < typesIn (now d)) ⌝ }
+    ensures { λ r. ⌜ r ≡ brokenByte (now (d .entry)) k byte ⌝ }
+{
+    if !is_bool(d, k) {
         return false;
     }
     1 < byte
 }
 
-// The first _Bool argument whose byte is not 0 or 1, or the number of arguments.
-pub fn first_broken(d: &[u8], values: &[u8], table: &[u32; 64]) -> usize
+// The first type that is _Bool, by its own record, or the number of types.
+fn first_bool(d: &[u8]) -> usize
+    requires { ⌜ Whole (now d) ⌝ }
+    ensures { λ r. ⌜ r ≡ firstFrom (isBool (now (d .entry))) 0 (typesIn (now (d .entry))) ⌝ }
+{
+    let types = description::byte_at(d, 5);
+    let mut k = 0;
+    while k < types {
+        if is_bool(d, k) {
+            return k;
+        }
+        k += 1;
+    }
+    k
+}
+
+// The first _Bool argument whose byte is not 0 or 1, or the number of arguments, argument by argument.
+fn search_broken(d: &[u8], values: &[u8], table: &[u32; 64]) -> usize
     requires { ⌜ (verdict (now d) ≡ 0) × (length (now values) ≡ valuesOf (now d)) × Tabled (now d) (now table) ⌝ }
     ensures { λ r. ⌜ r ≡ firstBroken (now (d .entry)) (now (values .entry)) ⌝ }
 {
@@ -55,4 +80,15 @@ pub fn first_broken(d: &[u8], values: &[u8], table: &[u32; 64]) -> usize
         i += 1;
     }
     i
+}
+
+// The first _Bool argument whose byte is not 0 or 1, or the number of arguments. Where no type is _Bool there is none to search for.
+pub fn first_broken(d: &[u8], values: &[u8], table: &[u32; 64]) -> usize
+    requires { ⌜ (verdict (now d) ≡ 0) × (length (now values) ≡ valuesOf (now d)) × Tabled (now d) (now table) ⌝ }
+    ensures { λ r. ⌜ r ≡ firstBroken (now (d .entry)) (now (values .entry)) ⌝ }
+{
+    if first_bool(d) == description::byte_at(d, 5) {
+        return description::byte_at(d, 8);
+    }
+    search_broken(d, values, table)
 }
