@@ -5,7 +5,7 @@
 #include <stdio.h>
 #include <string.h>
 
-enum { CASES = 12, BASIC = 0, ARRAY = 1, STRUCT = 2, UNION = 3, CHAR = 1, FLOAT = 6, DOUBLE = 7, NOTHING = 255 };
+enum { CASES = 13, BASIC = 0, ARRAY = 1, STRUCT = 2, UNION = 3, CHAR = 1, FLOAT = 6, DOUBLE = 7, NOTHING = 255 };
 
 typedef struct hostile {
     const char *name;
@@ -97,6 +97,21 @@ static void full_tower(void)
         add_type(UNION, 0, 192 + k);
     }
     end("union {192 chars, 0 .. k-1}", 64);
+}
+
+/* The same over eight chars, which lie in both eightbytes at seven offsets: what is worked out at the most offsets. */
+static void wide_tower(void)
+{
+    begin(CHAR);
+    add_type(ARRAY, 0, 8);
+    for (int i = 0; i < 193; i++) {
+        add_member(1);
+    }
+    for (int k = 2; k < 64; k++) {
+        add_type(UNION, 0, 191 + k);
+        add_member(k);
+    }
+    end("union {193 char[8], 2 .. k-1}", 62);
 }
 
 static void chain(uint8_t kind, const char *name)
@@ -197,6 +212,7 @@ int main(void)
     double_tower();
     overlapping_tower(UNION, "union {0 .. k-1}");
     full_tower();
+    wide_tower();
     overlapping_tower(STRUCT, "struct {0 .. k-1}");
     chain(STRUCT, "struct {k-1}");
     chain(UNION, "union {k-1}");
