@@ -57,6 +57,7 @@ module _ (P : Paper) where
       }
   call k (stepping i a) =
       record { station = k .station; seat = k .seat; walks = put (k .walks) i (stepWalk P (k .station) (k .seat) (k .walks i) a) }
+  -- a show "moves no walk"
   call k (showing i a) = k
   call k (numbering i a) = k
   call k (writing i w) = record { station = k .station; seat = k .seat; walks = put (k .walks) i w }
@@ -157,7 +158,7 @@ Serves i images (showing j a) = Unit {0}
 Serves i images (numbering j a) = Unit {0}
 Serves i images (writing j w) = Unit {0}
 
--- or each accepted one, no more
+-- each accepted step of the walk i is lent these images; a refused one may be lent anything
 abbrev pub Served : Paper → ℕ → List ℕ → Desk → Call → Type 0
 Served P i images k (attaching d b) = Unit {0}
 Served P i images k detaching = Unit {0}

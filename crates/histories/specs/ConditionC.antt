@@ -33,7 +33,7 @@ pub record Connects (P : Paper) (k : Desk) (d : List ℕ) (b : IsBytes d) (betwe
   pub quiet : Along P (Stays P) (call P k (attaching d b)) between
 
 -- the host's part with the walk i in the history cs: "every list of values of the right length", and nothing but a step touches the
--- record i
+-- record i. The tender's "each _Bool argument being 0 or 1" is not needed here
 pub record Cares (P : Paper) (d values : List ℕ) (i : ℕ) (cs : List Call) : Type 0 where
   pub fit : length values ≡ total (P .shapes d)
   pub spares : All (Spares i) cs
@@ -93,13 +93,13 @@ Stale P =
     → detachRefusal (calls P (call P k (opening i)) before .station) (calls P (call P k (opening i)) before .seat) ≡ 0
     → All (Spares i) before → All (Spares i) later → Expired P i (call P (calls P (call P k (opening i)) before) detaching) later
 
--- so is any record, of whose making it may be, that has the number of an earlier attachment
+-- so is any record, whoever made it, that has the number of an earlier attachment
 abbrev pub StaleRecord : Paper → Type 0
 StaleRecord P =
     (k : Desk) (later : List Call) → detachRefusal (k .station) (k .seat) ≡ 0 → (w : Walk) → w .number ≤ k .station .number → (a : Ask)
     → Refused P (calls P (call P k detaching) later) w a
 
--- and a record that is accepted, of whose making it may be, hands back the bytes of the argument where it says to stand
+-- and a record that is accepted, whoever made it, hands back the bytes of the argument where it says to stand
 abbrev pub AnyRecord : Paper → Type 0
 AnyRecord P =
     (s : Station) (seat d address values : List ℕ) (w : Walk) (a : Ask) → Holds P s seat d → length values ≡ total (P .shapes d)

@@ -25,7 +25,8 @@ joined (v ∷ vs) = v ++ joined vs
 unfoldable pub blank : Bool → List ℕ → ℕ → List ℕ
 blank hidden address n = cond hidden (scatter (replicate (176 + n) 0) (run 0 8) address) (replicate (176 + n) 0)
 
--- "Placing copies each value byte to its place": the register image, and after it the stack image
+-- "Placing copies each value byte to its place": the register image, and after it the stack image. That `place_values` leaves these is
+-- the promise `placed-for`; the address has eight bytes there, and here any number
 unfoldable pub imagesFor : Paper → List ℕ → List ℕ → List ℕ → List ℕ
 imagesFor P d address values = scatter (blank (P .hidden d) address (areaOf P d)) (addresses (fresh (P .hidden d)) (P .shapes d)) values
 

@@ -46,8 +46,3 @@ refusalIn (Refused r) = r
 -- the table once it is worked out: classes too, where none of 1 to 9 refuses
 unfoldable pub tableAfter : List ℕ → List ℕ → List ℕ
 tableAfter d table = cond (eqb (usesRefusal d) 0) (filled (fullEntry d) (typesIn d) (sizesAfter d table)) (sizesAfter d table)
-
--- the paper's number of an answer: 0 where it is accepted
-abbrev pub numberOf : LayoutAnswer → ℕ
-numberOf (Laid l) = 0
-numberOf (Refused r) = r .number

@@ -48,21 +48,21 @@ module _ (d : List ℕ) (rules : List Rule) (six : holding 6 rules ≡ true → 
   unfolding refusalFor refusalBy refusalAt wrongRecord tooLarge
   names = record {
     six = λ e. rw (eq-eqb (first rules) 6 e) (
-      let b : wrongRecord d ≡ true = six (holds 6 rules (λ z. omega arith) e) in
-      record {
-        known = ltb-true (firstBroken d) (typesIn d) b;
-        breaks = broken-first d b;
-        lower = λ j l q. true≢false (sym q ∙ broken-least d j l);
-      }
-    );
+        let b : wrongRecord d ≡ true = six (holds 6 rules (λ z. omega arith) e) in
+        record {
+          known = ltb-true (firstBroken d) (typesIn d) b;
+          breaks = broken-first d b;
+          lower = λ j l q. true≢false (sym q ∙ broken-least d j l);
+        }
+        );
     seven = λ e. rw (e) (
-      let b : tooLarge d ≡ true = seven (holds 7 rules (λ z. omega arith) e) in
-      record {
-        known = ltb-true (firstLarge d) (typesIn d) b;
-        breaks = large-first d b;
-        lower = λ j l q. omega (arith, q, large-least d j l);
-      }
-    );
+        let b : tooLarge d ≡ true = seven (holds 7 rules (λ z. omega arith) e) in
+        record {
+          known = ltb-true (firstLarge d) (typesIn d) b;
+          breaks = large-first d b;
+          lower = λ j l q. omega (arith, q, large-least d j l);
+        }
+        );
     other = λ p q. rw (ne-eqb (first rules) 6 p, ne-eqb (first rules) 7 q);
   }
 

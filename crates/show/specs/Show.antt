@@ -66,13 +66,6 @@ Lies (Stack p) regs stack = p .offset .0 + p .length .0 ≤ stack
 Lies Apart regs stack = Unit {0}
 Lies (Refused r) regs stack = Unit {0}
 
--- the paper's number of an answer: 0 where it is accepted
-abbrev pub numberOf : ShownAnswer → ℕ
-numberOf (Registers p) = 0
-numberOf (Stack p) = 0
-numberOf Apart = 0
-numberOf (Refused r) = r .number
-
 module _ (P : Paper) where
   -- where 3.5.7 fetches the argument that the walk stands before
   unfoldable pub shownIn : List ℕ → Walk → ShownAnswer

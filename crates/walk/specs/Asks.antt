@@ -42,7 +42,7 @@ Within (One a) n regs stack = (n ≤ 8) × (a .0 + n ≤ regs)
 Within (Two a b) n regs stack = (8 ≤ n) × (n ≤ 16) × (a .0 + 8 ≤ regs) × (b .0 + (n - 8) ≤ regs)
 Within (Stack o) n regs stack = o .0 + n ≤ stack
 
--- that n is the number: the shape of the argument that the walk stands before where n is 0, and else the refusal
+-- n is 0, and the shape is that of the argument that the walk stands before; or n is not 0, and is the number of the refusal
 abbrev pub IsStanding : Paper → ℕ → List ℕ → ℕ → Standing → Type 0
 IsStanding P n d p (Before s) = (n ≡ 0) × (asked s ≡ shapeAt P d p)
 IsStanding P n d p (Refused r) = (n ≢ 0) × (r ≡ refusalUnder P d n)

@@ -14,11 +14,6 @@ use Rattle.walk.specs.declared.OpenAnswer.the-variants.{Opened, Refused}
 use Rattle.walk.specs.Offsets.{readAt, step, bytesFrom}
 use Rattle.walk.specs.Orders.{Ask, offsetsOf, withOffsets, standing, openRefusal, stepRefusal}
 
--- the paper's number of an answer: 0 where it is accepted
-abbrev pub numberOf : OpenAnswer → ℕ
-numberOf (Opened w) = 0
-numberOf (Refused r) = r .number
-
 module _ (P : Paper) where
   -- of d, that n is the number: the walk where n is 0, and else the refusal
   unfoldable pub openedIf : List ℕ → ℕ → Walk → OpenAnswer
