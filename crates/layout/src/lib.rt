@@ -83,8 +83,8 @@ fn return_of(d: &[u8], table: &[u32; 64]) -> Returned
     let first = classes[0];
     let second = classes[1];
     Returned {
-        place: places::return_place(first, second),
-        hidden: places::hidden_for(first),
+        place: return_places::return_place(first, second),
+        hidden: return_places::hidden_for(first),
     }
 }
 

@@ -11,7 +11,6 @@ ghost use Rattle.places.specs.Shapes.{kindsOf, shapeIn, Asking};
 ghost use Rattle.places.specs.Places.{fresh, enough, stacking, place, next};
 ghost use Rattle.places.specs.Recorded.{listed, asked, Room, Small, IsPlaced};
 ghost use Rattle.places.specs.Steps.{eightbyteOf, IsTaken, foundIf, IsFound, stackedAt};
-ghost use Rattle.places.specs.Returns.{outside, returnOf, hiddenBy};
 
 // What an eightbyte asks for: INTEGER, SSE, SSEUP.
 pub enum Kind {
@@ -86,7 +85,7 @@ struct Taken {
 }
 
 // Registers for each eightbyte, or not enough.
-enum Found {
+pub enum Found {
     Here(Placed),
     Nowhere,
 }
@@ -107,7 +106,7 @@ fn eightbyte_of(class: Class) -> Eightbyte
 }
 
 // What the eightbytes of a value with these classes ask for.
-fn kinds_of(first: Class, second: Class) -> Kinds
+pub fn kinds_of(first: Class, second: Class) -> Kinds
     ensures { λ r. ⌜ listed r ≡ kindsOf (first ∷ second ∷ []) ⌝ }
 {
     let low = eightbyte_of(first);
@@ -209,7 +208,7 @@ fn if_enough(place: Place, used: Used) -> Found
 }
 
 // A register for each eightbyte: "If any eightbyte finds no register", none.
-fn in_registers(used: Used, kinds: Kinds) -> Found
+pub fn in_registers(used: Used, kinds: Kinds) -> Found
     requires { ⌜ (used .general .0 ≤ 6) × (used .vector .0 ≤ 8) ⌝ }
     ensures { λ r. ⌜ IsFound used (listed kinds) r ⌝ }
 {
@@ -325,44 +324,4 @@ pub fn use_next(used: Used, table: &[u32; 64], k: usize) -> Used
         vector: vectors,
         stack: stack,
     }
-}
-
-// Where a value without registers is returned.
-fn outside_registers(class: Class) -> ReturnPlace
-    ensures { λ r. ⌜ r ≡ outside class ⌝ }
-{
-    match class {
-        Class::NoClass => ReturnPlace::Void,
-        Class::Integer => ReturnPlace::Void,
-        Class::Sse => ReturnPlace::Void,
-        Class::SseUp => ReturnPlace::Void,
-        Class::X87 => ReturnPlace::St0,
-        Class::X87Up => ReturnPlace::Void,
-        Class::ComplexX87 => ReturnPlace::St0St1,
-        Class::Memory => ReturnPlace::Memory,
-    }
-}
-
-// Where a value with these classes is returned; void has none.
-pub fn return_place(first: Class, second: Class) -> ReturnPlace
-    ensures { λ r. ⌜ r ≡ returnOf (first ∷ second ∷ []) ⌝ }
-{
-    let kinds = kinds_of(first, second);
-    let answer = in_registers(fresh(false), kinds);
-    let Found::Here(placed) = answer else {
-        return outside_registers(first);
-    };
-    let place = placed.place;
-    match place {
-        Place::One(register) => ReturnPlace::One(register),
-        Place::Two(low, high) => ReturnPlace::Two(low, high),
-        Place::Stack(_) => ReturnPlace::Void,
-    }
-}
-
-// Whether a hidden address is passed for a returned value whose first class this is: "If the return type's class is MEMORY".
-pub fn hidden_for(first: Class) -> bool
-    ensures { λ r. ⌜ r ≡ hiddenBy first ⌝ }
-{
-    classes::is_same(first, Class::Memory)
 }

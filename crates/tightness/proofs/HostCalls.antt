@@ -36,8 +36,8 @@ use Rattle.showing.proofs.show
 use Rattle.show.proofs.show_number
 use Rattle.listing.proofs.write_listing
 use Rattle.places.proofs.fresh
-use Rattle.places.proofs.return_place
-use Rattle.places.proofs.hidden_for
+use Rattle.return_places.proofs.return_place
+use Rattle.return_places.proofs.hidden_for
 use Rattle.addresses.proofs.clear
 use Rattle.callbridge.proofs.cb_version
 use Rattle.callbridge.proofs.cb_check
@@ -163,11 +163,11 @@ total-listing-write-listing c g = refl
 pub total-places-fresh : Total fresh.ended (λ M. fresh.clauses {M = M})
 total-places-fresh c g = refl
 
-pub total-places-return-place : Total return_place.ended (λ M. return_place.clauses {M = M})
-total-places-return-place c g = refl
+pub total-return-places-return-place : Total return_place.ended (λ M. return_place.clauses {M = M})
+total-return-places-return-place c g = refl
 
-pub total-places-hidden-for : Total hidden_for.ended (λ M. hidden_for.clauses {M = M})
-total-places-hidden-for c g = refl
+pub total-return-places-hidden-for : Total hidden_for.ended (λ M. hidden_for.clauses {M = M})
+total-return-places-hidden-for c g = refl
 
 pub total-addresses-clear : Total clear.ended (λ M. clear.clauses {M = M})
 total-addresses-clear c g = refl

@@ -1,9 +1,9 @@
 -- `hidden_for` meets its contract.
 -- Assumes nothing.
 use borrow.Author.Needs.{needs}
 use Rattle.places.specs.Returns.{hiddenBy}
-use Rattle.places.proofs.hidden_for.Statement.{statement}
-use Rattle.places.proofs.hidden_for.Tie as tie
+use Rattle.return_places.proofs.hidden_for.Statement.{statement}
+use Rattle.return_places.proofs.hidden_for.Tie as tie
 
 is-same-requires : tie.Need-is-same-requires
 is-same-requires c κs = search needs

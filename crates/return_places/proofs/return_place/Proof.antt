@@ -3,10 +3,10 @@
 use mathlib.Core.Path.{ap}
 use native.Mathlib.Omega.{arith}
 use borrow.Author.Needs.{needs}
 use Rattle.places.specs.Recorded.{placeOf}
 use Rattle.places.proofs.Returning.{return-outside, return-registers, return-never}
-use Rattle.places.proofs.return_place.Statement.{statement}
-use Rattle.places.proofs.return_place.Tie as tie
+use Rattle.return_places.proofs.return_place.Statement.{statement}
+use Rattle.return_places.proofs.return_place.Tie as tie
 
 kinds-of-requires : tie.Need-kinds-of-requires
 kinds-of-requires c κs = search needs
