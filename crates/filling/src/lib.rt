@@ -9,7 +9,7 @@ use units::Bytes;
 use units::Registers;
 ghost use mathlib.Core.Path.{_≡_};
 ghost use mathlib.Core.List.{_++_};
-ghost use Prim.Native.Nat.{_^_, _≤_, _<_};
+ghost use Prim.Native.Nat.{_<_};
 ghost use lib.ListN.{length, getD};
 ghost use Rattle.addresses.specs.Addresses.{scatter};
 ghost use Rattle.types.specs.Table.{IsEntry};
@@ -17,7 +17,6 @@ ghost use Rattle.classify.specs.Table.{Tabled};
 ghost use Rattle.places.specs.Places.{place, next};
 ghost use Rattle.places.specs.Shapes.{shapeIn};
 ghost use Rattle.places.specs.Recorded.{Room, Small, IsPlaced};
-ghost use Rattle.places.specs.Steps.{stackedAt};
 ghost use Rattle.layout.specs.Arguments.{hidden, usedFirst};
 ghost use Rattle.filling.specs.Images.{blankBy, addressesOf, placed, gathered};
 ghost use Rattle.filling.specs.Asks.{Lent, IsLone};
@@ -62,28 +61,6 @@ fn asked_of(table: &[u32; 64], k: usize) -> Lone
     Lone::Other
 }
 
-// On the stack, where no register is left.
-fn behind_all(used: Used, extent: Extent) -> Placed
-    requires { ⌜ (used .stack .0 ≤ 2 ^ 20) × (extent .size .0 ≤ 4096) × (extent .align .0 ≤ 16) ⌝ }
-    ensures { λ r. ⌜ r ≡ stackedAt used (extent .size .0) (extent .align .0) ⌝ }
-{
-    let size = extent.size;
-    let align = extent.align;
-    let general = used.general;
-    let vector = used.vector;
-    let multiple = units::larger(Bytes(8), align);
-    let offset = units::raise_to(multiple, used.stack);
-    let end = units::raise_to(Bytes(8), units::plus(offset, size));
-    Placed {
-        place: Place::Stack(offset),
-        used: Used {
-            general: general,
-            vector: vector,
-            stack: end,
-        },
-    }
-}
-
 // The place of an argument of type k, by the table, as `places::place_next` says it: a short way for one eightbyte of class INTEGER
 // or SSE, which most arguments are.
 fn next_place(used: Used, table: &[u32; 64], k: usize, extent: Extent) -> Placed
@@ -98,7 +75,7 @@ fn next_place(used: Used, table: &[u32; 64], k: usize, extent: Extent) -> Placed
         Lone::Other => places::place_next(used, places::shape_in(table, k)),
         Lone::General => {
             if !units::at_most(general, Registers(5)) {
-                return behind_all(used, extent);
+                return places::on_stack(used, extent.size, extent.align);
             }
             Placed {
                 place: Place::One(Register::General(general)),
@@ -111,7 +88,7 @@ fn next_place(used: Used, table: &[u32; 64], k: usize, extent: Extent) -> Placed
         }
         Lone::Vector => {
             if !units::at_most(vector, Registers(7)) {
-                return behind_all(used, extent);
+                return places::on_stack(used, extent.size, extent.align);
             }
             Placed {
                 place: Place::One(Register::Vector(vector)),

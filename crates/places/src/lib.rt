@@ -243,7 +243,7 @@ fn stack_start(end: Bytes, align: Bytes) -> Bytes
 }
 
 // On the stack: "the lowest offset, after the one before, that is a multiple of 8 and of its alignment; the room it takes is rounded up to 8".
-fn on_stack(used: Used, size: Bytes, align: Bytes) -> Placed
+pub fn on_stack(used: Used, size: Bytes, align: Bytes) -> Placed
     requires { ⌜ (used .stack .0 ≤ 2 ^ 20) × (size .0 ≤ 4096) × (align .0 ≤ 16) ⌝ }
     ensures { λ r. ⌜ r ≡ stackedAt used (size .0) (align .0) ⌝ }
 {

@@ -2,7 +2,9 @@
 use classes::Class;
 use places::Found;
 use places::Place;
+use places::Register;
 use places::ReturnPlace;
+use units::Registers;
 ghost use mathlib.Core.Path.{_≡_};
 ghost use mathlib.Core.List.{[], _∷_};
 ghost use Rattle.places.specs.Returns.{outside, returnOf, hiddenBy};
@@ -24,7 +26,7 @@ fn outside_registers(class: Class) -> ReturnPlace
 }
 
 // Where a value with these classes is returned; void has none.
-pub fn return_place(first: Class, second: Class) -> ReturnPlace
+fn by_kinds(first: Class, second: Class) -> ReturnPlace
     ensures { λ r. ⌜ r ≡ returnOf (first ∷ second ∷ []) ⌝ }
 {
     let kinds = places::kinds_of(first, second);
@@ -38,6 +40,22 @@ pub fn return_place(first: Class, second: Class) -> ReturnPlace
         Place::Two(low, high) => ReturnPlace::Two(low, high),
         Place::Stack(_) => ReturnPlace::Void,
     }
+}
+
+// Where a value with these classes is returned.
+pub fn return_place(first: Class, second: Class) -> ReturnPlace
+    ensures { λ r. ⌜ r ≡ returnOf (first ∷ second ∷ []) ⌝ }
+{
+    if !classes::is_same(second, Class::NoClass) {
+        return by_kinds(first, second);
+    }
+    if classes::is_same(first, Class::Integer) {
+        return ReturnPlace::One(Register::General(Registers(0)));
+    }
+    if classes::is_same(first, Class::Sse) {
+        return ReturnPlace::One(Register::Vector(Registers(0)));
+    }
+    by_kinds(first, second)
 }
 
 // Whether a hidden address is passed for a returned value whose first class this is: "If the return type's class is MEMORY".

@@ -21,6 +21,9 @@ use Rattle.places.proofs.kinds_of.Symbol as kinds-of-symbol
 use Rattle.places.proofs.in_registers
 use Rattle.places.proofs.in_registers.Met as in-registers-met
 use Rattle.places.proofs.in_registers.Symbol as in-registers-symbol
+use Rattle.places.proofs.on_stack
+use Rattle.places.proofs.on_stack.Met as on-stack-met
+use Rattle.places.proofs.on_stack.Symbol as on-stack-symbol
 
 pub meets-places-shape-in : Meets shape_in.ended (λ M. shape_in.clauses {M = M}) shape-in-symbol.routine
 meets-places-shape-in M = shape-in-met.met
@@ -57,3 +60,9 @@ meets-places-in-registers M = in-registers-met.met
 
 pub tight-places-in-registers : Tight in_registers.ended (λ M. in_registers.clauses {M = M})
 tight-places-in-registers c r q w v a b = (settle (result in_registers.ended c) (a .ensured) (b .ensured) (found-same _ _ r q), refl)
+
+pub meets-places-on-stack : Meets on_stack.ended (λ M. on_stack.clauses {M = M}) on-stack-symbol.routine
+meets-places-on-stack M = on-stack-met.met
+
+pub tight-places-on-stack : Tight on_stack.ended (λ M. on_stack.clauses {M = M})
+tight-places-on-stack c r q w v a b = (equal (result on_stack.ended c) (a .ensured) (b .ensured), refl)

@@ -28,11 +28,11 @@ enum-told-2 c = search needs
 at-most-requires : tie.Need-at-most-requires
 at-most-requires c κs = search needs
 
-behind-all-requires : tie.Need-behind-all-requires
-behind-all-requires c κs = entry-asks _ (getD (now (c .before .before .before .before .before .before .before .before .args .table)) (c .before .before .before .before .before .before .before .before .args .k) 0) _ (c .before .before .before .before .before .before .before .before .pre .1) (c .before .before .before .before .before .before .before .before .pre .2) (c .before .before .before .before .before .before .before .before .pre .3)
+on-stack-requires : tie.Need-on-stack-requires
+on-stack-requires c κs = entry-asks _ (getD (now (c .before .before .before .before .before .before .before .before .args .table)) (c .before .before .before .before .before .before .before .before .args .k) 0) _ (c .before .before .before .before .before .before .before .before .pre .1) (c .before .before .before .before .before .before .before .before .pre .2) (c .before .before .before .before .before .before .before .before .pre .3)
 
 returns : tie.Need-returns
-returns c = no-general (c .before .before .before .before .before .before .before .before .before .args .used) (shapeIn (getD (now (c .before .before .before .before .before .before .before .before .before .args .table)) (c .before .before .before .before .before .before .before .before .before .args .k) 0)) (c .before .before .before .before .before .before .before .before .before .pre .1) (told-general _ _ (c .before .before .before .before .before .asked-of .ensures) (c .before .before .before .enum-told2 .given .1)) (sym (c .before .before .at-most .ensures) ∙ not-true _ (c .before .if1 .taken)) _ (entry-stacked _ (getD (now (c .before .before .before .before .before .before .before .before .before .args .table)) (c .before .before .before .before .before .before .before .before .before .args .k) 0) (c .before .before .before .before .before .before .before .before .before .args .extent) (c .before .before .before .before .before .before .before .before .before .pre .3) _ (c .behind-all .ensures))
+returns c = no-general (c .before .before .before .before .before .before .before .before .before .args .used) (shapeIn (getD (now (c .before .before .before .before .before .before .before .before .before .args .table)) (c .before .before .before .before .before .before .before .before .before .args .k) 0)) (c .before .before .before .before .before .before .before .before .before .pre .1) (told-general _ _ (c .before .before .before .before .before .asked-of .ensures) (c .before .before .before .enum-told2 .given .1)) (sym (c .before .before .at-most .ensures) ∙ not-true _ (c .before .if1 .taken)) _ (entry-stacked _ (getD (now (c .before .before .before .before .before .before .before .before .before .args .table)) (c .before .before .before .before .before .before .before .before .before .args .k) 0) (c .before .before .before .before .before .before .before .before .before .args .extent) (c .before .before .before .before .before .before .before .before .before .pre .3) _ (c .on-stack .ensures))
 
 one-more-requires : tie.Need-one-more-requires
 one-more-requires c κs = search needs
@@ -43,11 +43,11 @@ enum-told-3 c = search needs
 at-most-requires-2 : tie.Need-at-most-requires-2
 at-most-requires-2 c κs = search needs
 
-behind-all-requires-2 : tie.Need-behind-all-requires-2
-behind-all-requires-2 c κs = entry-asks _ (getD (now (c .before .before .before .before .before .before .before .before .args .table)) (c .before .before .before .before .before .before .before .before .args .k) 0) _ (c .before .before .before .before .before .before .before .before .pre .1) (c .before .before .before .before .before .before .before .before .pre .2) (c .before .before .before .before .before .before .before .before .pre .3)
+on-stack-requires-2 : tie.Need-on-stack-requires-2
+on-stack-requires-2 c κs = entry-asks _ (getD (now (c .before .before .before .before .before .before .before .before .args .table)) (c .before .before .before .before .before .before .before .before .args .k) 0) _ (c .before .before .before .before .before .before .before .before .pre .1) (c .before .before .before .before .before .before .before .before .pre .2) (c .before .before .before .before .before .before .before .before .pre .3)
 
 returns-2 : tie.Need-returns-2
-returns-2 c = no-vector (c .before .before .before .before .before .before .before .before .before .args .used) (shapeIn (getD (now (c .before .before .before .before .before .before .before .before .before .args .table)) (c .before .before .before .before .before .before .before .before .before .args .k) 0)) (c .before .before .before .before .before .before .before .before .before .pre .1) (told-vector _ _ (c .before .before .before .before .before .asked-of .ensures) (c .before .before .before .enum-told3 .given .1)) (sym (c .before .before .at-most2 .ensures) ∙ not-true _ (c .before .if2 .taken)) _ (entry-stacked _ (getD (now (c .before .before .before .before .before .before .before .before .before .args .table)) (c .before .before .before .before .before .before .before .before .before .args .k) 0) (c .before .before .before .before .before .before .before .before .before .args .extent) (c .before .before .before .before .before .before .before .before .before .pre .3) _ (c .behind-all2 .ensures))
+returns-2 c = no-vector (c .before .before .before .before .before .before .before .before .before .args .used) (shapeIn (getD (now (c .before .before .before .before .before .before .before .before .before .args .table)) (c .before .before .before .before .before .before .before .before .before .args .k) 0)) (c .before .before .before .before .before .before .before .before .before .pre .1) (told-vector _ _ (c .before .before .before .before .before .asked-of .ensures) (c .before .before .before .enum-told3 .given .1)) (sym (c .before .before .at-most2 .ensures) ∙ not-true _ (c .before .if2 .taken)) _ (entry-stacked _ (getD (now (c .before .before .before .before .before .before .before .before .before .args .table)) (c .before .before .before .before .before .before .before .before .before .args .k) 0) (c .before .before .before .before .before .before .before .before .before .args .extent) (c .before .before .before .before .before .before .before .before .before .pre .3) _ (c .on-stack2 .ensures))
 
 one-more-requires-2 : tie.Need-one-more-requires-2
 one-more-requires-2 c κs = search needs
@@ -71,12 +71,12 @@ next-place-spec =
     place-next-requires
     enum-told-2
     at-most-requires
-    behind-all-requires
+    on-stack-requires
     returns
     one-more-requires
     enum-told-3
     at-most-requires-2
-    behind-all-requires-2
+    on-stack-requires-2
     returns-2
     one-more-requires-2
     returns-3

@@ -1,66 +1,65 @@
--- `return_place` meets its contract.
+-- `return_place` meets its contract: the short way for one eightbyte, or the long one.
 -- Assumes nothing.
-use mathlib.Core.Path.{ap}
-use native.Mathlib.Omega.{arith}
+use mathlib.Core.Path.{_≡_, refl, sym, _∙_}
+use mathlib.Core.Bool.{true}
+use mathlib.Core.List.{[], _∷_}
 use borrow.Author.Needs.{needs}
-use Rattle.places.specs.Recorded.{placeOf}
-use Rattle.places.proofs.Returning.{return-outside, return-registers, return-never}
+use borrow.Author.Tests.{not-false}
+use Rattle.classes.specs.declared.Class.{Class}
+use Rattle.classes.specs.declared.Class.the-variants.{NoClass, Integer, Sse}
+use Rattle.classes.specs.Classes.{same, isX87}
+use Rattle.classes.proofs.Laws.{same-is}
+use Rattle.places.specs.declared.ReturnPlace.{ReturnPlace}
+use Rattle.places.specs.Shapes.{kindsOf}
+use Rattle.places.specs.Returns.{returnOf}
 use Rattle.return_places.proofs.return_place.Statement.{statement}
 use Rattle.return_places.proofs.return_place.Tie as tie
 
-kinds-of-requires : tie.Need-kinds-of-requires
-kinds-of-requires c κs = search needs
+-- one eightbyte of class c
+lone : (a b c : Class) (p : ReturnPlace) → same b NoClass ≡ true → same a c ≡ true → p ≡ returnOf (c ∷ NoClass ∷ []) → p ≡ returnOf (a ∷ b ∷ [])
+lone a b c p e f h = rw (same-is a c f, same-is b NoClass e) h
 
-fresh-requires : tie.Need-fresh-requires
-fresh-requires c κs = search needs
+is-same-requires : tie.Need-is-same-requires
+is-same-requires c κs = search needs
 
-in-registers-requires : tie.Need-in-registers-requires
-in-registers-requires c κs = rw (c .fresh .ensures) (omega arith)
-
-enum-known-answer : tie.Need-enum-known-answer
-enum-known-answer c = search needs
-
-enum-told : tie.Need-enum-told
-enum-told c = search needs
-
-outside-registers-requires : tie.Need-outside-registers-requires
-outside-registers-requires c κs = search needs
+by-kinds-requires : tie.Need-by-kinds-requires
+by-kinds-requires c κs = search needs
 
 returns : tie.Need-returns
-returns c = return-outside _ _ (c .before .before .before .before .before .kinds-of .result) _ _ (c .before .before .before .before .before .kinds-of .ensures) (rw (c .before .before .before .before .fresh .ensures) at (c .before .before .before .in-registers .ensures)) (c .before .enum-told .given .1) (c .outside-registers .ensures)
+returns c = search needs
 
-enum-known-place : tie.Need-enum-known-place
-enum-known-place c = search needs
-
-enum-known-place-2 : tie.Need-enum-known-place-2
-enum-known-place-2 c = search needs
-
-enum-told-2 : tie.Need-enum-told-2
-enum-told-2 c = search needs
+is-same-requires-2 : tie.Need-is-same-requires-2
+is-same-requires-2 c κs = search needs
 
 returns-2 : tie.Need-returns-2
-returns-2 c = return-registers _ _ (c .before .before .before .before .before .before .before .before .kinds-of .result) _ _ _ (c .before .before .before .before .before .before .before .before .kinds-of .ensures) (rw (c .before .before .before .before .before .before .before .fresh .ensures) at (c .before .before .before .before .before .before .in-registers .ensures)) (c .before .before .before .before .answer .given .1) (ap placeOf (c .before .place .given .1))
+unfolding returnOf kindsOf same isX87
+returns-2 c =
+    lone (c .before .before .before .before .args .first) (c .before .before .before .before .args .second) Integer _ (sym (c .before .before .before .is-same .ensures) ∙ not-false _ (c .before .before .if1 .left)) (sym (c .before .is-same2 .ensures) ∙ c .if2 .taken) refl
+
+is-same-requires-3 : tie.Need-is-same-requires-3
+is-same-requires-3 c κs = search needs
 
 returns-3 : tie.Need-returns-3
-returns-3 c = return-registers _ _ (c .before .before .before .before .before .before .before .before .kinds-of .result) _ _ _ (c .before .before .before .before .before .before .before .before .kinds-of .ensures) (rw (c .before .before .before .before .before .before .before .fresh .ensures) at (c .before .before .before .before .before .before .in-registers .ensures)) (c .before .before .before .before .answer .given .1) (ap placeOf (c .before .place2 .given .1))
+unfolding returnOf kindsOf same isX87
+returns-3 c =
+    lone (c .before .before .before .before .before .before .args .first) (c .before .before .before .before .before .before .args .second) Sse _ (sym (c .before .before .before .before .before .is-same .ensures) ∙ not-false _ (c .before .before .before .before .if1 .left)) (sym (c .before .is-same3 .ensures) ∙ c .if3 .taken) refl
+
+by-kinds-requires-2 : tie.Need-by-kinds-requires-2
+by-kinds-requires-2 c κs = search needs
 
 returns-4 : tie.Need-returns-4
-returns-4 c = return-never _ _ (c .before .before .before .before .before .before .before .kinds-of .result) _ _ _ _ (rw (c .before .before .before .before .before .before .fresh .ensures) at (c .before .before .before .before .before .in-registers .ensures)) (c .before .before .before .answer .given .1) (c .enum-told2 .given .1)
+returns-4 c = search needs
 
 pub return-place-spec : {M : Type 1} → statement M
 return-place-spec =
     tie.close
     (tie.spec
-    kinds-of-requires
-    fresh-requires
-    in-registers-requires
-    enum-known-answer
-    enum-told
-    outside-registers-requires
+    is-same-requires
+    by-kinds-requires
     returns
-    enum-known-place
-    enum-known-place-2
-    enum-told-2
+    is-same-requires-2
     returns-2
+    is-same-requires-3
     returns-3
+    by-kinds-requires-2
     returns-4)
