@@ -50,12 +50,6 @@ pub struct Step {
     pub used: Used,
 }
 
-// Where a value is returned, and whether a hidden address is passed for it.
-struct Returned {
-    place: ReturnPlace,
-    hidden: bool,
-}
-
 // The bytes of one argument, and what is used after it.
 struct Turn {
     size: Bytes,
@@ -68,24 +62,33 @@ struct Laying {
     values: Bytes,
 }
 
-fn return_of(d: &[u8], table: &[u32; 64]) -> Returned
+// Where the value is returned.
+fn return_of(d: &[u8], table: &[u32; 64]) -> ReturnPlace
     requires { ⌜ (usesRefusal (now d) ≡ 0) × Tabled (now d) (now table) ⌝ }
-    ensures { λ r. ⌜ (r .place ≡ returnPlace (now (d .entry))) × (r .hidden ≡ hidden (now (d .entry))) ⌝ }
+    ensures { λ r. ⌜ r ≡ returnPlace (now (d .entry)) ⌝ }
 {
     let k = description::byte_at(d, 9);
     if k == 255 {
-        return Returned {
-            place: ReturnPlace::Void,
-            hidden: false,
-        };
+        return ReturnPlace::Void;
     }
     let classes = classify::classes_in(table, k);
     let first = classes[0];
     let second = classes[1];
-    Returned {
-        place: return_places::return_place(first, second),
-        hidden: return_places::hidden_for(first),
+    return_places::return_place(first, second)
+}
+
+// Whether a hidden address is passed for it.
+fn hidden_of(d: &[u8], table: &[u32; 64]) -> bool
+    requires { ⌜ (usesRefusal (now d) ≡ 0) × Tabled (now d) (now table) ⌝ }
+    ensures { λ r. ⌜ r ≡ hidden (now (d .entry)) ⌝ }
+{
+    let k = description::byte_at(d, 9);
+    if k == 255 {
+        return false;
     }
+    let classes = classify::classes_in(table, k);
+    let first = classes[0];
+    return_places::hidden_for(first)
 }
 
 // The record of argument i, and what is used after it.
@@ -151,7 +154,7 @@ pub fn used_after(d: &[u8], n: usize, table: &[u32; 64]) -> Used
     requires { ⌜ (usesRefusal (now d) ≡ 0) × (n ≤ argumentsIn (now d)) × Tabled (now d) (now table) ⌝ }
     ensures { λ r. ⌜ r ≡ usedAt (now (d .entry)) n ⌝ }
 {
-    let hidden = return_of(d, table).hidden;
+    let hidden = hidden_of(d, table);
     let before = Laying {
         used: places::fresh(hidden),
         values: Bytes(0),
@@ -166,9 +169,8 @@ fn lay(d: &[u8], table: &[u32; 64]) -> Layout
 {
     let named = description::byte_at(d, 7);
     let arguments = description::byte_at(d, 8);
-    let result = return_of(d, table);
-    let returns = result.place;
-    let hidden = result.hidden;
+    let returns = return_of(d, table);
+    let hidden = hidden_of(d, table);
     let before = Laying {
         used: places::fresh(hidden),
         values: Bytes(0),

@@ -6,7 +6,7 @@ use native.Mathlib.Omega.{arith}
 use borrow.Author.Needs.{needs}
 use denote.Ref.{now}
 use Rattle.layout.proofs.Bounds.{type-asked}
-use Rattle.layout.proofs.Steps.{return-void, return-known, return-some, hidden-some}
+use Rattle.layout.proofs.Steps.{return-void, return-known, return-some}
 use Rattle.description.specs.Description.{returnIn}
 use Rattle.types.specs.Decode.{tyAt}
 use Rattle.classify.specs.Classify.{classesOf}
@@ -18,7 +18,7 @@ byte-at-requires : tie.Need-byte-at-requires
 byte-at-requires c κs = omega (arith, accepted-typed (now (c .before .args .d)) (c .before .pre .0) .whole .headed)
 
 returns : tie.Need-returns
-returns c = return-void (now (c .before .before .before .args .d)) (sym (c .before .byte-at .ensures .0) ∙ c .if1 .taken)
+returns c = return-void (now (c .before .before .before .args .d)) (sym (c .before .byte-at .ensures .0) ∙ c .if1 .taken) .0
 
 classes-in-requires : tie.Need-classes-in-requires
 classes-in-requires c κs = omega (arith, c .before .byte-at .ensures .0, return-known (now (c .before .before .before .args .d)) (c .before .before .before .pre .0) (λ e. c .if1 .left (c .before .byte-at .ensures .0 ∙ e)), c .before .before .before .pre .1 .sizes .few)
@@ -32,15 +32,12 @@ array-copy-out-second c = search needs
 return-place-requires : tie.Need-return-place-requires
 return-place-requires c κs = search needs
 
-hidden-for-requires : tie.Need-hidden-for-requires
-hidden-for-requires c κs = search needs
-
 returns-2 : tie.Need-returns-2
 returns-2 c =
-    let d = now (c .before .before .before .before .before .before .before .before .args .d) in
-    let n : returnIn d ≡ 255 → ⊥ = λ e. c .before .before .before .before .before .if1 .left (c .before .before .before .before .before .before .byte-at .ensures .0 ∙ e) in
-    let is = c .before .before .before .before .classes-in .ensures ∙ c .before .before .before .before .before .before .before .before .pre .1 .classes (c .before .before .before .before .before .before .byte-at .result) (omega (arith, c .before .before .before .before .before .before .byte-at .ensures .0, return-known (now (c .before .before .before .before .before .before .before .before .args .d)) (c .before .before .before .before .before .before .before .before .pre .0) (λ e. c .before .before .before .before .before .if1 .left (c .before .before .before .before .before .before .byte-at .ensures .0 ∙ e)))) ∙ ap (λ (k : ℕ). classesOf (tyAt d k)) (c .before .before .before .before .before .before .byte-at .ensures .0) in
-    (return-some d n (c .before .before .before .before .classes-in .result) is _ (c .before .return-place .ensures), hidden-some d n (c .before .before .before .before .classes-in .result) is _ (c .hidden-for .ensures))
+    let d = now (c .before .before .before .before .before .before .before .args .d) in
+    let n : returnIn d ≡ 255 → ⊥ = λ e. c .before .before .before .before .if1 .left (c .before .before .before .before .before .byte-at .ensures .0 ∙ e) in
+    let is = c .before .before .before .classes-in .ensures ∙ c .before .before .before .before .before .before .before .pre .1 .classes (c .before .before .before .before .before .byte-at .result) (omega (arith, c .before .before .before .before .before .byte-at .ensures .0, return-known (now (c .before .before .before .before .before .before .before .args .d)) (c .before .before .before .before .before .before .before .pre .0) (λ e. c .before .before .before .before .if1 .left (c .before .before .before .before .before .byte-at .ensures .0 ∙ e)))) ∙ ap (λ (k : ℕ). classesOf (tyAt d k)) (c .before .before .before .before .before .byte-at .ensures .0) in
+    return-some d n (c .before .before .before .classes-in .result) is _ (c .return-place .ensures)
 
 pub return-of-spec : {M : Type 1} → statement M
 return-of-spec =
@@ -52,5 +49,4 @@ return-of-spec =
     array-copy-out-first
     array-copy-out-second
     return-place-requires
-    hidden-for-requires
     returns-2)
