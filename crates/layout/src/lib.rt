@@ -100,7 +100,7 @@ pub fn place_argument(d: &[u8], used: Used, i: usize, table: &[u32; 64]) -> Step
     let shape = places::shape_in(table, k);
     let size = shape.size;
     let align = shape.align;
-    let placed = places::place_next(used, shape);
+    let placed = placing::place_next(used, shape);
     let place = placed.place;
     let after = placed.used;
     Step {
@@ -121,7 +121,7 @@ fn use_argument(d: &[u8], used: Used, i: usize, table: &[u32; 64]) -> Turn
 {
     let k = description::argument_at(d, i);
     let size = types::extent_in(table, k).size;
-    let after = places::use_next(used, table, k);
+    let after = placing::use_next(used, table, k);
     Turn {
         size: size,
         used: after,

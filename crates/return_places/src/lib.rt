@@ -30,7 +30,7 @@ fn by_kinds(first: Class, second: Class) -> ReturnPlace
     ensures { λ r. ⌜ r ≡ returnOf (first ∷ second ∷ []) ⌝ }
 {
     let kinds = places::kinds_of(first, second);
-    let answer = places::in_registers(places::fresh(false), kinds);
+    let answer = placing::in_registers(places::fresh(false), kinds);
     let Found::Here(placed) = answer else {
         return outside_registers(first);
     };

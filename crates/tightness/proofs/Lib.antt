@@ -11,6 +11,7 @@ pub mod OfClassQuestion
 pub mod OfRunQuestions
 pub mod OfUses
 pub mod OfPlaces
+pub mod OfPlacing
 pub mod OfReturnPlaces
 pub mod OfLayout
 pub mod OfLists

@@ -2,25 +2,16 @@
 use mathlib.Core.Path.{refl, sym, _∙_}
 use Rattle.tightness.specs.Tight.{Meets, Tight}
 use Rattle.tightness.proofs.Laws.{equal, result, settle}
-use Rattle.places.proofs.Records.{listed-same, found-same, asked-same, placed-same}
+use Rattle.places.proofs.Records.{listed-same, asked-same}
 use Rattle.places.proofs.fresh
 use Rattle.places.proofs.fresh.Met as fresh-met
 use Rattle.places.proofs.fresh.Symbol as fresh-symbol
-use Rattle.places.proofs.place_next
-use Rattle.places.proofs.place_next.Met as place-next-met
-use Rattle.places.proofs.place_next.Symbol as place-next-symbol
 use Rattle.places.proofs.shape_in
 use Rattle.places.proofs.shape_in.Met as shape-in-met
 use Rattle.places.proofs.shape_in.Symbol as shape-in-symbol
-use Rattle.places.proofs.use_next
-use Rattle.places.proofs.use_next.Met as use-next-met
-use Rattle.places.proofs.use_next.Symbol as use-next-symbol
 use Rattle.places.proofs.kinds_of
 use Rattle.places.proofs.kinds_of.Met as kinds-of-met
 use Rattle.places.proofs.kinds_of.Symbol as kinds-of-symbol
-use Rattle.places.proofs.in_registers
-use Rattle.places.proofs.in_registers.Met as in-registers-met
-use Rattle.places.proofs.in_registers.Symbol as in-registers-symbol
 use Rattle.places.proofs.on_stack
 use Rattle.places.proofs.on_stack.Met as on-stack-met
 use Rattle.places.proofs.on_stack.Symbol as on-stack-symbol
@@ -37,29 +28,11 @@ meets-places-fresh M = fresh-met.met
 pub tight-places-fresh : Tight fresh.ended (λ M. fresh.clauses {M = M})
 tight-places-fresh c r q w v a b = (equal (result fresh.ended c) (a .ensured) (b .ensured), refl)
 
-pub meets-places-place-next : Meets place_next.ended (λ M. place_next.clauses {M = M}) place-next-symbol.routine
-meets-places-place-next M = place-next-met.met
-
-pub tight-places-place-next : Tight place_next.ended (λ M. place_next.clauses {M = M})
-tight-places-place-next c r q w v a b = (settle (result place_next.ended c) (a .ensured) (b .ensured) (placed-same _ _ r q), refl)
-
-pub meets-places-use-next : Meets use_next.ended (λ M. use_next.clauses {M = M}) use-next-symbol.routine
-meets-places-use-next M = use-next-met.met
-
-pub tight-places-use-next : Tight use_next.ended (λ M. use_next.clauses {M = M})
-tight-places-use-next c r q w v a b = (equal (result use_next.ended c) (a .ensured) (b .ensured), refl)
-
 pub meets-places-kinds-of : Meets kinds_of.ended (λ M. kinds_of.clauses {M = M}) kinds-of-symbol.routine
 meets-places-kinds-of M = kinds-of-met.met
 
 pub tight-places-kinds-of : Tight kinds_of.ended (λ M. kinds_of.clauses {M = M})
 tight-places-kinds-of c r q w v a b = (settle (result kinds_of.ended c) (a .ensured) (b .ensured) (λ e f. listed-same r q (e ∙ sym f)), refl)
-
-pub meets-places-in-registers : Meets in_registers.ended (λ M. in_registers.clauses {M = M}) in-registers-symbol.routine
-meets-places-in-registers M = in-registers-met.met
-
-pub tight-places-in-registers : Tight in_registers.ended (λ M. in_registers.clauses {M = M})
-tight-places-in-registers c r q w v a b = (settle (result in_registers.ended c) (a .ensured) (b .ensured) (found-same _ _ r q), refl)
 
 pub meets-places-on-stack : Meets on_stack.ended (λ M. on_stack.clauses {M = M}) on-stack-symbol.routine
 meets-places-on-stack M = on-stack-met.met

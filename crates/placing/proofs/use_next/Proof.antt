@@ -6,10 +6,10 @@ use native.Mathlib.Omega.{arith}
 use borrow.Author.Tests.{leb-true, leb-false, not-true, not-false}
 use lib.ListN.{getD}
 use denote.Ref.{now}
 use Rattle.places.proofs.Asking.{used-general, used-vector, used-registers}
 use borrow.Author.Needs.{needs}
-use Rattle.places.proofs.use_next.Statement.{statement}
-use Rattle.places.proofs.use_next.Tie as tie
+use Rattle.placing.proofs.use_next.Statement.{statement}
+use Rattle.placing.proofs.use_next.Tie as tie
 
 asks-in-requires : tie.Need-asks-in-requires
 asks-in-requires c κs = search needs

@@ -3,9 +3,9 @@
 use mathlib.Core.Path.{sym, _∙_}
 use borrow.Author.Needs.{needs}
 use borrow.Author.Tests.{not-true, not-false}
 use Rattle.places.specs.Places.{enough}
-use Rattle.places.proofs.if_enough.Statement.{statement}
-use Rattle.places.proofs.if_enough.Tie as tie
+use Rattle.placing.proofs.if_enough.Statement.{statement}
+use Rattle.placing.proofs.if_enough.Tie as tie
 
 at-most-requires : tie.Need-at-most-requires
 at-most-requires c κs = search needs

@@ -1,10 +1,10 @@
 -- `in_registers` meets its contract.
 -- Assumes nothing.
 use borrow.Author.Needs.{needs}
 use Rattle.places.specs.Places.{fits}
 use Rattle.places.proofs.Records.{found-one, found-two, taken-few}
-use Rattle.places.proofs.in_registers.Statement.{statement}
-use Rattle.places.proofs.in_registers.Tie as tie
+use Rattle.placing.proofs.in_registers.Statement.{statement}
+use Rattle.placing.proofs.in_registers.Tie as tie
 
 enum-told : tie.Need-enum-told
 enum-told c = search needs

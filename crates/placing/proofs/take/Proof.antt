@@ -1,9 +1,9 @@
 -- `take` meets its contract.
 -- Assumes nothing.
 use borrow.Author.Needs.{needs}
 use Rattle.places.proofs.Records.{taken-general, taken-vector, taken-upper}
-use Rattle.places.proofs.take.Statement.{statement}
-use Rattle.places.proofs.take.Tie as tie
+use Rattle.placing.proofs.take.Statement.{statement}
+use Rattle.placing.proofs.take.Tie as tie
 
 enum-told : tie.Need-enum-told
 enum-told c = search needs
