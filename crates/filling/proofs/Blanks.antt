@@ -7,7 +7,7 @@ use native.Mathlib.Omega.{arith}
 use lib.ListN.{length, replicate, replicate-append-replicate}
 use Rattle.addresses.specs.Addresses.{scatter}
 use Rattle.addresses.specs.Copy.{cleared}
-use Rattle.layout.specs.Arguments.{hidden, areaOf}
+use Rattle.arguments.specs.Arguments.{hidden, areaOf}
 use Rattle.images.specs.Words.{littleEndian, withAddress}
 use Rattle.filling.specs.Images.{addressesOf, blankBy, placed}
 

@@ -16,13 +16,13 @@ use Rattle.places.specs.Places.{Place, place, next}
 use Rattle.places.specs.Images.{bytesOf, addresses, total}
 use Rattle.places.specs.Recorded.{placeOf}
 use Rattle.places.proofs.Apart.{length-bytes, length-addresses}
-use Rattle.layout.specs.Arguments.{shapeAt, shapesFrom, shapes, usedFirst}
+use Rattle.arguments.specs.Arguments.{shapeAt, shapesFrom, shapes, usedFirst}
 use Rattle.layout.specs.Layout.{valuesOf}
-use Rattle.layout.specs.Placements.{stepAt}
+use Rattle.arguments.specs.Placements.{stepAt}
 use Rattle.layout.specs.Verdict.{verdict}
-use Rattle.layout.specs.declared.Step.{Step}
-use Rattle.layout.proofs.Arguments.{shapes-cons, shapes-end}
-use Rattle.layout.proofs.Bounds.{argument-shaped, all-shaped}
+use Rattle.arguments.specs.declared.Step.{Step}
+use Rattle.arguments.proofs.Arguments.{shapes-cons, shapes-end}
+use Rattle.arguments.proofs.Bounds.{argument-shaped, all-shaped}
 use Rattle.filling.specs.Images.{addressesOf, gathered}
 use Rattle.filling.specs.Asks.{Lent}
 use Rattle.filling.proofs.Turns.{right, Turn, turn-first, turn-next, step-size, step-used, step-place, value-inside}

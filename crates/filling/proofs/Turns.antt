@@ -27,15 +27,15 @@ use Rattle.places.specs.Recorded.{placeOf, recorded, Room, Small, IsPlaced}
 use Rattle.places.proofs.Prefix.{total-append}
 use Rattle.places.proofs.Apart.{after-grows}
 use Rattle.places.proofs.Records.{place-is, shape-known}
-use Rattle.layout.specs.Arguments.{shapeAt, shapesFrom, shapes, usedFirst, usedAt, areaOf}
-use Rattle.layout.specs.Asks.{AskArgument}
+use Rattle.arguments.specs.Arguments.{shapeAt, shapesFrom, shapes, usedFirst, usedAt, areaOf}
+use Rattle.arguments.specs.Asks.{AskArgument}
 use Rattle.layout.specs.Layout.{valuesOf}
-use Rattle.layout.specs.Placements.{stepAt}
+use Rattle.arguments.specs.Placements.{stepAt}
 use Rattle.layout.specs.Verdict.{verdict}
-use Rattle.layout.specs.declared.Step.{Step}
-use Rattle.layout.proofs.Arguments.{shapes-none, shapes-cons, shapes-split, used-none, used-next, used-split}
+use Rattle.arguments.specs.declared.Step.{Step}
+use Rattle.arguments.proofs.Arguments.{shapes-none, shapes-cons, shapes-split, used-none, used-next, used-split}
 use Rattle.layout.proofs.Verdict.{accepted-uses}
-use Rattle.layout.proofs.Bounds.{arguments-few, types-few, argument-known, argument-small, argument-shaped, before-room}
+use Rattle.arguments.proofs.Bounds.{arguments-few, types-few, argument-known, argument-small, argument-shaped, before-room}
 use Rattle.layout.proofs.Layouts.{asks-at}
 use Rattle.images.specs.Asks.{AskMove}
 use Rattle.images.proofs.Inside.{place-inside}

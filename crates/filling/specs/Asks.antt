@@ -4,7 +4,7 @@ use mathlib.Core.List.{List, [], _∷_}
 use Prim.Native.Nat.{ℕ}
 use Rattle.places.specs.declared.Kind.{Kind}
 use Rattle.places.specs.declared.Kind.the-variants.{General as general, Vector as vector}
-use Rattle.layout.specs.Arguments.{areaOf}
+use Rattle.arguments.specs.Arguments.{areaOf}
 use Rattle.layout.specs.Verdict.{verdict}
 use Rattle.layout.specs.Layout.{valuesOf}
 use Rattle.filling.specs.declared.Lone.{Lone}

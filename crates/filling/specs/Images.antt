@@ -6,7 +6,7 @@ use Prim.Native.Nat.{ℕ, _+_}
 use lib.ListN.{replicate}
 use Rattle.addresses.specs.Addresses.{gather, scatter}
 use Rattle.places.specs.Images.{addresses, total}
-use Rattle.layout.specs.Arguments.{shapesFrom, shapes, hidden, usedFirst, areaOf}
+use Rattle.arguments.specs.Arguments.{shapesFrom, shapes, hidden, usedFirst, areaOf}
 use Rattle.images.specs.Words.{littleEndian, addressIn}
 
 -- the address of each value byte, "argument after argument"

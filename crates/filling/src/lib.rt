@@ -17,7 +17,7 @@ ghost use Rattle.classify.specs.Table.{Tabled};
 ghost use Rattle.places.specs.Places.{place, next};
 ghost use Rattle.places.specs.Shapes.{shapeIn};
 ghost use Rattle.places.specs.Recorded.{Room, Small, IsPlaced};
-ghost use Rattle.layout.specs.Arguments.{hidden, usedFirst};
+ghost use Rattle.arguments.specs.Arguments.{hidden, usedFirst};
 ghost use Rattle.filling.specs.Images.{blankBy, addressesOf, placed, gathered};
 ghost use Rattle.filling.specs.Asks.{Lent, IsLone};
 

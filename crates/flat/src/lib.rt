@@ -141,7 +141,7 @@ fn slot_of(place: Place) -> Slot
 }
 
 // The flat record of one argument.
-pub fn placement_of(argument: layout::Placement) -> Placement
+pub fn placement_of(argument: arguments::Placement) -> Placement
     ensures { λ r. ⌜ r ≡ placementOf argument ⌝ }
 {
     let size = argument.size;

@@ -14,10 +14,10 @@ use Rattle.classes.specs.Classes.{codeOf}
 use Rattle.classify.specs.Classify.{classesOf}
 use Rattle.questions.specs.Questions.{questionRefusal, extentOf, extentAnswer}
 use Rattle.questions.specs.Runs.{classesAnswer, runAnswer}
-use Rattle.layout.specs.Arguments.{usedAt}
+use Rattle.arguments.specs.Arguments.{usedAt}
 use Rattle.layout.specs.Verdict.{verdict}
 use Rattle.layout.specs.Layout.{layoutOf as wholeOf, layoutAnswer}
-use Rattle.layout.specs.Placements.{placementAt}
+use Rattle.arguments.specs.Placements.{placementAt}
 use Rattle.lists.specs.Lists.{listRefusal, listCount, filled}
 use Rattle.filling.specs.Images.{hiddenIn}
 use Rattle.lent.specs.Orders.{placeRefusal, gatherRefusal}

@@ -1,9 +1,9 @@
 // Lays out the descriptions that stand in tests/vectors/layouts.in, each for a list of so many records; layouts.out has what an
 // independent reading of the rules answers.
+use arguments::Placement;
 use form::Refusal;
 use layout::Layout;
 use layout::LayoutAnswer;
-use layout::Placement;
 use libc::STDIN_FILENO;
 use libc::STDOUT_FILENO;
 use lists::Begun;
@@ -180,7 +180,7 @@ fn print_records(d: &[u8], room: usize, begun: Begun, table: &[u32; 64])
     let mut used = begun.used;
     let mut i = 0;
     while i < count {
-        let step = layout::place_argument(d, used, i, table);
+        let step = arguments::place_argument(d, used, i, table);
         let placement = step.placement;
         print_record(i, placement);
         used = step.used;

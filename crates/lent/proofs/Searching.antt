@@ -14,7 +14,7 @@ use Rattle.form.proofs.Search.{search-stop, search-on, search-end, first-bound,
 use Rattle.types.specs.Basic.{lp64}
 use Rattle.types.specs.Size.{sizeTy}
 use Rattle.types.specs.Decode.{tyAt}
-use Rattle.layout.specs.Arguments.{shapeAt}
+use Rattle.arguments.specs.Arguments.{shapeAt}
 use Rattle.layout.specs.Layout.{valuesOf}
 use Rattle.layout.specs.Verdict.{verdict}
 use Rattle.filling.specs.Images.{valueStart}

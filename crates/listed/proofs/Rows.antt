@@ -12,14 +12,14 @@ use Rattle.form.specs.Reading.{refusalOf}
 use Rattle.types.specs.Wrong.{refusalFor}
 use Rattle.places.specs.declared.Used.{Used}
 use Rattle.layout.specs.declared.Layout.{Layout as Whole}
-use Rattle.layout.specs.declared.Placement.{Placement as Record}
+use Rattle.arguments.specs.declared.Placement.{Placement as Record}
 use Rattle.lists.specs.declared.Begun.{Begun}
 use Rattle.layout.specs.declared.LayoutAnswer.{LayoutAnswer}
 use Rattle.layout.specs.declared.LayoutAnswer.the-variants.{Laid, Refused}
 use Rattle.layout.specs.Layout.{layoutOf as wholeOf, tableAfter}
-use Rattle.layout.specs.Asks.{AskArgument}
+use Rattle.arguments.specs.Asks.{AskArgument}
 use Rattle.layout.specs.Verdict.{verdict}
-use Rattle.layout.specs.Placements.{stepAt}
+use Rattle.arguments.specs.Placements.{stepAt}
 use Rattle.lists.specs.Lists.{listRefusal, listAnswer, listCount, listUsed, begunOf}
 use Rattle.lists.proofs.Lists.{begun-answer, begun-count, begun-used, turn-accepted, turn-asks, turn-record, turn-used}
 use Rattle.flat.specs.declared.Layout.{Layout}

@@ -5,7 +5,7 @@ use Rattle.description.specs.Description.{argumentsIn}
 use lib.ListN.{replicate}
 use Rattle.layout.specs.Layout.{tableAfter}
 use Rattle.places.specs.declared.Used.{Used}
-use Rattle.layout.specs.Placements.{stepAt, placementAt}
+use Rattle.arguments.specs.Placements.{stepAt, placementAt}
 use Rattle.lists.specs.Lists.{listAnswer, listCount, listUsed}
 use Rattle.flat.specs.declared.Layout.{Layout}
 use Rattle.flat.specs.declared.Placement.{Placement}

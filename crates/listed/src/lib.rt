@@ -8,7 +8,7 @@ ghost use mathlib.Core.Path.{_≡_};
 ghost use Prim.Native.Nat.{_≤_};
 ghost use Rattle.classify.specs.Table.{Tabled};
 ghost use Rattle.layout.specs.Verdict.{verdict};
-ghost use Rattle.layout.specs.Asks.{AskArgument};
+ghost use Rattle.arguments.specs.Asks.{AskArgument};
 ghost use Rattle.listed.specs.Lists.{listBegun, flatStep};
 
 // Before the first record of a list: what `given::GivenLayout` says, how many records there are, none for a refusal, what is used, and the
@@ -60,7 +60,7 @@ pub fn place_flat(d: &[u8], used: Used, i: usize, begun: ListBegun) -> FlatStep
     ensures { λ r. ⌜ r ≡ flatStep (now (d .entry)) used i ⌝ }
 {
     let table = begun.table;
-    let step = layout::place_argument(d, used, i, &table);
+    let step = arguments::place_argument(d, used, i, &table);
     let record = step.placement;
     let after = step.used;
     FlatStep {

@@ -12,16 +12,16 @@ use Rattle.form.specs.declared.Refusal.{Refusal}
 use Rattle.places.specs.declared.Used.{Used}
 use Rattle.places.specs.Places.{fresh, next}
 use Rattle.layout.specs.declared.Layout.{Layout}
-use Rattle.layout.specs.declared.Placement.{Placement}
-use Rattle.layout.specs.declared.Step.{Step}
+use Rattle.arguments.specs.declared.Placement.{Placement}
+use Rattle.arguments.specs.declared.Step.{Step}
 use Rattle.layout.specs.declared.LayoutAnswer.{LayoutAnswer}
 use Rattle.layout.specs.declared.LayoutAnswer.the-variants.{Laid, Refused}
-use Rattle.layout.specs.Arguments.{shapeAt, usedAt}
-use Rattle.layout.specs.Asks.{AskArgument}
+use Rattle.arguments.specs.Arguments.{shapeAt, usedAt}
+use Rattle.arguments.specs.Asks.{AskArgument}
 use Rattle.layout.specs.Layout.{layoutOf, layoutAnswer}
-use Rattle.layout.specs.Placements.{placementAt, stepAt}
+use Rattle.arguments.specs.Placements.{placementAt, stepAt}
 use Rattle.layout.specs.Verdict.{verdict}
-use Rattle.layout.proofs.Arguments.{used-none, used-next}
+use Rattle.arguments.proofs.Arguments.{used-none, used-next}
 use Rattle.layout.proofs.Verdict.{accepted-uses}
 use Rattle.layout.proofs.Layouts.{asks-at, laid-accepted}
 use Rattle.text.specs.Written.{written, Wrote}

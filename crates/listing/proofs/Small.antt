@@ -16,12 +16,12 @@ use Rattle.places.proofs.Apart.{after-grows, stack-room}
 use Rattle.places.proofs.Fits.{place-fits, place-not}
 use Rattle.places.proofs.Offsets.{area-rounded}
 use Rattle.layout.specs.declared.Layout.{Layout}
-use Rattle.layout.specs.Arguments.{shapeAt, shapesFrom, shapes, usedFirst, usedAt, areaOf}
+use Rattle.arguments.specs.Arguments.{shapeAt, shapesFrom, shapes, usedFirst, usedAt, areaOf}
 use Rattle.layout.specs.Layout.{layoutOf}
-use Rattle.layout.specs.Placements.{placementAt}
+use Rattle.arguments.specs.Placements.{placementAt}
 use Rattle.layout.specs.Verdict.{verdict}
-use Rattle.layout.proofs.Arguments.{used-next, used-split}
-use Rattle.layout.proofs.Bounds.{arguments-few, argument-small}
+use Rattle.arguments.proofs.Arguments.{used-next, used-split}
+use Rattle.arguments.proofs.Bounds.{arguments-few, argument-small}
 use Rattle.layout.proofs.Layouts.{asks-at}
 use Rattle.layout.proofs.Verdict.{accepted-uses, accepted-area}
 use Rattle.place_words.specs.PlaceWords.{offsetOf}

@@ -4,7 +4,7 @@ use mathlib.Core.List.{List}
 use Prim.Native.Nat.{ℕ, _≤_, _<_}
 use Rattle.places.specs.declared.Used.{Used}
 use Rattle.layout.specs.declared.Layout.{Layout}
-use Rattle.layout.specs.declared.Placement.{Placement}
+use Rattle.arguments.specs.declared.Placement.{Placement}
 use Rattle.layout.specs.Layout.{layoutOf}
 use Rattle.layout.specs.Verdict.{verdict}
 use Rattle.place_words.specs.PlaceWords.{offsetOf}

@@ -8,11 +8,11 @@ use Rattle.form.specs.declared.Refusal.{Refusal}
 use Rattle.places.specs.declared.Used.{Used}
 use Rattle.places.specs.declared.ReturnPlace.{ReturnPlace}
 use Rattle.layout.specs.declared.Layout.{Layout}
-use Rattle.layout.specs.declared.Placement.{Placement}
+use Rattle.arguments.specs.declared.Placement.{Placement}
 use Rattle.layout.specs.declared.LayoutAnswer.{LayoutAnswer}
 use Rattle.layout.specs.declared.LayoutAnswer.the-variants.{Laid, Refused}
 use Rattle.layout.specs.Layout.{layoutAnswer}
-use Rattle.layout.specs.Placements.{placementAt}
+use Rattle.arguments.specs.Placements.{placementAt}
 use Rattle.text.specs.Decimal.{decimal}
 use Rattle.place_words.specs.Words.{numbered, args, named, gp, vec, stack, type, size, align, returned, walk, none, fp, over, refused, newline}
 use Rattle.place_words.specs.PlaceWords.{placeWords, returnWords}

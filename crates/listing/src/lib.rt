@@ -1,10 +1,10 @@
 // The lister's text (document 01, "The lister"), written into a lent buffer: each function stores from index `at` on and answers
 // the index behind. A record's line has at most 52 bytes and the three other lines together 124, so that with 64 records no
 // listing is over 3,452.
+use arguments::Placement;
 use form::Refusal;
 use layout::Layout;
 use layout::LayoutAnswer;
-use layout::Placement;
 use places::ReturnPlace;
 use places::Used;
 ghost use mathlib.Core.Path.{_≡_};
@@ -67,7 +67,7 @@ fn put_records(
     let mut next = at;
     let mut i = 0;
     while i < count {
-        let step = layout::place_argument(d, used, i, table);
+        let step = arguments::place_argument(d, used, i, table);
         let placement = step.placement;
         next = put_record(out, next, i, placement);
         used = step.used;

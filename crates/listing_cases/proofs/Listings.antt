@@ -16,10 +16,10 @@ use Rattle.uses.specs.Uses.{wrongNumber, wrongReturn, wrongUse, narrow, narrowU
 use Rattle.places.specs.Shapes.{kindsOf, shapeOf}
 use Rattle.places.specs.Places.{enough, fits, start, place, next, area}
 use Rattle.places.specs.Returns.{returnOf, hiddenBy}
-use Rattle.layout.specs.Arguments.{shapeAt, shapesFrom, isVoid, returnPlace, hidden, usedAt, areaOf}
+use Rattle.arguments.specs.Arguments.{shapeAt, shapesFrom, isVoid, returnPlace, hidden, usedAt, areaOf}
 use Rattle.layout.specs.Verdict.{wideArea, verdict}
 use Rattle.layout.specs.Layout.{valuesOf, layoutOf, layoutAnswer}
-use Rattle.layout.specs.Placements.{placementAt}
+use Rattle.arguments.specs.Placements.{placementAt}
 use Rattle.text.specs.Decimal.{digits, decimal}
 use Rattle.place_words.specs.PlaceWords.{generalWord, vectorWord}
 use Rattle.listing.specs.Listing.{headLine, recordLine, recordLines, returnLine, walkLine, refusedLine, laidText, listing}

@@ -17,18 +17,18 @@ use Rattle.form.specs.declared.Refusal.{Refusal}
 use Rattle.form.proofs.Order.{first-exactly, none-exactly, first-before, first-behind, none-before}
 use Rattle.places.specs.declared.Used.{Used}
 use Rattle.places.specs.Places.{fresh, next}
-use Rattle.layout.specs.Arguments.{shapeAt, usedFirst, usedAt, hidden}
+use Rattle.arguments.specs.Arguments.{shapeAt, usedFirst, usedAt, hidden}
 use Rattle.layout.specs.Verdict.{verdictConditions, verdict}
 use Rattle.layout.specs.Layout.{layoutOf, layoutAnswer, tableAfter}
-use Rattle.layout.specs.Asks.{AskArgument}
-use Rattle.layout.specs.Placements.{placementAt, stepAt}
+use Rattle.arguments.specs.Asks.{AskArgument}
+use Rattle.arguments.specs.Placements.{placementAt, stepAt}
 use Rattle.lists.specs.Lists.{shortList, listRefusal, listAnswer, listCount, listUsed, begunOf, openedOf}
 use Rattle.layout.specs.declared.Layout.{Layout}
 use Rattle.lists.specs.declared.Begun.{Begun}
 use Rattle.lists.specs.declared.Opened.{Opened}
 use Rattle.layout.specs.declared.LayoutAnswer.{LayoutAnswer}
 use Rattle.layout.specs.declared.LayoutAnswer.the-variants.{Laid, Refused}
-use Rattle.layout.proofs.Arguments.{used-none, used-next}
+use Rattle.arguments.proofs.Arguments.{used-none, used-next}
 use Rattle.layout.proofs.Verdict.{accepted-uses}
 use Rattle.layout.proofs.Layouts.{asks-at, laid-accepted, refused-verdict, refused-nonzero}
 

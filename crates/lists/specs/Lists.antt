@@ -11,7 +11,7 @@ use Rattle.types.specs.Wrong.{refusalFor}
 unfoldable pub use Rattle.types.specs.Table.{filled}
 use Rattle.places.specs.declared.Used.{Used}
 use Rattle.places.specs.Places.{fresh}
-use Rattle.layout.specs.Arguments.{usedAt}
+use Rattle.arguments.specs.Arguments.{usedAt}
 use Rattle.layout.specs.Verdict.{verdictConditions}
 use Rattle.layout.specs.Layout.{layoutOf, tableAfter}
 use Rattle.layout.specs.declared.LayoutAnswer.{LayoutAnswer}

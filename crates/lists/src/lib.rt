@@ -1,7 +1,7 @@
 // The list of placement records that the caller lends (document 01, "Places"): whether it is filled, 1 to 11, and its records.
+use arguments::Placement;
+use arguments::Step;
 use layout::LayoutAnswer;
-use layout::Placement;
-use layout::Step;
 use places::Used;
 ghost use mathlib.Core.Path.{_≡_};
 ghost use Prim.Native.Nat.{_≤_};
@@ -9,8 +9,8 @@ ghost use lib.ListN.{length};
 ghost use Rattle.classify.specs.Table.{Tabled};
 ghost use Rattle.layout.specs.Verdict.{verdict};
 ghost use Rattle.layout.specs.Layout.{tableAfter};
-ghost use Rattle.layout.specs.Placements.{placementAt, stepAt};
-ghost use Rattle.layout.specs.Asks.{AskArgument};
+ghost use Rattle.arguments.specs.Placements.{placementAt, stepAt};
+ghost use Rattle.arguments.specs.Asks.{AskArgument};
 ghost use Rattle.lists.specs.Lists.{listAnswer, listCount, begunOf, openedOf, filled};
 
 // Before the first record: the answer, how many records there are, none for a refusal, and what is used.
@@ -89,7 +89,7 @@ fn place_by(d: &[u8], used: Used, i: usize, opened: Opened) -> Step
     ensures { λ r. ⌜ r ≡ stepAt (now (d .entry)) used i ⌝ }
 {
     let table = opened.table;
-    layout::place_argument(d, used, i, &table)
+    arguments::place_argument(d, used, i, &table)
 }
 
 // Fills the list that the caller lends with one record for each argument; entries past A stay, and so does the whole list where

@@ -21,7 +21,7 @@ use Rattle.places.specs.Places.{fresh}
 use Rattle.places.specs.declared.Used.{Used}
 use Rattle.layout.specs.declared.Layout.{Layout}
 use Rattle.layout.specs.declared.LayoutAnswer.the-variants.{Laid, Refused}
-use Rattle.layout.specs.Arguments.{hidden, usedFirst, usedAt, areaOf}
+use Rattle.arguments.specs.Arguments.{hidden, usedFirst, usedAt, areaOf}
 use Rattle.layout.specs.Layout.{layoutOf, layoutAnswer}
 use Rattle.layout.specs.Verdict.{verdict}
 use Rattle.layout.proofs.Layouts.{laid-accepted, refused-verdict, refused-nonzero}

@@ -14,7 +14,7 @@ use Rattle.addresses.specs.Addresses.{gather}
 use Rattle.addresses.proofs.Parts.{split-image}
 use Rattle.description.specs.Description.{argumentsIn, kindAt, aAt, argumentAt, IsBytes}
 use Rattle.types.specs.Wrong.{refusalFor}
-use Rattle.layout.specs.Arguments.{shapeAt, hidden, areaOf}
+use Rattle.arguments.specs.Arguments.{shapeAt, hidden, areaOf}
 use Rattle.layout.specs.Layout.{valuesOf}
 use Rattle.layout.specs.Verdict.{verdict}
 use Rattle.filling.specs.Images.{addressesOf, valueStart, blankBy, placed, gathered, hiddenIn}

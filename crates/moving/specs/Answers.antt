@@ -7,7 +7,7 @@ use lib.Dec.{eqb}
 use lib.ListN.{length, take, drop}
 use Rattle.description.specs.Description.{argumentsIn}
 use Rattle.types.specs.Wrong.{refusalFor}
-use Rattle.layout.specs.Arguments.{usedAt}
+use Rattle.arguments.specs.Arguments.{usedAt}
 use Rattle.filling.specs.Images.{placed, gathered, hiddenIn}
 use Rattle.lent.specs.Orders.{placeRefusal, gatherRefusal}
 use Rattle.moving.specs.declared.PlaceAnswer.{PlaceAnswer}

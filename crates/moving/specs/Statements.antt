@@ -7,7 +7,7 @@ use Prim.Native.Nat.{ℕ, _+_, _^_, _≤_, _<_}
 use lib.ListN.{length, getD}
 use Rattle.addresses.specs.Addresses.{gather, Absent}
 use Rattle.description.specs.Description.{argumentsIn, kindAt, aAt, argumentAt, IsBytes}
-use Rattle.layout.specs.Arguments.{hidden, areaOf}
+use Rattle.arguments.specs.Arguments.{hidden, areaOf}
 use Rattle.layout.specs.Layout.{valuesOf}
 use Rattle.images.specs.Words.{littleEndian, rdi}
 use Rattle.filling.specs.Images.{addressesOf, valueStart, hiddenIn}

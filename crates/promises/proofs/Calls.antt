@@ -15,8 +15,8 @@ use Rattle.form.specs.Reading.{refusalAt, refusalBy, refusalOf}
 use Rattle.types.specs.Basic.{lp64}
 use Rattle.types.specs.Size.{sizeTy, alignTy}
 use Rattle.types.specs.Decode.{tyAt}
-use Rattle.layout.specs.declared.Placement.{Placement}
-use Rattle.layout.specs.Arguments.{hidden}
+use Rattle.arguments.specs.declared.Placement.{Placement}
+use Rattle.arguments.specs.Arguments.{hidden}
 use Rattle.layout.specs.Verdict.{verdict}
 use Rattle.layout.specs.Layout.{layoutOf, layoutAnswer}
 use Rattle.lists.specs.Lists.{listRefusal, listAnswer}
@@ -30,7 +30,7 @@ use Rattle.station.specs.Attachment.{described, attachRefusal, attachStation, a
 use Rattle.walk.specs.declared.Walk.{Walk}
 use Rattle.walk.specs.Orders.{Ask, asking, stepRefusal, showRefusal}
 use Rattle.walk.specs.Steps.{openWalk, openAnswer, stepWalk, stepOut}
-use Rattle.layout.proofs.Placement as placement
+use Rattle.arguments.proofs.Placement as placement
 use Rattle.station.proofs.Station as station
 use Rattle.walk.proofs.Walk as walk
 use Rattle.form.proofs.read_form

@@ -27,12 +27,12 @@ use Rattle.places.specs.Statements.{RoundedUp}
 use Rattle.places.proofs.Fits.{after-bounds}
 use Rattle.places.proofs.Offsets.{rounded-up, area-rounded}
 use Rattle.places.proofs.Returning.{return-cases}
-use Rattle.layout.specs.declared.Placement.{Placement}
-use Rattle.layout.specs.Arguments.{shapeAt, shapes, usedFirst, usedAt, areaOf}
+use Rattle.arguments.specs.declared.Placement.{Placement}
+use Rattle.arguments.specs.Arguments.{shapeAt, shapes, usedFirst, usedAt, areaOf}
 use Rattle.layout.specs.Layout.{layoutOf}
-use Rattle.layout.specs.Placements.{placementAt}
+use Rattle.arguments.specs.Placements.{placementAt}
 use Rattle.lists.specs.Lists.{listRefusal, listCount}
-use Rattle.layout.proofs.Arguments.{used-none}
+use Rattle.arguments.proofs.Arguments.{used-none}
 use Rattle.layout.proofs.Layouts.{asks-at}
 use Rattle.lists.proofs.Lists.{list-room}
 use Rattle.layout.proofs.Verdict.{accepted-uses}

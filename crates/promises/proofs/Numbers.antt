@@ -21,7 +21,7 @@ use Rattle.questions.specs.declared.ClassesAnswer.the-variants.{Refused as NoCl
 use Rattle.questions.specs.declared.RunAnswer.the-variants.{Run, NoRun, Refused as NotRun}
 use Rattle.questions.specs.Questions.{questionRefusal, extentOf, extentAnswer, sizeAnswer, alignAnswer}
 use Rattle.questions.specs.Runs.{pairOf, classesAnswer, runAnswer}
-use Rattle.layout.specs.Arguments.{usedAt}
+use Rattle.arguments.specs.Arguments.{usedAt}
 use Rattle.layout.specs.Verdict.{verdict}
 use Rattle.layout.specs.Layout.{layoutOf, layoutAnswer}
 use Rattle.lists.specs.Lists.{listRefusal, listAnswer}

@@ -13,7 +13,7 @@ use Rattle.addresses.proofs.Parts.{scatter-left}
 use Rattle.description.specs.Description.{IsBytes}
 use Rattle.places.specs.Images.{addresses, total}
 use Rattle.places.specs.Places.{fresh}
-use Rattle.layout.specs.Arguments.{shapes, hidden, usedFirst, areaOf}
+use Rattle.arguments.specs.Arguments.{shapes, hidden, usedFirst, areaOf}
 use Rattle.layout.specs.Layout.{valuesOf}
 use Rattle.images.specs.Words.{littleEndian, rdi, withAddress}
 use Rattle.filling.specs.Images.{addressesOf, blankBy, placed}

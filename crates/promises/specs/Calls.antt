@@ -17,11 +17,11 @@ use Rattle.form.specs.declared.Refusal.{Refusal}
 use Rattle.types.specs.Basic.{lp64}
 use Rattle.types.specs.Size.{sizeTy, alignTy}
 use Rattle.types.specs.Decode.{tyAt}
-use Rattle.layout.specs.declared.Placement.{Placement}
+use Rattle.arguments.specs.declared.Placement.{Placement}
 use Rattle.layout.specs.declared.LayoutAnswer.{LayoutAnswer}
-use Rattle.layout.specs.Arguments.{hidden, usedAt}
+use Rattle.arguments.specs.Arguments.{hidden, usedAt}
 use Rattle.layout.specs.Layout.{layoutOf}
-use Rattle.layout.specs.Placements.{placementAt}
+use Rattle.arguments.specs.Placements.{placementAt}
 use Rattle.moving.specs.declared.PlaceAnswer.{PlaceAnswer}
 use Rattle.moving.specs.declared.GatherAnswer.{GatherAnswer}
 use Rattle.filling.specs.Images.{addressesOf, hiddenIn}

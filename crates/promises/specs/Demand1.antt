@@ -26,11 +26,11 @@ use Rattle.questions.specs.Questions.{questionRefusal, extentAnswer, sizeAnswer
 use Rattle.questions.specs.Runs.{classesAnswer, runAnswer, runIn}
 use Rattle.uses.specs.Uses.{usesRefusal}
 use Rattle.places.specs.Shapes.{Alignment}
-use Rattle.layout.specs.declared.Placement.{Placement}
-use Rattle.layout.specs.Arguments.{usedAt}
+use Rattle.arguments.specs.declared.Placement.{Placement}
+use Rattle.arguments.specs.Arguments.{usedAt}
 use Rattle.layout.specs.Verdict.{verdict}
 use Rattle.layout.specs.Layout.{layoutOf, layoutAnswer}
-use Rattle.layout.specs.Placements.{placementAt}
+use Rattle.arguments.specs.Placements.{placementAt}
 use Rattle.lists.specs.Lists.{listAnswer, listCount, filled}
 use Rattle.layout.specs.Statements.{Bounded}
 use Rattle.filling.specs.Images.{hiddenIn}

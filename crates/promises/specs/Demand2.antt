@@ -31,13 +31,13 @@ use Rattle.places.specs.Returns.{returnOf, hiddenFor}
 use Rattle.places.specs.Places.{Place, inRegisters, onStack}
 use Rattle.places.specs.Recorded.{placeOf}
 use Rattle.places.specs.Statements.{LowestOffset, RoundedUp, Lacks, Fit, generalNumber, vectorNumber, numbersIn, kindIn}
-use Rattle.layout.specs.declared.Placement.{Placement}
+use Rattle.arguments.specs.declared.Placement.{Placement}
 use Rattle.layout.specs.declared.LayoutAnswer.{LayoutAnswer}
 use Rattle.layout.specs.declared.LayoutAnswer.the-variants.{Laid}
-use Rattle.layout.specs.Arguments.{shapeAt, isVoid, returnClasses, returnPlace, hidden, usedFirst, usedAt, areaOf}
+use Rattle.arguments.specs.Arguments.{shapeAt, isVoid, returnClasses, returnPlace, hidden, usedFirst, usedAt, areaOf}
 use Rattle.layout.specs.Verdict.{verdict}
 use Rattle.layout.specs.Layout.{layoutOf, layoutAnswer}
-use Rattle.layout.specs.Placements.{placementAt}
+use Rattle.arguments.specs.Placements.{placementAt}
 use Rattle.lists.specs.Lists.{listRefusal, listCount, filled}
 use Rattle.cases.specs.Cases.{Case, cases}
 use Rattle.listing.specs.Listing.{listing}

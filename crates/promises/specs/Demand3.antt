@@ -15,10 +15,10 @@ use Rattle.addresses.specs.Addresses.{All}
 use Rattle.description.specs.Description.{IsBytes, argumentsIn}
 use Rattle.places.specs.Places.{onStack}
 use Rattle.places.specs.Images.{bytesOf}
-use Rattle.layout.specs.Arguments.{hidden, areaOf}
+use Rattle.arguments.specs.Arguments.{hidden, areaOf}
 use Rattle.layout.specs.Verdict.{verdict}
 use Rattle.layout.specs.Layout.{valuesOf}
-use Rattle.layout.specs.Placements.{placementAt}
+use Rattle.arguments.specs.Placements.{placementAt}
 use Rattle.images.specs.Words.{littleEndian}
 use Rattle.filling.specs.Images.{addressesOf, valueStart}
 use Rattle.lent.specs.Orders.{placeRefusal}

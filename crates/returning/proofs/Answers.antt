@@ -14,7 +14,7 @@ use Rattle.types.proofs.Wrong.{no-type}
 use Rattle.places.specs.declared.ReturnPlace.{ReturnPlace}
 use Rattle.layout.specs.declared.Layout.{Layout}
 use Rattle.layout.specs.declared.LayoutAnswer.the-variants.{Laid, Refused}
-use Rattle.layout.specs.Arguments.{isVoid, returnPlace}
+use Rattle.arguments.specs.Arguments.{isVoid, returnPlace}
 use Rattle.layout.specs.Layout.{layoutOf, layoutAnswer}
 use Rattle.layout.specs.Verdict.{verdict}
 use Rattle.layout.proofs.Layouts.{laid-accepted, refused-verdict, refused-nonzero}

@@ -15,7 +15,7 @@ use Rattle.types.specs.Wrong.{refusalFor}
 use Rattle.places.specs.declared.ReturnPlace.{ReturnPlace}
 use Rattle.places.specs.declared.ReturnPlace.the-variants.{Void, Memory, One, Two, St0, St0St1}
 use Rattle.places.specs.declared.Register.the-variants.{General}
-use Rattle.layout.specs.Arguments.{returnPlace}
+use Rattle.arguments.specs.Arguments.{returnPlace}
 use Rattle.return_image.specs.Moved.{partsOf, sources, targets}
 use Rattle.return_image.specs.Image.{inMemory, rax, returnImage, returnValue, returnedAddress}
 use Rattle.return_image.specs.Asks.{Returnable}

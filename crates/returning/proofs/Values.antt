@@ -31,7 +31,7 @@ use Rattle.places.specs.declared.ReturnPlace.the-variants.{Void, Memory, One, T
 use Rattle.places.specs.Shapes.{kindsOf}
 use Rattle.places.specs.Returns.{returnOf, hiddenFor}
 use Rattle.places.proofs.Returning.{hidden-exactly}
-use Rattle.layout.specs.Arguments.{isVoid, returnClasses, returnPlace, hidden}
+use Rattle.arguments.specs.Arguments.{isVoid, returnClasses, returnPlace, hidden}
 use Rattle.layout.specs.Verdict.{verdict}
 use Rattle.layout.proofs.Verdict.{accepted-uses}
 use Rattle.return_image.specs.Image.{lengthFor, inMemory}

@@ -6,7 +6,7 @@ use Prim.Native.Nat.{ℕ}
 use lib.Dec.{eqb}
 use lib.ListN.{length}
 use Rattle.types.specs.Wrong.{refusalFor}
-use Rattle.layout.specs.Arguments.{returnPlace}
+use Rattle.arguments.specs.Arguments.{returnPlace}
 use Rattle.return_image.specs.Image.{returnImage, returnValue, returnedAddress}
 use Rattle.returning.specs.Orders.{putRefusal, takeRefusal}
 use Rattle.returning.specs.declared.PutAnswer.{PutAnswer}

@@ -8,7 +8,7 @@ use lib.ListN.{length, getD}
 use Rattle.addresses.specs.Addresses.{gather, Absent}
 use Rattle.description.specs.Description.{returnIn, kindAt, aAt, IsBytes}
 use Rattle.places.specs.declared.ReturnPlace.{ReturnPlace}
-use Rattle.layout.specs.Arguments.{returnPlace, hidden}
+use Rattle.arguments.specs.Arguments.{returnPlace, hidden}
 use Rattle.images.specs.Words.{littleEndian}
 use Rattle.return_image.specs.Moved.{sources, targets}
 use Rattle.return_image.specs.Image.{inMemory, onX87, rax, returnedAddress, trimmed}

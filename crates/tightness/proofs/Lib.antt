@@ -13,6 +13,7 @@ pub mod OfUses
 pub mod OfPlaces
 pub mod OfPlacing
 pub mod OfReturnPlaces
+pub mod OfArguments
 pub mod OfLayout
 pub mod OfLists
 pub mod OfImages

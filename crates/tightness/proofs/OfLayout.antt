@@ -11,21 +11,12 @@ use Rattle.layout.proofs.layout_of.Symbol as layout-of-symbol
 use Rattle.layout.proofs.layout_with
 use Rattle.layout.proofs.layout_with.Met as layout-with-met
 use Rattle.layout.proofs.layout_with.Symbol as layout-with-symbol
-use Rattle.layout.proofs.place_argument
-use Rattle.layout.proofs.place_argument.Met as place-argument-met
-use Rattle.layout.proofs.place_argument.Symbol as place-argument-symbol
 use Rattle.layout.proofs.used_after
 use Rattle.layout.proofs.used_after.Met as used-after-met
 use Rattle.layout.proofs.used_after.Symbol as used-after-symbol
 use Rattle.layout.proofs.refusal_in
 use Rattle.layout.proofs.refusal_in.Met as refusal-in-met
 use Rattle.layout.proofs.refusal_in.Symbol as refusal-in-symbol
-
-pub meets-layout-place-argument : Meets place_argument.ended (λ M. place_argument.clauses {M = M}) place-argument-symbol.routine
-meets-layout-place-argument M = place-argument-met.met
-
-pub tight-layout-place-argument : Tight place_argument.ended (λ M. place_argument.clauses {M = M})
-tight-layout-place-argument c r q w v a b = (equal (result place_argument.ended c) (a .ensured) (b .ensured), refl)
 
 pub meets-layout-used-after : Meets used_after.ended (λ M. used_after.clauses {M = M}) used-after-symbol.routine
 meets-layout-used-after M = used-after-met.met

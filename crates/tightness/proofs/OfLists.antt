@@ -2,7 +2,7 @@
 use mathlib.Core.Path.{_≡_, refl, sym, _∙_}
 use Rattle.tightness.specs.Tight.{Meets, Tight}
 use Rattle.tightness.proofs.Laws.{bytes, result, settle}
-use Rattle.layout.proofs.Placement
+use Rattle.arguments.proofs.Placement
 use base.Stored.{codedList}
 use Rattle.lists.proofs.begin
 use Rattle.lists.proofs.begin.Met as begin-met

@@ -57,7 +57,7 @@ use denote.Triple.Table.{entered, cited}
 use denote.Triple.Walked.{says, Stays, stay-ref, stay-slice, stay-none-slice, walkOf, AllGo, goes-ref, goes-slice, goes-none-slice, Walks, ends-at, walked, walk-meets}
 use denote.Exit.{yes}
 use Rattle.classify.specs.Table.{Tabled}
-use Rattle.layout.specs.Asks.{AskArgument}
+use Rattle.arguments.specs.Asks.{AskArgument}
 use Rattle.layout.specs.Verdict.{verdict}
 use Rattle.lists.specs.Lists.{listUsed, filled}
 use Rattle.types.proofs.Table.{filled-none, filled-next, length-filled}

@@ -8,7 +8,7 @@ use denote.Ref.{now}
 use Rattle.lists.specs.Lists.{listUsed, begunOf}
 use Rattle.lists.proofs.Lists.{begun-count, begun-used, turn-accepted, turn-asks, turn-used}
 use Rattle.lists.specs.declared.Begun.{Begun}
-use Rattle.layout.specs.declared.Step.{Step}
+use Rattle.arguments.specs.declared.Step.{Step}
 use Rattle.layout_vectors.proofs.print_records.Statement.{statement}
 use Rattle.layout_vectors.proofs.print_records.Tie as tie
 

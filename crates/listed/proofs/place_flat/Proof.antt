@@ -4,7 +4,7 @@ use mathlib.Core.Path.{ap}
 use borrow.Author.Needs.{needs}
 use denote.Ref.{now}
 use Rattle.listed.proofs.Rows.{step-is}
-use Rattle.layout.specs.declared.Step.{Step}
+use Rattle.arguments.specs.declared.Step.{Step}
 use Rattle.listed.proofs.place_flat.Statement.{statement}
 use Rattle.listed.proofs.place_flat.Tie as tie
 

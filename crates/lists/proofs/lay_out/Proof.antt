@@ -55,28 +55,28 @@ use denote.Triple.Table.{entered, cited}
 use denote.Triple.Walked.{says, Stays, stay-slice, stay-none-slice, walkOf, AllGo, goes-slice, goes-none-slice, Walks, ends-at, walked, walk-meets}
 use denote.Exit.{yes}
 use Rattle.classify.specs.Table.{Tabled}
-use Rattle.layout.specs.Asks.{AskArgument}
+use Rattle.arguments.specs.Asks.{AskArgument}
 use Rattle.layout.specs.Verdict.{verdict}
-use Rattle.layout.specs.Placements.{placementAt, stepAt}
+use Rattle.arguments.specs.Placements.{placementAt, stepAt}
 use Rattle.lists.specs.Lists.{listCount, listUsed, openedOf, filled}
 use Rattle.lists.proofs.Lists.{opened-answer, opened-count, opened-used, turn-accepted, turn-asks, turn-record, turn-used}
 use Rattle.types.proofs.Table.{filled-none, filled-next, length-filled}
 use Rattle.places.specs.declared.Used.{Used}
 use Rattle.places.specs.declared.Place.the-variants.{Stack}
-use Rattle.layout.specs.declared.Placement.{Placement}
+use Rattle.arguments.specs.declared.Placement.{Placement}
 use Rattle.layout.specs.declared.LayoutAnswer.{LayoutAnswer}
 use Rattle.lists.specs.declared.Opened.{Opened}
-use Rattle.layout.specs.declared.Step.{Step}
-use Rattle.layout.proofs.Placement as T
-use Rattle.layout.proofs.Placement.Laws as T′
+use Rattle.arguments.specs.declared.Step.{Step}
+use Rattle.arguments.proofs.Placement as T
+use Rattle.arguments.proofs.Placement.Laws as T′
 use Rattle.places.proofs.Used as S
 use Rattle.places.proofs.Used.Laws as S′
 use Rattle.layout.proofs.LayoutAnswer as E
 use Rattle.layout.proofs.LayoutAnswer.Laws as E′
 use Rattle.lists.proofs.Opened as B
 use Rattle.lists.proofs.Opened.Laws as B′
-use Rattle.layout.proofs.Step as U
-use Rattle.layout.proofs.Step.Laws as U′
+use Rattle.arguments.proofs.Step as U
+use Rattle.arguments.proofs.Step.Laws as U′
 use Rattle.lists.proofs.open_list as begin
 use Rattle.lists.proofs.open_list.Symbol as begin-def
 use Rattle.lists.proofs.open_list.Symbol.{name as #lists·open-list}

@@ -9,13 +9,13 @@ use Rattle.places.specs.declared.Used.{Used}
 use Rattle.places.specs.Shapes.{Shape}
 use Rattle.places.specs.Places.{next, after}
 use Rattle.places.specs.Images.{total}
-use Rattle.layout.specs.Arguments.{shapeAt, shapesFrom}
-use Rattle.layout.specs.Asks.{Before, AskArgument, AskArguments, IsLaid}
-use Rattle.layout.specs.Placements.{turnAt}
-use Rattle.layout.specs.declared.Turn.{Turn}
-use Rattle.layout.specs.declared.Laying.{Laying}
-use Rattle.layout.proofs.Arguments.{shapes-cons, shapes-end}
-use Rattle.layout.proofs.Bounds.{arguments-few, argument-small, before-next}
+use Rattle.arguments.specs.Arguments.{shapeAt, shapesFrom}
+use Rattle.arguments.specs.Asks.{Before, AskArgument, AskArguments, IsLaid}
+use Rattle.arguments.specs.Placements.{turnAt}
+use Rattle.arguments.specs.declared.Turn.{Turn}
+use Rattle.arguments.specs.declared.Laying.{Laying}
+use Rattle.arguments.proofs.Arguments.{shapes-cons, shapes-end}
+use Rattle.arguments.proofs.Bounds.{arguments-few, argument-small, before-next}
 
 -- before argument i, where u is used and the values have v bytes; u₀ and v₀ were so before argument `from`
 pub record Going (d : List ℕ) (from to : ℕ) (u₀ : Used) (v₀ : ℕ) (u : Used) (v i : ℕ) : Type 0 where

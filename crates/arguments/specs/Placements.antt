@@ -5,10 +5,10 @@ use Rattle.description.specs.Description.{argumentsIn, argumentAt}
 use Rattle.places.specs.declared.Used.{Used}
 use Rattle.places.specs.Places.{place, next}
 use Rattle.places.specs.Recorded.{recorded}
-use Rattle.layout.specs.Arguments.{shapeAt, usedAt}
-use Rattle.layout.specs.declared.Placement.{Placement}
-use Rattle.layout.specs.declared.Step.{Step}
-use Rattle.layout.specs.declared.Turn.{Turn}
+use Rattle.arguments.specs.Arguments.{shapeAt, usedAt}
+use Rattle.arguments.specs.declared.Placement.{Placement}
+use Rattle.arguments.specs.declared.Step.{Step}
+use Rattle.arguments.specs.declared.Turn.{Turn}
 
 -- "type, size, alignment, and either its registers in eightbyte order or its stack offset": of argument i, where u is used before it
 abbrev pub placementFrom : List ℕ → Used → ℕ → Placement

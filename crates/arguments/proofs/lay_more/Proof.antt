@@ -4,9 +4,9 @@ use mathlib.Core.Path.{refl}
 use Prim.Native.Nat.{_-_}
 use native.Mathlib.Omega.{arith}
 use denote.Ref.{now}
-use Rattle.layout.proofs.Loop.{Going, going-first, going-asks, going-small, going-next, going-last}
-use Rattle.layout.proofs.lay_more.Statement.{statement}
-use Rattle.layout.proofs.lay_more.Tie as tie
+use Rattle.arguments.proofs.Loop.{Going, going-first, going-asks, going-small, going-next, going-last}
+use Rattle.arguments.proofs.lay_more.Statement.{statement}
+use Rattle.arguments.proofs.lay_more.Tie as tie
 
 abbrev Inv-loop : tie.InvT-loop
 Inv-loop d from to table used₀ values₀ i₀ used values i = Going d from to used₀ (values₀ .0) used (values .0) i

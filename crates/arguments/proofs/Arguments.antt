@@ -10,7 +10,7 @@ use Rattle.places.specs.declared.Used.{Used}
 use Rattle.places.specs.Shapes.{Shape}
 use Rattle.places.specs.Places.{next, after}
 use Rattle.places.proofs.Prefix.{after-append}
-use Rattle.layout.specs.Arguments.{shapeAt, shapesFrom, usedFirst, usedAt}
+use Rattle.arguments.specs.Arguments.{shapeAt, shapesFrom, usedFirst, usedAt}
 
 module _ (d : List ℕ) where
   pub shapes-none : (i : ℕ) → shapesFrom d i 0 ≡ []

@@ -1,10 +1,10 @@
 -- `use_argument` meets its contract.
 -- Assumes nothing.
 use denote.Ref.{now}
-use Rattle.layout.proofs.Steps.{turn-low, turn-asks, turn-is}
+use Rattle.arguments.proofs.Steps.{turn-low, turn-asks, turn-is}
 use Rattle.uses.proofs.Uses.{accepted-typed}
-use Rattle.layout.proofs.use_argument.Statement.{statement}
-use Rattle.layout.proofs.use_argument.Tie as tie
+use Rattle.arguments.proofs.use_argument.Statement.{statement}
+use Rattle.arguments.proofs.use_argument.Tie as tie
 
 argument-at-requires : tie.Need-argument-at-requires
 argument-at-requires c κs = (accepted-typed (now (c .before .args .d)) (c .before .pre .0 .right) .whole, c .before .pre .0 .there)

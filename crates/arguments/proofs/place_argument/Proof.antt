@@ -4,11 +4,11 @@ use Rattle.places.proofs.Records.{shape-known}
 use mathlib.Core.Path.{_∙_}
 use native.Mathlib.Omega.{arith}
 use denote.Ref.{now}
-use Rattle.layout.proofs.Bounds.{arguments-few, types-few, argument-known, type-asked, argument-small, before-room}
-use Rattle.layout.proofs.Steps.{shape-of-argument, step-is}
+use Rattle.arguments.proofs.Bounds.{arguments-few, types-few, argument-known, type-asked, argument-small, before-room}
+use Rattle.arguments.proofs.Steps.{shape-of-argument, step-is}
 use Rattle.uses.proofs.Uses.{accepted-typed}
-use Rattle.layout.proofs.place_argument.Statement.{statement}
-use Rattle.layout.proofs.place_argument.Tie as tie
+use Rattle.arguments.proofs.place_argument.Statement.{statement}
+use Rattle.arguments.proofs.place_argument.Tie as tie
 
 argument-at-requires : tie.Need-argument-at-requires
 argument-at-requires c κs = (accepted-typed (now (c .before .args .d)) (c .before .pre .0 .right) .whole, c .before .pre .0 .there)

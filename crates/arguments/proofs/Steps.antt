@@ -29,12 +29,12 @@ use Rattle.types.specs.Table.{IsEntry}
 use Rattle.types.specs.declared.Extent.{Extent}
 use Rattle.classify.specs.Table.{Tabled}
 use Rattle.classify.proofs.Lengths.{length-classes}
-use Rattle.layout.specs.Arguments.{shapeAt, isVoid, returnClasses, returnPlace, hidden}
-use Rattle.layout.specs.Asks.{AskArgument}
-use Rattle.layout.specs.Placements.{stepAt, turnAt}
-use Rattle.layout.specs.declared.Turn.{Turn}
-use Rattle.layout.proofs.Bounds.{arguments-few, types-few, argument-known, argument-small, before-room}
-use Rattle.layout.specs.declared.Step.{Step}
+use Rattle.arguments.specs.Arguments.{shapeAt, isVoid, returnClasses, returnPlace, hidden}
+use Rattle.arguments.specs.Asks.{AskArgument}
+use Rattle.arguments.specs.Placements.{stepAt, turnAt}
+use Rattle.arguments.specs.declared.Turn.{Turn}
+use Rattle.arguments.proofs.Bounds.{arguments-few, types-few, argument-known, argument-small, before-room}
+use Rattle.arguments.specs.declared.Step.{Step}
 
 -- what is returned
 module _ (d : List ℕ) where

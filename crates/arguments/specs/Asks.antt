@@ -8,7 +8,7 @@ use Rattle.places.specs.declared.Used.{Used}
 use Rattle.places.specs.Shapes.{Shape}
 use Rattle.places.specs.Places.{after}
 use Rattle.places.specs.Images.{total}
-use Rattle.layout.specs.declared.Laying.{Laying}
+use Rattle.arguments.specs.declared.Laying.{Laying}
 
 -- what may be used where i arguments are placed: no count past its file, and so little stack that no sum overflows
 pub record Before (i : ℕ) (u : Used) : Type 0 where

@@ -20,8 +20,8 @@ use Rattle.places.specs.Recorded.{Small, Room}
 use Rattle.places.proofs.Fits.{next-bounds}
 use Rattle.places.proofs.Offsets.{next-room}
 use Rattle.places.proofs.Guaranteed.{accepted-shaped, accepted-small-shape}
-use Rattle.layout.specs.Arguments.{shapeAt, shapesFrom, shapes}
-use Rattle.layout.specs.Asks.{Before, AskArgument}
+use Rattle.arguments.specs.Arguments.{shapeAt, shapesFrom, shapes}
+use Rattle.arguments.specs.Asks.{Before, AskArgument}
 
 module _ (d : List ℕ) (right : usesRefusal d ≡ 0) where
   pub arguments-few : argumentsIn d ≤ 64

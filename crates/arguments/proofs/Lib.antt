@@ -1,0 +1,4 @@
+pub mod Arguments
+pub mod Bounds
+pub mod Steps
+pub mod Loop
