@@ -33,7 +33,7 @@ use Rattle.walk.specs.Steps.{openWalk, openAnswer, stepWalk, stepOut}
 use Rattle.arguments.proofs.Placement as placement
 use Rattle.station.proofs.Station as station
 use Rattle.walk.proofs.Walk as walk
-use Rattle.form.proofs.read_form
+use Rattle.form_reading.proofs.read_form
 use Rattle.questions.proofs.type_size
 use Rattle.questions.proofs.type_align
 use Rattle.class_question.proofs.type_classes

@@ -34,7 +34,7 @@ use Rattle.walk.specs.declared.OpenAnswer.{OpenAnswer}
 use Rattle.walk.specs.Orders.{Ask, asking, standing}
 use Rattle.walk.specs.Steps.{movedOn, bytesAt}
 use Rattle.show.specs.declared.ShownAnswer.{ShownAnswer}
-use Rattle.form.proofs.read_form
+use Rattle.form_reading.proofs.read_form
 use Rattle.questions.proofs.type_size
 use Rattle.questions.proofs.type_align
 use Rattle.class_question.proofs.type_classes

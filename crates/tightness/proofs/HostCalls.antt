@@ -1,8 +1,8 @@
 -- "Each public call accepts all inputs": the contracts of the calls that hosts use ask nothing, one theorem for each. Assumes nothing.
 use mathlib.Core.Path.{refl}
 use Rattle.tightness.specs.Tight.{Total}
-use Rattle.form.proofs.read_form
-use Rattle.form.proofs.form_refusal
+use Rattle.form_reading.proofs.read_form
+use Rattle.form_reading.proofs.form_refusal
 use Rattle.form.proofs.refusal_of
 use Rattle.types.proofs.types_refusal
 use Rattle.questions.proofs.question_refusal
@@ -58,11 +58,11 @@ use Rattle.callbridge.proofs.cb_open_walk
 use Rattle.callbridge.proofs.cb_step
 use Rattle.callbridge.proofs.cb_show
 
-pub total-form-read-form : Total read_form.ended (λ M. read_form.clauses {M = M})
-total-form-read-form c g = refl
+pub total-form-reading-read-form : Total read_form.ended (λ M. read_form.clauses {M = M})
+total-form-reading-read-form c g = refl
 
-pub total-form-form-refusal : Total form_refusal.ended (λ M. form_refusal.clauses {M = M})
-total-form-form-refusal c g = refl
+pub total-form-reading-form-refusal : Total form_refusal.ended (λ M. form_refusal.clauses {M = M})
+total-form-reading-form-refusal c g = refl
 
 pub total-form-refusal-of : Total refusal_of.ended (λ M. refusal_of.clauses {M = M})
 total-form-refusal-of c g = refl

@@ -3,6 +3,8 @@ pub mod OfUnits
 pub mod OfAddresses
 pub mod OfDescription
 pub mod OfForm
+pub mod OfFormRecords
+pub mod OfFormReading
 pub mod OfTypes
 pub mod OfClasses
 pub mod OfClassify

@@ -1,0 +1,14 @@
+use borrow.Author.Needs.{needs}
+use Rattle.form.specs.Conditions.{wrongVersion}
+use Rattle.form_reading.proofs.wrong_version.Statement.{statement}
+use Rattle.form_reading.proofs.wrong_version.Tie as tie
+
+word-at-requires : tie.Need-word-at-requires
+word-at-requires c κs = search needs
+
+returns : tie.Need-returns
+unfolding wrongVersion
+returns c = rw (c .word-at .ensures .0)
+
+pub wrong-version-spec : {M : Type 1} → statement M
+wrong-version-spec = tie.close (tie.spec word-at-requires returns)
