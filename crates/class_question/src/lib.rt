@@ -12,7 +12,7 @@ pub fn type_classes(d: &[u8], t: u8) -> ClassesAnswer
     if number != 0 {
         return ClassesAnswer::Refused(types::refusal_for(d, number));
     }
-    classify::fill_classes(d, &mut table);
+    class_table::fill_classes(d, &mut table);
     let classes = classify::classes_in(&table, t as usize);
     let first = classes[0];
     let second = classes[1];

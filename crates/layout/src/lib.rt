@@ -86,7 +86,7 @@ pub fn layout_with(d: &[u8], table: &mut [u32; 64]) -> LayoutAnswer
     if number != 0 {
         return LayoutAnswer::Refused(types::refusal_for(d, number));
     }
-    classify::fill_classes(d, table);
+    class_table::fill_classes(d, table);
     let layout = lay(d, table);
     let area = layout.area;
     if units::over(area, Bytes(16384)) {

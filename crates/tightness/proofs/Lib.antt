@@ -8,6 +8,8 @@ pub mod OfFormReading
 pub mod OfTypes
 pub mod OfClasses
 pub mod OfClassify
+pub mod OfAggregates
+pub mod OfClassTable
 pub mod OfQuestions
 pub mod OfClassQuestion
 pub mod OfRunQuestions

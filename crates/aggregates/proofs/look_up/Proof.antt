@@ -6,9 +6,9 @@ use native.Mathlib.Omega.{arith}
 use denote.Ref.{now}
 use borrow.Author.Needs.{needs}
 use Rattle.types.proofs.Table.{known-low, known-extent}
 use Rattle.classify.proofs.Known.{look-first, look-low, look-high, look-finished}
-use Rattle.classify.proofs.look_up.Statement.{statement}
-use Rattle.classify.proofs.look_up.Tie as tie
+use Rattle.aggregates.proofs.look_up.Statement.{statement}
+use Rattle.aggregates.proofs.look_up.Tie as tie
 use Rattle.types.proofs.wide.Reads as wide-reads′
 
 returns : tie.Need-returns

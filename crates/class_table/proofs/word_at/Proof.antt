@@ -4,12 +4,12 @@ use mathlib.Core.Path.{refl, sym, ap, _∙_}
 use denote.Ref.{now}
 use Rattle.types.proofs.Runs.{basic-low}
 use Rattle.types.proofs.Table.{known-low, known-extent}
 use Rattle.classify.specs.Classify.{basicAt}
 use Rattle.classify.specs.Table.{wordOf}
 use Rattle.classify.proofs.Steps.{basic-done, whole-basic, whole-large, whole-small}
 use borrow.Author.Needs.{needs}
-use Rattle.classify.proofs.word_at.Statement.{statement}
-use Rattle.classify.proofs.word_at.Tie as tie
+use Rattle.class_table.proofs.word_at.Statement.{statement}
+use Rattle.class_table.proofs.word_at.Tie as tie
 
 kind-at-requires : tie.Need-kind-at-requires
 kind-at-requires c κs = search needs
