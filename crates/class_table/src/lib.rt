@@ -4,7 +4,7 @@ use classes::Class;
 use units::Bytes;
 ghost use mathlib.Core.Path.{_≡_};
 ghost use Prim.Native.Nat.{_<_};
-ghost use Rattle.description.specs.Description.{typesIn};
+ghost use Rattle.description.specs.Description.{typesIn, kindAt};
 ghost use Rattle.types.specs.Asks.{Sized};
 ghost use Rattle.types.specs.Decode.{tyAt};
 ghost use Rattle.types.specs.Large.{typesRefusal};
@@ -13,22 +13,30 @@ ghost use Rattle.classify.specs.Classify.{classesOf};
 ghost use Rattle.classify.specs.Asks.{AskType};
 ghost use Rattle.classify.specs.Table.{wordOf, Right, Ready, fullEntry, Tabled};
 
-// The classes of type k and what they ask for, in one number: "Over 16 bytes: MEMORY", of an aggregate.
-fn word_at(d: &[u8], k: usize, table: &[u32; 64], finished: &[u8; 512]) -> u32
-    requires { ⌜ AskType (now d) k 0 × Ready (now d) (now table) (now finished) k ⌝ }
+// The classes of type k and what they ask for, in one number, of an aggregate: "Over 16 bytes: MEMORY".
+fn aggregate_word(d: &[u8], k: usize, table: &[u32; 64], finished: &[u8; 512]) -> u32
+    requires { ⌜ AskType (now d) k 0 × (kindAt (now d) k ≡ 0 → ⊥) × Ready (now d) (now table) (now finished) k ⌝ }
     ensures { λ r. ⌜ r ≡ wordOf (classesOf (tyAt (now (d .entry)) k)) ⌝ }
 {
-    let kind = description::kind_at(d, k);
-    if kind == 0 {
-        let code = description::a_at(d, k);
-        return classify::basic_word(code);
-    }
     let extent = types::extent_in(table, k);
     if units::over(extent.size, Bytes(16)) {
         return classify::word_of([Class::Memory, Class::NoClass]);
     }
     let classes = aggregates::work_out(d, k, Bytes(0), table, finished, k);
     classify::word_of(classes)
+}
+
+// The same of any type.
+fn word_at(d: &[u8], k: usize, table: &[u32; 64], finished: &[u8; 512]) -> u32
+    requires { ⌜ AskType (now d) k 0 × Ready (now d) (now table) (now finished) k ⌝ }
+    ensures { λ r. ⌜ r ≡ wordOf (classesOf (tyAt (now (d .entry)) k)) ⌝ }
+{
+    let kind = description::kind_at(d, k);
+    if kind != 0 {
+        return aggregate_word(d, k, table, finished);
+    }
+    let code = description::a_at(d, k);
+    classify::basic_word(code)
 }
 
 // The finished answer for type k at offset `at`.
