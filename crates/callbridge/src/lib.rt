@@ -29,7 +29,7 @@ ghost use Rattle.station.specs.Attachment.{newStation, described, attachRefusal
 ghost use Rattle.walk.specs.Orders.{asking, stepRefusal};
 ghost use Rattle.walk.specs.Steps.{openAnswer, stepWalk, stepOut};
 ghost use Rattle.show.specs.Show.{shownAnswer};
-ghost use Rattle.listing.specs.Listing.{listing};
+ghost use Rattle.lines.specs.Listing.{listing};
 ghost use Rattle.given.specs.Outcome.{refusalIn, leftIn};
 ghost use Rattle.given.specs.Given.{extentGiven, classesGiven, runGiven, layoutGiven};
 ghost use Rattle.handed.specs.Handed.{placedGiven, gatheredGiven};

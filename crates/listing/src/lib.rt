@@ -1,12 +1,8 @@
-// The lister's text (document 01, "The lister"), written into a lent buffer: each function stores from index `at` on and answers
-// the index behind. A record's line has at most 52 bytes and the three other lines together 124, so that with 64 records no
+// The lister's text (document 01, "The lister"), line after line. A record's line has at most 52 bytes and the three other lines together 124, so that with 64 records no
 // listing is over 3,452.
-use arguments::Placement;
 use form::Refusal;
 use layout::Layout;
 use layout::LayoutAnswer;
-use places::ReturnPlace;
-use places::Used;
 ghost use mathlib.Core.Path.{_≡_};
 ghost use mathlib.Core.List.{_++_};
 ghost use Prim.Native.Nat.{_+_, _≤_, _<_};
@@ -15,41 +11,8 @@ ghost use lib.ListN.{length, drop};
 ghost use Rattle.description.specs.Description.{argumentsIn};
 ghost use Rattle.classify.specs.Table.{Tabled};
 ghost use Rattle.text.specs.Written.{Wrote};
-ghost use Rattle.listing.specs.Listing.{headLine, recordLine, recordLines, typeWords, returnLine, walkLine, namesType, refusedLine, laidText, listing};
-ghost use Rattle.listing.specs.Asks.{SmallRecord, SmallUsed, SmallLayout, Accepted};
-
-// "Line one: version, A, N, registers used (hidden address included), vector count, area".
-fn put_head(out: &mut [u8; 4096], at: usize, all: usize, first: usize, layout: Layout) -> usize
-    requires { ⌜ (at + 60 ≤ 4096) × (all < 256) × (first < 256) × SmallLayout layout ⌝ }
-    ensures { λ r. ⌜ Wrote 60 (now (out .entry)) at (headLine all first layout) (now (out .exit)) r ⌝ }
-{
-    let general = layout.used.general;
-    let vector = layout.used.vector;
-    let area = layout.area;
-    let behind_all = text::put_number(out, at, b"KCB 1 args ", all);
-    let behind_named = text::put_number(out, behind_all, b" named ", first);
-    let behind_general = text::put_number(out, behind_named, b" gp ", general.0);
-    let behind_vector = text::put_number(out, behind_general, b" vec ", vector.0);
-    let behind_area = text::put_number(out, behind_vector, b" stack ", area.0);
-    text::put(out, behind_area, b"\n")
-}
-
-// "Then per argument: position, type, size, alignment, place".
-fn put_record(out: &mut [u8; 4096], at: usize, i: usize, placement: Placement) -> usize
-    requires { ⌜ (at + 52 ≤ 4096) × (i < 64) × SmallRecord placement ⌝ }
-    ensures { λ r. ⌜ Wrote 52 (now (out .entry)) at (recordLine i placement) (now (out .exit)) r ⌝ }
-{
-    let ty = placement.ty as usize;
-    let size = placement.size;
-    let align = placement.align;
-    let place = placement.place;
-    let behind_position = text::put_number(out, at, b"", i);
-    let behind_type = text::put_number(out, behind_position, b" type ", ty);
-    let behind_size = text::put_number(out, behind_type, b" size ", size.0);
-    let behind_align = text::put_number(out, behind_size, b" align ", align.0);
-    let behind_place = place_words::put_place(out, behind_align, place);
-    text::put(out, behind_place, b"\n")
-}
+ghost use Rattle.lines.specs.Listing.{recordLines, namesType, refusedLine, laidText, listing};
+ghost use Rattle.lines.specs.Asks.{Accepted};
 
 // A line for each argument.
 fn put_records(
@@ -69,50 +32,11 @@ fn put_records(
     while i < count {
         let step = arguments::place_argument(d, used, i, table);
         let placement = step.placement;
-        next = put_record(out, next, i, placement);
+        next = lines::put_record(out, next, i, placement);
         used = step.used;
         i += 1;
     }
     next
-}
-
-// The returned type, where there is one: 255 is void.
-fn put_type(out: &mut [u8; 4096], at: usize, k: usize) -> usize
-    requires { ⌜ (at + 11 ≤ 4096) × (k < 256) ⌝ }
-    ensures { λ r. ⌜ Wrote 11 (now (out .entry)) at (typeWords (eqb k 255) k) (now (out .exit)) r ⌝ }
-{
-    if k == 255 {
-        return at;
-    }
-    text::put_number(out, at, b" type ", k)
-}
-
-// "`return void` or `return type K memory`".
-fn put_return(out: &mut [u8; 4096], at: usize, k: usize, place: ReturnPlace) -> usize
-    requires { ⌜ (at + 30 ≤ 4096) × (k < 256) ⌝ }
-    ensures { λ r. ⌜ Wrote 30 (now (out .entry)) at (returnLine k place) (now (out .exit)) r ⌝ }
-{
-    let next = text::put(out, at, b"return");
-    let behind_type = put_type(out, next, k);
-    let behind_place = place_words::put_return_place(out, behind_type, place);
-    text::put(out, behind_place, b"\n")
-}
-
-// gp_offset, fp_offset and the overflow offset where a walk starts; "a plain function ends with `walk none`".
-fn put_walk(out: &mut [u8; 4096], at: usize, variadic: usize, named: Used) -> usize
-    requires { ⌜ (at + 34 ≤ 4096) × SmallUsed named ⌝ }
-    ensures { λ r. ⌜ Wrote 34 (now (out .entry)) at (walkLine variadic named) (now (out .exit)) r ⌝ }
-{
-    if variadic == 0 {
-        return text::put(out, at, b"walk none\n");
-    }
-    let general = units::general_bytes(named.general);
-    let vector = units::vector_bytes(named.vector);
-    let stack = named.stack;
-    let behind_general = text::put_number(out, at, b"walk gp ", general.0);
-    let behind_vector = text::put_number(out, behind_general, b" fp ", 48 + vector.0);
-    let behind_stack = text::put_number(out, behind_vector, b" over ", stack.0);
-    text::put(out, behind_stack, b"\n")
 }
 
 // The lines of an accepted description.
@@ -126,10 +50,10 @@ fn put_laid(d: &[u8], out: &mut [u8; 4096], layout: Layout, table: &[u32; 64]) -
     let k = description::byte_at(d, 9);
     let returns = layout.returns;
     let named = layout.named;
-    let behind_head = put_head(out, 0, all, first, layout);
+    let behind_head = lines::put_head(out, 0, all, first, layout);
     let behind_records = put_records(d, out, behind_head, layout, table);
-    let behind_return = put_return(out, behind_records, k, returns);
-    put_walk(out, behind_return, variadic, named)
+    let behind_return = lines::put_return(out, behind_records, k, returns);
+    lines::put_walk(out, behind_return, variadic, named)
 }
 
 // Whether a refusal with this number names a type.

@@ -22,7 +22,7 @@ use Rattle.layout.specs.Layout.{valuesOf, layoutOf, layoutAnswer}
 use Rattle.arguments.specs.Placements.{placementAt}
 use Rattle.text.specs.Decimal.{digits, decimal}
 use Rattle.place_words.specs.PlaceWords.{generalWord, vectorWord}
-use Rattle.listing.specs.Listing.{headLine, recordLine, recordLines, returnLine, walkLine, refusedLine, laidText, listing}
+use Rattle.lines.specs.Listing.{headLine, recordLine, recordLines, returnLine, walkLine, refusedLine, laidText, listing}
 use Rattle.cases.specs.Cases.{Case, cases}
 use Rattle.listing_cases.specs.Listings.{listings}
 

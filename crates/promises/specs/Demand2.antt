@@ -40,7 +40,7 @@ use Rattle.layout.specs.Layout.{layoutOf, layoutAnswer}
 use Rattle.arguments.specs.Placements.{placementAt}
 use Rattle.lists.specs.Lists.{listRefusal, listCount, filled}
 use Rattle.cases.specs.Cases.{Case, cases}
-use Rattle.listing.specs.Listing.{listing}
+use Rattle.lines.specs.Listing.{listing}
 use Rattle.listing_cases.specs.Listings.{listings}
 use Rattle.moving.specs.Statements.{PlacesAll, AddressUnseen, GathersPlaced, PlacesGathered, UnusedUnseen, TwelveExactly}
 use Rattle.station.specs.declared.Station.{Station}

@@ -37,6 +37,7 @@ pub mod OfShow
 pub mod OfShowing
 pub mod OfText
 pub mod OfPlaceWords
+pub mod OfLines
 pub mod OfListing
 pub mod OfFlat
 pub mod OfGiven

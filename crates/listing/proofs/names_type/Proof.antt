@@ -1,6 +1,6 @@
 -- 6 and 7 name a type. Assumes nothing.
 use borrow.Author.Tests.{eq-eqb, ne-eqb}
-use Rattle.listing.specs.Listing.{namesType}
+use Rattle.lines.specs.Listing.{namesType}
 use Rattle.listing.proofs.names_type.Statement.{statement}
 use Rattle.listing.proofs.names_type.Tie as tie
 

@@ -3,7 +3,7 @@ use mathlib.Core.Path.{sym, _∙_}
 use native.Mathlib.Omega.{arith}
 use borrow.Author.Needs.{needs}
 use Rattle.text.proofs.Written.{wrote-none, wrote-join, wrote-more}
-use Rattle.listing.specs.Listing.{refusedLine}
+use Rattle.lines.specs.Listing.{refusedLine}
 use Rattle.listing.proofs.put_refused.Statement.{statement}
 use Rattle.listing.proofs.put_refused.Tie as tie
 

@@ -25,7 +25,7 @@ use Rattle.arguments.proofs.Bounds.{arguments-few, argument-small}
 use Rattle.layout.proofs.Layouts.{asks-at}
 use Rattle.layout.proofs.Verdict.{accepted-uses, accepted-area}
 use Rattle.place_words.specs.PlaceWords.{offsetOf}
-use Rattle.listing.specs.Asks.{SmallRecord, SmallUsed, SmallLayout, Accepted}
+use Rattle.lines.specs.Asks.{SmallRecord, SmallUsed, SmallLayout, Accepted}
 
 registers-no-offset : (rs : List Register) → offsetOf (recorded (inRegisters rs)) ≡ 0
 registers-no-offset [] = refl

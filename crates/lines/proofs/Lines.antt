@@ -27,8 +27,8 @@ use Rattle.layout.proofs.Layouts.{asks-at, laid-accepted}
 use Rattle.text.specs.Written.{written, Wrote}
 use Rattle.text.proofs.Written.{wrote-none, wrote-join, wrote-more, wrote-same, written-is}
 use Rattle.place_words.specs.Words.{numbered, walk, gp, fp, over, refused, newline}
-use Rattle.listing.specs.Listing.{headLine, recordLine, recordLines, returnLine, walkLine, refusedLine, laidText, textOf, listing}
-use Rattle.listing.specs.Asks.{Accepted}
+use Rattle.lines.specs.Listing.{headLine, recordLine, recordLines, returnLine, walkLine, refusedLine, laidText, textOf, listing}
+use Rattle.lines.specs.Asks.{Accepted}
 
 -- the last record
 records-last : (d : List ℕ) (n k : ℕ) → recordLines d k (suc n) ≡ recordLines d k n ++ recordLine (k + n) (placementAt d (k + n))
