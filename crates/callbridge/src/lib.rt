@@ -20,7 +20,7 @@ ghost use Rattle.types.specs.Wrong.{refusalFor};
 ghost use Rattle.questions.specs.Questions.{extentAnswer};
 ghost use Rattle.questions.specs.Runs.{classesAnswer, runAnswer};
 ghost use Rattle.layout.specs.Layout.{layoutAnswer};
-ghost use Rattle.lists.specs.Lists.{listCount, filled};
+ghost use Rattle.begun.specs.Lists.{listCount, filled};
 ghost use Rattle.layout.specs.Verdict.{verdict};
 ghost use Rattle.moving.specs.Answers.{placeAnswer, registersAfter, stackAfter, gatherAnswer, valuesAfter};
 ghost use Rattle.returning.specs.Answers.{putAnswer, imageAfter, takeAnswer, valueAfter};

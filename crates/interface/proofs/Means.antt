@@ -7,8 +7,8 @@ use borrow.Author.Tests.{eq-eqb}
 use lib.ListN.{length}
 use Rattle.description.specs.Description.{argumentsIn}
 use Rattle.layout.specs.Layout.{layoutOf as wholeOf}
-use Rattle.lists.specs.Lists.{listRefusal, listCount}
-use Rattle.lists.proofs.Lists.{list-accepted, list-room}
+use Rattle.begun.specs.Lists.{listRefusal, listCount}
+use Rattle.begun.proofs.Lists.{list-accepted, list-room}
 use Rattle.types.proofs.Table.{filled-below}
 use Rattle.station.specs.Outcome.{leaves}
 use Rattle.flat.specs.Records.{layoutOf}

@@ -15,7 +15,7 @@ use Rattle.questions.specs.Questions.{questionRefusal, extentAnswer}
 use Rattle.questions.specs.Runs.{classesAnswer, runAnswer}
 use Rattle.layout.specs.Verdict.{verdict}
 use Rattle.layout.specs.Layout.{layoutAnswer}
-use Rattle.lists.specs.Lists.{listRefusal, listAnswer}
+use Rattle.begun.specs.Lists.{listRefusal, listAnswer}
 use Rattle.lent.specs.Orders.{placeRefusal, gatherRefusal}
 use Rattle.moving.specs.Answers.{placeAnswer, gatherAnswer}
 use Rattle.station.specs.Outcome.{leaves}

@@ -18,7 +18,7 @@ use Rattle.arguments.specs.Arguments.{usedAt}
 use Rattle.layout.specs.Verdict.{verdict}
 use Rattle.layout.specs.Layout.{layoutOf as wholeOf, layoutAnswer}
 use Rattle.arguments.specs.Placements.{placementAt}
-use Rattle.lists.specs.Lists.{listRefusal, listCount, filled}
+use Rattle.begun.specs.Lists.{listRefusal, listCount, filled}
 use Rattle.filling.specs.Images.{hiddenIn}
 use Rattle.lent.specs.Orders.{placeRefusal, gatherRefusal}
 use Rattle.moving.specs.Answers.{placeAnswer, gatherAnswer}

@@ -13,15 +13,15 @@ use Rattle.types.specs.Wrong.{refusalFor}
 use Rattle.places.specs.declared.Used.{Used}
 use Rattle.layout.specs.declared.Layout.{Layout as Whole}
 use Rattle.arguments.specs.declared.Placement.{Placement as Record}
-use Rattle.lists.specs.declared.Begun.{Begun}
+use Rattle.begun.specs.declared.Begun.{Begun}
 use Rattle.layout.specs.declared.LayoutAnswer.{LayoutAnswer}
 use Rattle.layout.specs.declared.LayoutAnswer.the-variants.{Laid, Refused}
 use Rattle.layout.specs.Layout.{layoutOf as wholeOf, tableAfter}
 use Rattle.arguments.specs.Asks.{AskArgument}
 use Rattle.layout.specs.Verdict.{verdict}
 use Rattle.arguments.specs.Placements.{stepAt}
-use Rattle.lists.specs.Lists.{listRefusal, listAnswer, listCount, listUsed, begunOf}
-use Rattle.lists.proofs.Lists.{begun-answer, begun-count, begun-used, turn-accepted, turn-asks, turn-record, turn-used}
+use Rattle.begun.specs.Lists.{listRefusal, listAnswer, listCount, listUsed, begunOf}
+use Rattle.begun.proofs.Lists.{begun-answer, begun-count, begun-used, turn-accepted, turn-asks, turn-record, turn-used}
 use Rattle.flat.specs.declared.Layout.{Layout}
 use Rattle.flat.specs.Records.{placementOf, layoutOf}
 use Rattle.listed.specs.declared.ListBegun.{ListBegun}

@@ -6,7 +6,7 @@ use lib.ListN.{replicate}
 use Rattle.layout.specs.Layout.{tableAfter}
 use Rattle.places.specs.declared.Used.{Used}
 use Rattle.arguments.specs.Placements.{stepAt, placementAt}
-use Rattle.lists.specs.Lists.{listAnswer, listCount, listUsed}
+use Rattle.begun.specs.Lists.{listAnswer, listCount, listUsed}
 use Rattle.flat.specs.declared.Layout.{Layout}
 use Rattle.flat.specs.declared.Placement.{Placement}
 use Rattle.flat.specs.Records.{placementOf}

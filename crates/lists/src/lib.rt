@@ -1,95 +1,19 @@
-// The list of placement records that the caller lends (document 01, "Places"): whether it is filled, 1 to 11, and its records.
+// The list of placement records that the caller lends (document 01, "Places"), filled.
 use arguments::Placement;
-use arguments::Step;
+use begun::Begun;
 use layout::LayoutAnswer;
-use places::Used;
 ghost use mathlib.Core.Path.{_≡_};
 ghost use Prim.Native.Nat.{_≤_};
 ghost use lib.ListN.{length};
-ghost use Rattle.classify.specs.Table.{Tabled};
-ghost use Rattle.layout.specs.Verdict.{verdict};
-ghost use Rattle.layout.specs.Layout.{tableAfter};
-ghost use Rattle.arguments.specs.Placements.{placementAt, stepAt};
-ghost use Rattle.arguments.specs.Asks.{AskArgument};
-ghost use Rattle.lists.specs.Lists.{listAnswer, listCount, begunOf, openedOf, filled};
-
-// Before the first record: the answer, how many records there are, none for a refusal, and what is used.
-pub struct Begun {
-    pub answer: LayoutAnswer,
-    pub count: usize,
-    pub used: Used,
-}
-
-// The same, and the table that the records are made by.
-struct Opened {
-    answer: LayoutAnswer,
-    count: usize,
-    used: Used,
-    table: [u32; 64],
-}
-
-// Decides whether a list of `room` records is to be filled: 1 to 10, then 11 for a list that is shorter than A. With
-// `place_argument` it serves a caller that has no list to lend: that caller's table has what the records are made of.
-pub fn begin_with(d: &[u8], room: usize, table: &mut [u32; 64]) -> Begun
-    ensures { λ r. ⌜ (r ≡ begunOf (now (d .entry)) room) × (r .count ≤ room)
-        × (now (table .exit) ≡ tableAfter (now (d .entry)) (now (table .entry)))
-        × (verdict (now (d .entry)) ≡ 0 → Tabled (now (d .entry)) (now (table .exit))) ⌝ }
-{
-    let answer = layout::layout_with(d, table);
-    let LayoutAnswer::Laid(layout) = answer else {
-        return Begun {
-            answer: answer,
-            count: 0,
-            used: places::fresh(false),
-        };
-    };
-    let arguments = description::byte_at(d, 8);
-    if room < arguments {
-        return Begun {
-            answer: LayoutAnswer::Refused(form::refusal_of(11)),
-            count: 0,
-            used: places::fresh(false),
-        };
-    }
-    Begun {
-        answer: answer,
-        count: arguments,
-        used: places::fresh(layout.hidden),
-    }
-}
+ghost use Rattle.arguments.specs.Placements.{placementAt};
+ghost use Rattle.begun.specs.Lists.{listAnswer, listCount, begunOf, filled};
 
 // Decides whether a list of `room` records is to be filled.
 pub fn begin(d: &[u8], room: usize) -> Begun
     ensures { λ r. ⌜ (r ≡ begunOf (now (d .entry)) room) × (r .count ≤ room) ⌝ }
 {
     let mut table = [0u32; 64];
-    begin_with(d, room, &mut table)
-}
-
-// The decision, with the table by value.
-fn open_list(d: &[u8], room: usize) -> Opened
-    ensures { λ r. ⌜ (r ≡ openedOf (now (d .entry)) room) × (r .count ≤ room)
-        × (verdict (now (d .entry)) ≡ 0 → Tabled (now (d .entry)) (r .table)) ⌝ }
-{
-    let mut table = [0u32; 64];
-    let head = begin_with(d, room, &mut table);
-    let answer = head.answer;
-    let used = head.used;
-    Opened {
-        answer: answer,
-        count: head.count,
-        used: used,
-        table: table,
-    }
-}
-
-// The record of argument i, and what is used after it, by a table by value.
-fn place_by(d: &[u8], used: Used, i: usize, opened: Opened) -> Step
-    requires { ⌜ AskArgument (now d) i used × Tabled (now d) (opened .table) ⌝ }
-    ensures { λ r. ⌜ r ≡ stepAt (now (d .entry)) used i ⌝ }
-{
-    let table = opened.table;
-    arguments::place_argument(d, used, i, &table)
+    begun::begin_with(d, room, &mut table)
 }
 
 // Fills the list that the caller lends with one record for each argument; entries past A stay, and so does the whole list where
@@ -98,12 +22,12 @@ pub fn lay_out(d: &[u8], list: &mut [Placement]) -> LayoutAnswer
     ensures { λ r. ⌜ (r ≡ listAnswer (now (d .entry)) (length (now (list .entry))))
         × (now (list .exit) ≡ filled (placementAt (now (d .entry))) (listCount (now (d .entry)) (length (now (list .entry)))) (now (list .entry))) ⌝ }
 {
-    let opened = open_list(d, list.len());
+    let opened = begun::open_list(d, list.len());
     let n = opened.count;
     let mut used = opened.used;
     let mut i = 0;
     while i < n {
-        let step = place_by(d, used, i, opened);
+        let step = begun::place_by(d, used, i, opened);
         list[i] = step.placement;
         used = step.used;
         i += 1;

@@ -19,7 +19,7 @@ use Rattle.arguments.specs.declared.Placement.{Placement}
 use Rattle.arguments.specs.Arguments.{hidden}
 use Rattle.layout.specs.Verdict.{verdict}
 use Rattle.layout.specs.Layout.{layoutOf, layoutAnswer}
-use Rattle.lists.specs.Lists.{listRefusal, listAnswer}
+use Rattle.begun.specs.Lists.{listRefusal, listAnswer}
 use Rattle.moving.specs.declared.GatherAnswer.the-variants.{Gathered}
 use Rattle.filling.specs.Images.{addressesOf, gathered}
 use Rattle.lent.specs.Orders.{placeRefusal, gatherRefusal}

@@ -20,7 +20,7 @@ use Rattle.places.specs.Shapes.{shapeOf, Alignment}
 use Rattle.places.proofs.Guaranteed.{accepted-shaped}
 use Rattle.layout.specs.Verdict.{verdict}
 use Rattle.arguments.specs.Placements.{placementAt}
-use Rattle.lists.specs.Lists.{listRefusal, listCount, filled}
+use Rattle.begun.specs.Lists.{listRefusal, listCount, filled}
 use Rattle.layout.proofs.Verdict.{accepted-uses}
 use Rattle.layout.proofs.Records.{accepted-bounded}
 use Rattle.lent.specs.Orders.{placeRefusal, gatherRefusal}

@@ -31,10 +31,10 @@ use Rattle.arguments.specs.declared.Placement.{Placement}
 use Rattle.arguments.specs.Arguments.{shapeAt, shapes, usedFirst, usedAt, areaOf}
 use Rattle.layout.specs.Layout.{layoutOf}
 use Rattle.arguments.specs.Placements.{placementAt}
-use Rattle.lists.specs.Lists.{listRefusal, listCount}
+use Rattle.begun.specs.Lists.{listRefusal, listCount}
 use Rattle.arguments.proofs.Arguments.{used-none}
 use Rattle.layout.proofs.Layouts.{asks-at}
-use Rattle.lists.proofs.Lists.{list-room}
+use Rattle.begun.proofs.Lists.{list-room}
 use Rattle.layout.proofs.Verdict.{accepted-uses}
 use Rattle.layout.specs.Verdict.{verdict}
 use Rattle.cases.proofs.Cases.{cases-hold}

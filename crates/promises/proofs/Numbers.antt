@@ -24,7 +24,7 @@ use Rattle.questions.specs.Runs.{pairOf, classesAnswer, runAnswer}
 use Rattle.arguments.specs.Arguments.{usedAt}
 use Rattle.layout.specs.Verdict.{verdict}
 use Rattle.layout.specs.Layout.{layoutOf, layoutAnswer}
-use Rattle.lists.specs.Lists.{listRefusal, listAnswer}
+use Rattle.begun.specs.Lists.{listRefusal, listAnswer}
 use Rattle.layout.specs.declared.LayoutAnswer.the-variants.{Laid, Refused as NotLaid}
 use Rattle.filling.specs.Images.{hiddenIn}
 use Rattle.lent.specs.Orders.{placeRefusal, gatherRefusal}

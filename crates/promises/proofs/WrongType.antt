@@ -17,7 +17,7 @@ use Rattle.types.specs.Wrong.{refusalFor}
 use Rattle.types.proofs.Large.{large-first, large-least}
 use Rattle.questions.specs.Questions.{questionRefusal}
 use Rattle.layout.specs.Verdict.{verdict}
-use Rattle.lists.specs.Lists.{listRefusal}
+use Rattle.begun.specs.Lists.{listRefusal}
 use Rattle.lent.specs.Orders.{placeRefusal, gatherRefusal}
 use Rattle.returning.specs.Orders.{putConditions, takeConditions, putRefusal, takeRefusal}
 use Rattle.station.specs.Paper.{kcb, refusalUnder}

@@ -31,7 +31,7 @@ use Rattle.arguments.specs.Arguments.{usedAt}
 use Rattle.layout.specs.Verdict.{verdict}
 use Rattle.layout.specs.Layout.{layoutOf, layoutAnswer}
 use Rattle.arguments.specs.Placements.{placementAt}
-use Rattle.lists.specs.Lists.{listAnswer, listCount, filled}
+use Rattle.begun.specs.Lists.{listAnswer, listCount, filled}
 use Rattle.layout.specs.Statements.{Bounded}
 use Rattle.filling.specs.Images.{hiddenIn}
 use Rattle.moving.specs.Answers.{placeAnswer, gatherAnswer, registersAfter, stackAfter, valuesAfter}

@@ -38,7 +38,7 @@ use Rattle.arguments.specs.Arguments.{shapeAt, isVoid, returnClasses, returnPla
 use Rattle.layout.specs.Verdict.{verdict}
 use Rattle.layout.specs.Layout.{layoutOf, layoutAnswer}
 use Rattle.arguments.specs.Placements.{placementAt}
-use Rattle.lists.specs.Lists.{listRefusal, listCount, filled}
+use Rattle.begun.specs.Lists.{listRefusal, listCount, filled}
 use Rattle.cases.specs.Cases.{Case, cases}
 use Rattle.lines.specs.Listing.{listing}
 use Rattle.listing_cases.specs.Listings.{listings}

@@ -19,6 +19,7 @@ pub mod OfPlacing
 pub mod OfReturnPlaces
 pub mod OfArguments
 pub mod OfLayout
+pub mod OfBegun
 pub mod OfLists
 pub mod OfImages
 pub mod OfFilling

@@ -1,27 +1,15 @@
 -- Each public function of `lists` meets its contract, and the contract is tight. Assumes nothing.
 use mathlib.Core.Path.{_≡_, refl, sym, _∙_}
 use Rattle.tightness.specs.Tight.{Meets, Tight}
-use Rattle.tightness.proofs.Laws.{bytes, result, settle}
+use Rattle.tightness.proofs.Laws.{result, settle}
 use Rattle.arguments.proofs.Placement
 use base.Stored.{codedList}
 use Rattle.lists.proofs.begin
 use Rattle.lists.proofs.begin.Met as begin-met
 use Rattle.lists.proofs.begin.Symbol as begin-symbol
-use Rattle.lists.proofs.begin_with
-use Rattle.lists.proofs.begin_with.Met as begin-with-met
-use Rattle.lists.proofs.begin_with.Symbol as begin-with-symbol
 use Rattle.lists.proofs.lay_out
 use Rattle.lists.proofs.lay_out.Met as lay-out-met
 use Rattle.lists.proofs.lay_out.Symbol as lay-out-symbol
-
-pub meets-lists-begin-with : Meets begin_with.ended (λ M. begin_with.clauses {M = M}) begin-with-symbol.routine
-meets-lists-begin-with M = begin-with-met.met
-
-pub tight-lists-begin-with : Tight begin_with.ended (λ M. begin_with.clauses {M = M})
-tight-lists-begin-with c r q w v a b = (settle (result begin_with.ended c) (a .ensured) (b .ensured) (λ e f. e .0 ∙ sym (f .0)), λ i. (tt, (tt, (table i, tt))))
-  where
-    table : w .1 .1 .0 ≡ v .1 .1 .0
-    table = settle bytes (a .ensured) (b .ensured) (λ e f. e .2 ∙ sym (f .2))
 
 pub meets-lists-begin : Meets begin.ended (λ M. begin.clauses {M = M}) begin-symbol.routine
 meets-lists-begin M = begin-met.met

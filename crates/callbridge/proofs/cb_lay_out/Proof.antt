@@ -59,7 +59,7 @@ use denote.Exit.{yes}
 use Rattle.classify.specs.Table.{Tabled}
 use Rattle.arguments.specs.Asks.{AskArgument}
 use Rattle.layout.specs.Verdict.{verdict}
-use Rattle.lists.specs.Lists.{listUsed, filled}
+use Rattle.begun.specs.Lists.{listUsed, filled}
 use Rattle.types.proofs.Table.{filled-none, filled-next, length-filled}
 use Rattle.listed.specs.Lists.{flatAt, flatStep, listBegun}
 use Rattle.listed.proofs.Rows.{row-count, row-used, row-refusal, row-layout, row-accepted, row-asks, row-record, row-next}

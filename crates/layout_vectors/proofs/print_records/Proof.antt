@@ -5,9 +5,9 @@ use Prim.Native.Nat.{_-_}
 use native.Mathlib.Omega.{arith}
 use borrow.Author.Needs.{needs}
 use denote.Ref.{now}
-use Rattle.lists.specs.Lists.{listUsed, begunOf}
-use Rattle.lists.proofs.Lists.{begun-count, begun-used, turn-accepted, turn-asks, turn-used}
-use Rattle.lists.specs.declared.Begun.{Begun}
+use Rattle.begun.specs.Lists.{listUsed, begunOf}
+use Rattle.begun.proofs.Lists.{begun-count, begun-used, turn-accepted, turn-asks, turn-used}
+use Rattle.begun.specs.declared.Begun.{Begun}
 use Rattle.arguments.specs.declared.Step.{Step}
 use Rattle.layout_vectors.proofs.print_records.Statement.{statement}
 use Rattle.layout_vectors.proofs.print_records.Tie as tie

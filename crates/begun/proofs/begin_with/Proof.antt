@@ -5,11 +5,11 @@ use native.Mathlib.Omega.{arith}
 use borrow.Author.Needs.{needs}
 use denote.Ref.{now}
 use Rattle.layout.proofs.Layouts.{laid-accepted}
-use Rattle.lists.proofs.Lists.{begin-refused, begin-short, begin-laid}
+use Rattle.begun.proofs.Lists.{begin-refused, begin-short, begin-laid}
 use Rattle.layout.proofs.Verdict.{accepted-uses}
 use Rattle.uses.proofs.Uses.{accepted-typed}
-use Rattle.lists.proofs.begin_with.Statement.{statement}
-use Rattle.lists.proofs.begin_with.Tie as tie
+use Rattle.begun.proofs.begin_with.Statement.{statement}
+use Rattle.begun.proofs.begin_with.Tie as tie
 
 layout-with-requires : tie.Need-layout-with-requires
 layout-with-requires c κs = search needs

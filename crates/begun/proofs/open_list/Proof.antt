@@ -3,9 +3,9 @@
 use mathlib.Core.Path.{refl}
 use borrow.Author.Needs.{needs}
 use denote.Ref.{now}
-use Rattle.lists.proofs.Lists.{opened-is}
-use Rattle.lists.proofs.open_list.Statement.{statement}
-use Rattle.lists.proofs.open_list.Tie as tie
+use Rattle.begun.proofs.Lists.{opened-is}
+use Rattle.begun.proofs.open_list.Statement.{statement}
+use Rattle.begun.proofs.open_list.Tie as tie
 
 begin-with-requires : tie.Need-begin-with-requires
 begin-with-requires c κs = search needs

@@ -22,10 +22,10 @@ use Rattle.layout.specs.Verdict.{verdictConditions, verdict}
 use Rattle.layout.specs.Layout.{layoutOf, layoutAnswer, tableAfter}
 use Rattle.arguments.specs.Asks.{AskArgument}
 use Rattle.arguments.specs.Placements.{placementAt, stepAt}
-use Rattle.lists.specs.Lists.{shortList, listRefusal, listAnswer, listCount, listUsed, begunOf, openedOf}
+use Rattle.begun.specs.Lists.{shortList, listRefusal, listAnswer, listCount, listUsed, begunOf, openedOf}
 use Rattle.layout.specs.declared.Layout.{Layout}
-use Rattle.lists.specs.declared.Begun.{Begun}
-use Rattle.lists.specs.declared.Opened.{Opened}
+use Rattle.begun.specs.declared.Begun.{Begun}
+use Rattle.begun.specs.declared.Opened.{Opened}
 use Rattle.layout.specs.declared.LayoutAnswer.{LayoutAnswer}
 use Rattle.layout.specs.declared.LayoutAnswer.the-variants.{Laid, Refused}
 use Rattle.arguments.proofs.Arguments.{used-none, used-next}

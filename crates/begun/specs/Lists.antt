@@ -16,8 +16,8 @@ use Rattle.layout.specs.Verdict.{verdictConditions}
 use Rattle.layout.specs.Layout.{layoutOf, tableAfter}
 use Rattle.layout.specs.declared.LayoutAnswer.{LayoutAnswer}
 use Rattle.layout.specs.declared.LayoutAnswer.the-variants.{Laid, Refused}
-use Rattle.lists.specs.declared.Begun.{Begun}
-use Rattle.lists.specs.declared.Opened.{Opened}
+use Rattle.begun.specs.declared.Begun.{Begun}
+use Rattle.begun.specs.declared.Opened.{Opened}
 
 -- 11: "a placement list under A", of so many records
 unfoldable pub shortList : List ℕ → ℕ → Bool
