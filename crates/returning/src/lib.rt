@@ -68,14 +68,14 @@ pub fn put_returned(d: &[u8], hidden: u64, value: &[u8], image: &mut [u8]) -> Pu
         return PutAnswer::Refused(layout::refusal_in(answer));
     };
     let place = layout.returns;
-    let right = return_image::length_for(place, returned_size(d, &table));
+    let right = return_values::length_for(place, returned_size(d, &table));
     if wrong_length(right, Bytes(value.len()), Bytes(image.len())) {
         return PutAnswer::Refused(form::refusal_of(11));
     }
     if wrong_bool(d, value) {
         return PutAnswer::Refused(form::refusal_of(12));
     }
-    return_image::put_value(place, hidden, value, image);
+    return_values::put_value(place, hidden, value, image);
     PutAnswer::Put
 }
 
@@ -90,10 +90,10 @@ pub fn take_returned(d: &[u8], image: &[u8], value: &mut [u8]) -> TakeAnswer
         return TakeAnswer::Refused(layout::refusal_in(answer));
     };
     let place = layout.returns;
-    let right = return_image::length_for(place, returned_size(d, &table));
+    let right = return_values::length_for(place, returned_size(d, &table));
     if wrong_length(right, Bytes(value.len()), Bytes(image.len())) {
         return TakeAnswer::Refused(form::refusal_of(11));
     }
-    return_image::take_value(place, image, value);
-    TakeAnswer::Taken(return_image::returned_address(place, image))
+    return_values::take_value(place, image, value);
+    TakeAnswer::Taken(return_values::returned_address(place, image))
 }

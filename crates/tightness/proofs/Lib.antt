@@ -26,6 +26,7 @@ pub mod OfFilling
 pub mod OfLent
 pub mod OfMoving
 pub mod OfReturnImage
+pub mod OfReturnValues
 pub mod OfReturning
 pub mod OfStation
 pub mod OfAttach

@@ -2,9 +2,9 @@
 -- Assumes nothing.
 use borrow.Author.Needs.{needs}
 use borrow.Author.Tests.{not-true, not-false}
 use Rattle.return_image.proofs.Moves.{blank-none, blank-address}
-use Rattle.return_image.proofs.blank_image.Statement.{statement}
-use Rattle.return_image.proofs.blank_image.Tie as tie
+use Rattle.return_values.proofs.blank_image.Statement.{statement}
+use Rattle.return_values.proofs.blank_image.Tie as tie
 
 clear-requires : tie.Need-clear-requires
 clear-requires c κs = search needs

@@ -3,10 +3,10 @@
 use mathlib.Core.Path.{sym, _∙_}
 use borrow.Author.Needs.{needs}
 use borrow.Author.Tests.{not-true, not-false}
 use Rattle.return_image.specs.Image.{returnedAddress}
 use Rattle.images.specs.Words.{addressIn}
-use Rattle.return_image.proofs.returned_address.Statement.{statement}
-use Rattle.return_image.proofs.returned_address.Tie as tie
+use Rattle.return_values.proofs.returned_address.Statement.{statement}
+use Rattle.return_values.proofs.returned_address.Tie as tie
 
 in-memory-requires : tie.Need-in-memory-requires
 in-memory-requires c κs = search needs

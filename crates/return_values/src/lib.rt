@@ -1,0 +1,105 @@
+// A returned value goes into the return image and out again (document 02, request 2026-02), by the parts that `return_image` says.
+use places::ReturnPlace;
+use return_image::Part;
+use units::Bytes;
+ghost use mathlib.Core.Path.{_≡_};
+ghost use lib.ListN.{length};
+ghost use Rattle.addresses.specs.Copy.{copied};
+ghost use Rattle.return_image.specs.Image.{lengthFor, inMemory, blankReturn, returnImage, returnValue, returnedAddress};
+ghost use Rattle.return_image.specs.Asks.{Returnable, AskPart};
+
+// The length of a value of a type of `size` bytes: none of it is moved where it is in memory.
+pub fn length_for(place: ReturnPlace, size: Bytes) -> Bytes
+    ensures { λ r. ⌜ r .0 ≡ lengthFor place (size .0) ⌝ }
+{
+    match place {
+        ReturnPlace::Void => Bytes(0),
+        ReturnPlace::Memory => Bytes(0),
+        ReturnPlace::One(_) => size,
+        ReturnPlace::Two(_, _) => size,
+        ReturnPlace::St0 => size,
+        ReturnPlace::St0St1 => size,
+    }
+}
+
+fn in_memory(place: ReturnPlace) -> bool
+    ensures { λ r. ⌜ r ≡ inMemory place ⌝ }
+{
+    match place {
+        ReturnPlace::Void => false,
+        ReturnPlace::Memory => true,
+        ReturnPlace::One(_) => false,
+        ReturnPlace::Two(_, _) => false,
+        ReturnPlace::St0 => false,
+        ReturnPlace::St0St1 => false,
+    }
+}
+
+// Zeros, and the hidden address in rax where the value is in memory.
+fn blank_image(memory: bool, hidden: u64, image: &mut [u8])
+    requires { ⌜ length (now image) ≡ 80 ⌝ }
+    ensures { λ _. ⌜ now (image .exit) ≡ blankReturn memory hidden ⌝ }
+{
+    addresses::clear(image);
+    if !memory {
+        return;
+    }
+    images::put_address(image, hidden);
+}
+
+fn put_part(part: Part, value: &[u8], image: &mut [u8])
+    requires { ⌜ AskPart part (length (now value)) (length (now image)) ⌝ }
+    ensures { λ _. ⌜ now (image .exit) ≡ copied (now (image .entry)) (part .to .0) (now (value .entry)) (part .from .0) (part .count .0) ⌝ }
+{
+    let from = part.from;
+    let to = part.to;
+    let count = part.count;
+    addresses::copy(image, to.0, value, from.0, count.0);
+}
+
+fn take_part(part: Part, image: &[u8], value: &mut [u8])
+    requires { ⌜ AskPart part (length (now value)) (length (now image)) ⌝ }
+    ensures { λ _. ⌜ now (value .exit) ≡ copied (now (value .entry)) (part .from .0) (now (image .entry)) (part .to .0) (part .count .0) ⌝ }
+{
+    let from = part.from;
+    let to = part.to;
+    let count = part.count;
+    addresses::copy(value, from.0, image, to.0, count.0);
+}
+
+// Puts a value into the image, every byte of which is written.
+pub fn put_value(place: ReturnPlace, hidden: u64, value: &[u8], image: &mut [u8])
+    requires { ⌜ Returnable place (length (now value)) × (length (now image) ≡ 80) ⌝ }
+    ensures { λ _. ⌜ now (image .exit) ≡ returnImage place hidden (now (value .entry)) ⌝ }
+{
+    let parts = return_image::parts_of(place, Bytes(value.len()));
+    let low = parts.low;
+    let high = parts.high;
+    blank_image(in_memory(place), hidden, image);
+    put_part(low, value, image);
+    put_part(high, value, image);
+}
+
+// Takes a value out of the image: every byte of the value is written.
+pub fn take_value(place: ReturnPlace, image: &[u8], value: &mut [u8])
+    requires { ⌜ Returnable place (length (now value)) × (length (now image) ≡ 80) ⌝ }
+    ensures { λ _. ⌜ now (value .exit) ≡ returnValue place (length (now (value .entry))) (now (image .entry)) ⌝ }
+{
+    let parts = return_image::parts_of(place, Bytes(value.len()));
+    let low = parts.low;
+    let high = parts.high;
+    addresses::clear(value);
+    take_part(low, image, value);
+    take_part(high, image, value);
+}
+
+// The hidden address in rax; 0 where the value is not in memory.
+pub fn returned_address(place: ReturnPlace, image: &[u8]) -> u64
+    requires { ⌜ length (now image) ≡ 80 ⌝ }
+    ensures { λ r. ⌜ r ≡ returnedAddress place (now (image .entry)) ⌝ }
+{
+    if !in_memory(place) {
+        return 0;
+    }
+    images::address_in(image)
+}
