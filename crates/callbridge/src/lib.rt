@@ -249,7 +249,7 @@ pub extern "C" fn cb_step(
         × (now (walk .exit) ≡ stepWalk kcb (now (station .entry)) (now (seat .entry)) (now (walk .entry)) (asking (now (registers .entry)) (now (stack .entry)) asked (now (out .entry))))
         × (now (out .exit) ≡ stepOut kcb (now (station .entry)) (now (seat .entry)) (now (walk .entry)) (asking (now (registers .entry)) (now (stack .entry)) asked (now (out .entry)))) ⌝ }
 {
-    let after = step::stepping(*station, seat, *walk, registers, stack, asked, out);
+    let after = stepping::stepping(*station, seat, *walk, registers, stack, asked, out);
     *walk = after.walk;
     after.refusal
 }

@@ -391,7 +391,7 @@ fn step_into(
     let station = state.station;
     let walk = walk_in(state, slot);
     fill(out, 0xEE);
-    let after = step::stepping(station, seat, walk, registers, stack, asked, out);
+    let after = stepping::stepping(station, seat, walk, registers, stack, asked, out);
     let next = with_walk(state, slot, after.walk);
     print_refusal(b"step ", after.refusal);
     print_bytes(out);

@@ -30,7 +30,7 @@ use Rattle.station.proofs.wrong_seat
 use Rattle.opening.proofs.open_walk
 use Rattle.standing.proofs.checked
 use Rattle.step.proofs.step
-use Rattle.step.proofs.stepping
+use Rattle.stepping.proofs.stepping
 use Rattle.showing.proofs.shown_at
 use Rattle.showing.proofs.show
 use Rattle.show.proofs.show_number
@@ -145,8 +145,8 @@ total-standing-checked c g = refl
 pub total-step-step : Total step.ended (λ M. step.clauses {M = M})
 total-step-step c g = refl
 
-pub total-step-stepping : Total stepping.ended (λ M. stepping.clauses {M = M})
-total-step-stepping c g = refl
+pub total-stepping-stepping : Total stepping.ended (λ M. stepping.clauses {M = M})
+total-stepping-stepping c g = refl
 
 pub total-showing-shown-at : Total shown_at.ended (λ M. shown_at.clauses {M = M})
 total-showing-shown-at c g = refl

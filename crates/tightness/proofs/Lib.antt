@@ -34,6 +34,7 @@ pub mod OfDetach
 pub mod OfWalk
 pub mod OfOpening
 pub mod OfStanding
+pub mod OfStepping
 pub mod OfStep
 pub mod OfShow
 pub mod OfShowing

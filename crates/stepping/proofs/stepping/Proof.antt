@@ -2,9 +2,9 @@
 -- Assumes nothing.
 use borrow.Author.Needs.{needs}
 use denote.Ref.{now}
-use Rattle.step.proofs.Steps.{leaves-refused, leaves-out, reached-here, small-here, copies-here, leaves-moved}
-use Rattle.step.proofs.stepping.Statement.{statement}
-use Rattle.step.proofs.stepping.Tie as tie
+use Rattle.stepping.proofs.Steps.{leaves-refused, leaves-out, reached-here, small-here, copies-here, leaves-moved}
+use Rattle.stepping.proofs.stepping.Statement.{statement}
+use Rattle.stepping.proofs.stepping.Tie as tie
 
 checked-requires : tie.Need-checked-requires
 checked-requires c κs = search needs

@@ -4,9 +4,9 @@ use mathlib.Core.Path.{_∙_}
 use native.Mathlib.Omega.{arith}
 use borrow.Author.Needs.{needs}
 use denote.Ref.{now}
-use Rattle.step.proofs.Copies.{copied-length, copy-one, copy-stack, copy-two}
-use Rattle.step.proofs.copy_out.Statement.{statement}
-use Rattle.step.proofs.copy_out.Tie as tie
+use Rattle.stepping.proofs.Copies.{copied-length, copy-one, copy-stack, copy-two}
+use Rattle.stepping.proofs.copy_out.Statement.{statement}
+use Rattle.stepping.proofs.copy_out.Tie as tie
 
 enum-known-fetch : tie.Need-enum-known-fetch
 enum-known-fetch c = search needs
