@@ -10,7 +10,7 @@ pub fn type_classes(d: &[u8], t: u8) -> ClassesAnswer
     let mut table = [0u32; 64];
     let number = questions::question_refusal_with(d, t, &mut table);
     if number != 0 {
-        return ClassesAnswer::Refused(types::refusal_for(d, number));
+        return ClassesAnswer::Refused(sizes::refusal_for(d, number));
     }
     class_table::fill_classes(d, &mut table);
     let classes = classify::classes_in(&table, t as usize);

@@ -84,7 +84,7 @@ pub fn layout_with(d: &[u8], table: &mut [u32; 64]) -> LayoutAnswer
 {
     let number = uses::uses_refusal_with(d, table);
     if number != 0 {
-        return LayoutAnswer::Refused(types::refusal_for(d, number));
+        return LayoutAnswer::Refused(sizes::refusal_for(d, number));
     }
     class_table::fill_classes(d, table);
     let layout = lay(d, table);

@@ -11,7 +11,7 @@ pub fn run_at(d: &[u8], t: u8) -> RunAnswer
 {
     let number = questions::question_refusal(d, t);
     if number != 0 {
-        return RunAnswer::Refused(types::refusal_for(d, number));
+        return RunAnswer::Refused(sizes::refusal_for(d, number));
     }
     let k = t as usize;
     let kind = description::kind_at(d, k);

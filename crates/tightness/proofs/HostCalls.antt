@@ -4,7 +4,7 @@ use Rattle.tightness.specs.Tight.{Total}
 use Rattle.form_reading.proofs.read_form
 use Rattle.form_reading.proofs.form_refusal
 use Rattle.form.proofs.refusal_of
-use Rattle.types.proofs.types_refusal
+use Rattle.sizes.proofs.types_refusal
 use Rattle.questions.proofs.question_refusal
 use Rattle.questions.proofs.type_size
 use Rattle.questions.proofs.type_align
@@ -67,8 +67,8 @@ total-form-reading-form-refusal c g = refl
 pub total-form-refusal-of : Total refusal_of.ended (λ M. refusal_of.clauses {M = M})
 total-form-refusal-of c g = refl
 
-pub total-types-types-refusal : Total types_refusal.ended (λ M. types_refusal.clauses {M = M})
-total-types-types-refusal c g = refl
+pub total-sizes-types-refusal : Total types_refusal.ended (λ M. types_refusal.clauses {M = M})
+total-sizes-types-refusal c g = refl
 
 pub total-questions-question-refusal : Total question_refusal.ended (λ M. question_refusal.clauses {M = M})
 total-questions-question-refusal c g = refl

@@ -6,6 +6,7 @@ pub mod OfForm
 pub mod OfFormRecords
 pub mod OfFormReading
 pub mod OfTypes
+pub mod OfSizes
 pub mod OfClasses
 pub mod OfClassify
 pub mod OfAggregates

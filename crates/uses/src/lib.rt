@@ -84,7 +84,7 @@ pub fn uses_refusal_with(d: &[u8], table: &mut [u32; 64]) -> u8
         × (now (table .exit) ≡ sizesAfter (now (d .entry)) (now (table .entry)))
         × (usesRefusal (now (d .entry)) ≡ 0 → Sizes (now (d .entry)) (typesIn (now (d .entry))) (now (table .exit))) ⌝ }
 {
-    let number = types::types_refusal_with(d, table);
+    let number = sizes::types_refusal_with(d, table);
     if number != 0 {
         return number;
     }

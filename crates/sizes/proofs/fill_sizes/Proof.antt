@@ -8,20 +8,20 @@ use borrow.Author.Needs.{needs}
 use borrow.Author.Tests.{ltb-false}
 use lib.ListN.{length}
 use denote.Ref.{now}
 use Rattle.types.specs.Basic.{lp64}
 use Rattle.types.specs.Decode.{tyAt}
 use Rattle.types.specs.Large.{large, firstLarge}
 use Rattle.types.specs.Size.{sizeTy}
 use Rattle.types.specs.Table.{entryAt, filled}
 use Rattle.types.proofs.Large.{small-more, sized-next}
 use Rattle.types.proofs.Sizes.{align-high}
 use Rattle.types.proofs.Table.{filled-none, sizes-filled, extent-entry, filled-more}
 use Rattle.description.specs.Description.{typesIn}
 use Rattle.form.specs.Search.{firstFrom}
 use Rattle.form.proofs.Form.{accepted-headed, accepted-counts}
 use Rattle.form.proofs.Search.{search-stop, search-on, search-end}
-use Rattle.types.proofs.fill_sizes.Statement.{statement}
-use Rattle.types.proofs.fill_sizes.Tie as tie
+use Rattle.sizes.proofs.fill_sizes.Statement.{statement}
+use Rattle.sizes.proofs.fill_sizes.Tie as tie
 
 abbrev Inv-loop : tie.InvT-loop
 Inv-loop d table₀ types k₀ table k = (firstFrom (large d) k (types - k) ≡ firstLarge d) × (k ≤ types) × (types ≡ typesIn d) × ((j : ℕ) → j < k → sizeTy lp64 (tyAt d j) ≤ 4096) × (table ≡ filled (entryAt d) k table₀)

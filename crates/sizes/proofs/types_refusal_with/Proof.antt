@@ -5,15 +5,15 @@ use native.Mathlib.Omega.{arith}
 use borrow.Author.Needs.{needs}
 use borrow.Author.Tests.{lt-ltb, le-ltb}
 use denote.Ref.{now}
 use Rattle.types.specs.Large.{large, firstLarge, tooLarge}
 use Rattle.types.proofs.Large.{types-form, types-seven, types-right, accepted-form}
 use Rattle.types.proofs.Table.{sizes-refused, sizes-worked}
 use Rattle.description.specs.Description.{typesIn}
 use Rattle.form.specs.Order.{formRefusal}
 use Rattle.form.proofs.Form.{accepted-headed}
 use Rattle.form.proofs.Search.{first-bound}
-use Rattle.types.proofs.types_refusal_with.Statement.{statement}
-use Rattle.types.proofs.types_refusal_with.Tie as tie
+use Rattle.sizes.proofs.types_refusal_with.Statement.{statement}
+use Rattle.sizes.proofs.types_refusal_with.Tie as tie
 
 form-refusal-requires : tie.Need-form-refusal-requires
 form-refusal-requires c κs = search needs

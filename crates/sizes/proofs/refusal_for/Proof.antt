@@ -4,11 +4,11 @@ use borrow.Author.Needs.{needs}
 use borrow.Author.Tests.{ne-eqb}
 use native.Mathlib.Omega.{arith}
 use Rattle.form.specs.Reading.{refusalBy, refusalOf}
 use Rattle.types.specs.Wrong.{refusalFor}
 use Rattle.types.proofs.Wrong.{no-type}
 use mathlib.Core.Path.{sym, _∙_}
-use Rattle.types.proofs.refusal_for.Statement.{statement}
-use Rattle.types.proofs.refusal_for.Tie as tie
+use Rattle.sizes.proofs.refusal_for.Statement.{statement}
+use Rattle.sizes.proofs.refusal_for.Tie as tie
 
 first-broken-requires : tie.Need-first-broken-requires
 first-broken-requires c κs = c .before .before .pre .whole (c .if1 .taken)
