@@ -2,13 +2,12 @@
 // one into the other.
 use places::Place;
 use places::Register;
-use places::ReturnPlace;
 use places::Used;
 use units::Bytes;
 ghost use mathlib.Core.Path.{_≡_};
 ghost use Prim.Native.Nat.{_≤_};
-ghost use Rattle.flat.specs.Numbers.{generalNumber, vectorNumber, backNumber, registerNumber, returnNumber};
-ghost use Rattle.flat.specs.Records.{slotOf, placementOf, pairOf, layoutOf};
+ghost use Rattle.flat.specs.Numbers.{generalNumber, vectorNumber, registerNumber};
+ghost use Rattle.flat.specs.Records.{slotOf, placementOf};
 
 // cb_classes: a number of enum cb_class for each eightbyte.
 #[repr(C)]
@@ -57,9 +56,9 @@ struct Slot {
 }
 
 // A return place in numbers.
-struct Pair {
-    first: u8,
-    second: u8,
+pub struct Pair {
+    pub first: u8,
+    pub second: u8,
 }
 
 // rdi to r9 are 0 to 5; 255 for a count that no register has.
@@ -73,25 +72,12 @@ fn general_number(n: usize) -> u8
 }
 
 // xmm0 to xmm7 are 16 to 23, their upper halves 32 to 39.
-fn vector_number(first: u8, n: usize) -> u8
+pub fn vector_number(first: u8, n: usize) -> u8
     requires { ⌜ first ≤ 32 ⌝ }
     ensures { λ r. ⌜ r ≡ vectorNumber first n ⌝ }
 {
     if n < 8 {
         return first + n as u8;
-    }
-    255
-}
-
-// rax is 6, and rdx is rdx.
-fn back_number(n: usize) -> u8
-    ensures { λ r. ⌜ r ≡ backNumber n ⌝ }
-{
-    if n == 0 {
-        return 6;
-    }
-    if n == 1 {
-        return 2;
     }
     255
 }
@@ -102,17 +88,6 @@ fn register_number(register: Register) -> u8
 {
     match register {
         Register::General(n) => general_number(n.0),
-        Register::Vector(n) => vector_number(16, n.0),
-        Register::Upper(n) => vector_number(32, n.0),
-    }
-}
-
-// A register of a returned value.
-fn return_number(register: Register) -> u8
-    ensures { λ r. ⌜ r ≡ returnNumber register ⌝ }
-{
-    match register {
-        Register::General(n) => back_number(n.0),
         Register::Vector(n) => vector_number(16, n.0),
         Register::Upper(n) => vector_number(32, n.0),
     }
@@ -156,59 +131,5 @@ pub fn placement_of(argument: arguments::Placement) -> Placement
         ty: argument.ty,
         first: slot.first,
         second: slot.second,
-    }
-}
-
-fn pair_of(place: ReturnPlace) -> Pair
-    ensures { λ r. ⌜ r ≡ pairOf place ⌝ }
-{
-    match place {
-        ReturnPlace::Void => Pair {
-            first: 255,
-            second: 255,
-        },
-        ReturnPlace::Memory => Pair {
-            first: 255,
-            second: 255,
-        },
-        ReturnPlace::One(register) => Pair {
-            first: return_number(register),
-            second: 255,
-        },
-        ReturnPlace::Two(low, high) => Pair {
-            first: return_number(low),
-            second: return_number(high),
-        },
-        ReturnPlace::St0 => Pair {
-            first: 8,
-            second: 255,
-        },
-        ReturnPlace::St0St1 => Pair {
-            first: 8,
-            second: 9,
-        },
-    }
-}
-
-// The flat record of a call with so many arguments.
-pub fn layout_of(whole: layout::Layout, arguments: usize) -> Layout
-    ensures { λ r. ⌜ r ≡ layoutOf whole arguments ⌝ }
-{
-    let used = whole.used;
-    let area = whole.area;
-    let values = whole.values;
-    let named = whole.named;
-    let returns = whole.returns;
-    let pair = pair_of(returns);
-    let hidden = if whole.hidden { 1 } else { 0 };
-    Layout {
-        used: used,
-        area: area,
-        values: values,
-        named: named,
-        arguments: arguments,
-        first: pair.first,
-        second: pair.second,
-        hidden: hidden,
     }
 }

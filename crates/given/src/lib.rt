@@ -115,7 +115,7 @@ pub fn give_layout(d: &[u8], before: Layout) -> GivenLayout
     let answer = layout::layout_of(d);
     match answer {
         LayoutAnswer::Laid(whole) => GivenLayout {
-            layout: flat::layout_of(whole, description::byte_at(d, 8)),
+            layout: flat_layout::layout_of(whole, description::byte_at(d, 8)),
             refusal: form::refusal_of(0),
         },
         LayoutAnswer::Refused(refusal) => GivenLayout {

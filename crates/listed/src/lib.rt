@@ -38,7 +38,7 @@ pub fn begin_list(d: &[u8], before: Layout, room: usize) -> ListBegun
     let used = begun.used;
     match answer {
         LayoutAnswer::Laid(whole) => ListBegun {
-            layout: flat::layout_of(whole, begun.count),
+            layout: flat_layout::layout_of(whole, begun.count),
             refusal: form::refusal_of(0),
             count: begun.count,
             used: used,

@@ -44,6 +44,7 @@ pub mod OfPlaceWords
 pub mod OfLines
 pub mod OfListing
 pub mod OfFlat
+pub mod OfFlatLayout
 pub mod OfGiven
 pub mod OfListed
 pub mod OfHanded

@@ -2,12 +2,12 @@
 use mathlib.Core.Path.{refl}
 use Rattle.tightness.specs.Tight.{Meets, Tight}
 use Rattle.tightness.proofs.Laws.{equal, result}
-use Rattle.flat.proofs.layout_of
-use Rattle.flat.proofs.layout_of.Met as layout-of-met
-use Rattle.flat.proofs.layout_of.Symbol as layout-of-symbol
 use Rattle.flat.proofs.placement_of
 use Rattle.flat.proofs.placement_of.Met as placement-of-met
 use Rattle.flat.proofs.placement_of.Symbol as placement-of-symbol
+use Rattle.flat.proofs.vector_number
+use Rattle.flat.proofs.vector_number.Met as vector-number-met
+use Rattle.flat.proofs.vector_number.Symbol as vector-number-symbol
 
 pub meets-flat-placement-of : Meets placement_of.ended (λ M. placement_of.clauses {M = M}) placement-of-symbol.routine
 meets-flat-placement-of M = placement-of-met.met
@@ -15,8 +15,8 @@ meets-flat-placement-of M = placement-of-met.met
 pub tight-flat-placement-of : Tight placement_of.ended (λ M. placement_of.clauses {M = M})
 tight-flat-placement-of c r q w v a b = (equal (result placement_of.ended c) (a .ensured) (b .ensured), refl)
 
-pub meets-flat-layout-of : Meets layout_of.ended (λ M. layout_of.clauses {M = M}) layout-of-symbol.routine
-meets-flat-layout-of M = layout-of-met.met
+pub meets-flat-vector-number : Meets vector_number.ended (λ M. vector_number.clauses {M = M}) vector-number-symbol.routine
+meets-flat-vector-number M = vector-number-met.met
 
-pub tight-flat-layout-of : Tight layout_of.ended (λ M. layout_of.clauses {M = M})
-tight-flat-layout-of c r q w v a b = (equal (result layout_of.ended c) (a .ensured) (b .ensured), refl)
+pub tight-flat-vector-number : Tight vector_number.ended (λ M. vector_number.clauses {M = M})
+tight-flat-vector-number c r q w v a b = (equal (result vector_number.ended c) (a .ensured) (b .ensured), refl)

@@ -1,9 +1,9 @@
 -- The number of a general register of a returned value.
 -- Assumes nothing.
 use borrow.Author.Tests.{eq-eqb, ne-eqb}
 use Rattle.flat.specs.Numbers.{backNumber}
-use Rattle.flat.proofs.back_number.Statement.{statement}
-use Rattle.flat.proofs.back_number.Tie as tie
+use Rattle.flat_layout.proofs.back_number.Statement.{statement}
+use Rattle.flat_layout.proofs.back_number.Tie as tie
 
 returns : tie.Need-returns
 unfolding backNumber

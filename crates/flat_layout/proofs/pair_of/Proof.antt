@@ -1,8 +1,8 @@
 -- By the return place.
 -- Assumes nothing.
 use borrow.Author.Needs.{needs}
-use Rattle.flat.proofs.pair_of.Statement.{statement}
-use Rattle.flat.proofs.pair_of.Tie as tie
+use Rattle.flat_layout.proofs.pair_of.Statement.{statement}
+use Rattle.flat_layout.proofs.pair_of.Tie as tie
 
 enum-told : tie.Need-enum-told
 enum-told c = search needs

@@ -1,9 +1,9 @@
 -- Field by field.
 -- Assumes nothing.
 use borrow.Author.Needs.{needs}
 use Rattle.flat.specs.Records.{layoutOf}
-use Rattle.flat.proofs.layout_of.Statement.{statement}
-use Rattle.flat.proofs.layout_of.Tie as tie
+use Rattle.flat_layout.proofs.layout_of.Statement.{statement}
+use Rattle.flat_layout.proofs.layout_of.Tie as tie
 
 pair-of-requires : tie.Need-pair-of-requires
 pair-of-requires c κs = search needs
