@@ -107,15 +107,23 @@ pub fn give_run(d: &[u8], asked: u8, before: Part) -> GivenPart
     }
 }
 
-// The call as a whole.
-pub fn give_layout(d: &[u8], before: Layout) -> GivenLayout
-    ensures { λ r. ⌜ (r .refusal ≡ refusalIn (layoutGiven (argumentsIn (now (d .entry))) (layoutAnswer (now (d .entry)))))
-        × (r .layout ≡ leftIn (layoutGiven (argumentsIn (now (d .entry))) (layoutAnswer (now (d .entry)))) before) ⌝ }
+// The number of arguments, of any bytes: 0 where there is no such byte.
+fn arguments_of(d: &[u8]) -> usize
+    ensures { λ r. ⌜ r ≡ argumentsIn (now (d .entry)) ⌝ }
 {
-    let answer = layout::layout_of(d);
+    if d.len() <= 8 {
+        return 0;
+    }
+    description::byte_at(d, 8)
+}
+
+// What a layout's answer gives, for a call with so many arguments. Nothing else makes the flat record of it.
+pub fn layout_given(answer: LayoutAnswer, arguments: usize, before: Layout) -> GivenLayout
+    ensures { λ r. ⌜ (r .refusal ≡ refusalIn (layoutGiven arguments answer)) × (r .layout ≡ leftIn (layoutGiven arguments answer) before) ⌝ }
+{
     match answer {
         LayoutAnswer::Laid(whole) => GivenLayout {
-            layout: flat_layout::layout_of(whole, description::byte_at(d, 8)),
+            layout: flat_layout::layout_of(whole, arguments),
             refusal: form::refusal_of(0),
         },
         LayoutAnswer::Refused(refusal) => GivenLayout {
@@ -123,4 +131,13 @@ pub fn give_layout(d: &[u8], before: Layout) -> GivenLayout
             refusal: refusal,
         },
     }
+}
+
+// The call as a whole.
+pub fn give_layout(d: &[u8], before: Layout) -> GivenLayout
+    ensures { λ r. ⌜ (r .refusal ≡ refusalIn (layoutGiven (argumentsIn (now (d .entry))) (layoutAnswer (now (d .entry)))))
+        × (r .layout ≡ leftIn (layoutGiven (argumentsIn (now (d .entry))) (layoutAnswer (now (d .entry)))) before) ⌝ }
+{
+    let answer = layout::layout_of(d);
+    layout_given(answer, arguments_of(d), before)
 }

@@ -5,6 +5,7 @@ use layout::Layout;
 use places::ReturnPlace;
 use places::Used;
 ghost use Prim.Native.Nat.{_+_, _≤_, _<_};
+ghost use lib.Dec.{eqb};
 ghost use Rattle.text.specs.Written.{Wrote};
 ghost use Rattle.lines.specs.Listing.{headLine, recordLine, typeWords, returnLine, walkLine};
 ghost use Rattle.lines.specs.Asks.{SmallRecord, SmallUsed, SmallLayout};

@@ -56,12 +56,13 @@ module _ (d : List ℕ) (room : ℕ) where
     unfolding listBegun listGiven
     joined a e l f = rw e (λ i. record { layout = l i; refusal = f i; count = (count ∙ count-is) i; used = (used ∙ used-is) i; table = table i })
 
-    -- as the code finds it
-    pub begun-laid : (l : Whole) → b .answer ≡ Laid l → r .layout ≡ layoutOf l (b .count) → r .refusal ≡ refusalOf 0 → r ≡ listBegun d before room
-    begun-laid l a e f = joined (Laid l) (answer-is ∙ a) (e ∙ ap (layoutOf l) (count-is ∙ laid-count l (answer-is ∙ a))) f
-
-    pub begun-refused : (f : Refusal) → b .answer ≡ Refused f → r .layout ≡ before → r .refusal ≡ f → r ≡ listBegun d before room
-    begun-refused f a e g = joined (Refused f) (answer-is ∙ a) e g
+    -- as the code finds it: the summary that the answer gives
+    pub begun-given : r .refusal ≡ refusalIn (layoutGiven (b .count) (b .answer)) → r .layout ≡ leftIn (layoutGiven (b .count) (b .answer)) before → r ≡ listBegun d before room
+    begun-given f e = by (b .answer) refl f e
+      where
+        by : (a : LayoutAnswer) → b .answer ≡ a → r .refusal ≡ refusalIn (layoutGiven (b .count) a) → r .layout ≡ leftIn (layoutGiven (b .count) a) before → r ≡ listBegun d before room
+        by (Laid l) a g h = joined (Laid l) (answer-is ∙ a) (h ∙ ap (layoutOf l) (count-is ∙ laid-count l (answer-is ∙ a))) g
+        by (Refused x) a g h = joined (Refused x) (answer-is ∙ a) h g
 
   -- the turns of the loop
   module _ (before : Layout) where

@@ -2,7 +2,6 @@
 use flat::Layout;
 use flat::Placement;
 use form::Refusal;
-use layout::LayoutAnswer;
 use places::Used;
 ghost use mathlib.Core.Path.{_≡_};
 ghost use Prim.Native.Nat.{_≤_};
@@ -36,21 +35,15 @@ pub fn begin_list(d: &[u8], before: Layout, room: usize) -> ListBegun
     let begun = begun::begin_with(d, room, &mut table);
     let answer = begun.answer;
     let used = begun.used;
-    match answer {
-        LayoutAnswer::Laid(whole) => ListBegun {
-            layout: flat_layout::layout_of(whole, begun.count),
-            refusal: form::refusal_of(0),
-            count: begun.count,
-            used: used,
-            table: table,
-        },
-        LayoutAnswer::Refused(refusal) => ListBegun {
-            layout: before,
-            refusal: refusal,
-            count: begun.count,
-            used: used,
-            table: table,
-        },
+    let given = given::layout_given(answer, begun.count, before);
+    let layout = given.layout;
+    let refusal = given.refusal;
+    ListBegun {
+        layout: layout,
+        refusal: refusal,
+        count: begun.count,
+        used: used,
+        table: table,
     }
 }
 
