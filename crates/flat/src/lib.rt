@@ -61,6 +61,13 @@ pub struct Pair {
     pub second: u8,
 }
 
+// CB_VERSION: the version of the header that has these records.
+pub fn version() -> u32
+    ensures { λ r. ⌜ r ≡ 2 ⌝ }
+{
+    2
+}
+
 // rdi to r9 are 0 to 5; 255 for a count that no register has.
 fn general_number(n: usize) -> u8
     ensures { λ r. ⌜ r ≡ generalNumber n ⌝ }

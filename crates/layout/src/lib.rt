@@ -54,7 +54,6 @@ fn lay(d: &[u8], table: &[u32; 64]) -> Layout
 {
     let named = description::byte_at(d, 7);
     let arguments = description::byte_at(d, 8);
-    let returns = arguments::return_of(d, table);
     let hidden = arguments::hidden_of(d, table);
     let before = Laying {
         used: places::fresh(hidden),
@@ -66,6 +65,7 @@ fn lay(d: &[u8], table: &[u32; 64]) -> Layout
     let used = all.used;
     let values = all.values;
     let area = units::raise_to(Bytes(16), used.stack);
+    let returns = arguments::return_of(d, table);
     Layout {
         used: used,
         area: area,
