@@ -43,7 +43,7 @@ pub fn give_extent(d: &[u8], asked: u8, before: Extent) -> GivenExtent
     ensures { λ r. ⌜ (r .refusal ≡ refusalIn (extentGiven (extentAnswer (now (d .entry)) asked)))
         × (r .extent ≡ leftIn (extentGiven (extentAnswer (now (d .entry)) asked)) before) ⌝ }
 {
-    let answer = questions::type_extent(d, asked);
+    let answer = extent_questions::type_extent(d, asked);
     match answer {
         ExtentAnswer::Known(extent) => GivenExtent {
             extent: extent,

@@ -6,9 +6,9 @@ use Rattle.form_reading.proofs.form_refusal
 use Rattle.form.proofs.refusal_of
 use Rattle.sizes.proofs.types_refusal
 use Rattle.questions.proofs.question_refusal
-use Rattle.questions.proofs.type_size
-use Rattle.questions.proofs.type_align
-use Rattle.questions.proofs.type_extent
+use Rattle.extent_questions.proofs.type_size
+use Rattle.extent_questions.proofs.type_align
+use Rattle.extent_questions.proofs.type_extent
 use Rattle.class_question.proofs.type_classes
 use Rattle.run_questions.proofs.run_at
 use Rattle.run_questions.proofs.member_run
@@ -73,14 +73,14 @@ total-sizes-types-refusal c g = refl
 pub total-questions-question-refusal : Total question_refusal.ended (λ M. question_refusal.clauses {M = M})
 total-questions-question-refusal c g = refl
 
-pub total-questions-type-size : Total type_size.ended (λ M. type_size.clauses {M = M})
-total-questions-type-size c g = refl
+pub total-extent-questions-type-size : Total type_size.ended (λ M. type_size.clauses {M = M})
+total-extent-questions-type-size c g = refl
 
-pub total-questions-type-align : Total type_align.ended (λ M. type_align.clauses {M = M})
-total-questions-type-align c g = refl
+pub total-extent-questions-type-align : Total type_align.ended (λ M. type_align.clauses {M = M})
+total-extent-questions-type-align c g = refl
 
-pub total-questions-type-extent : Total type_extent.ended (λ M. type_extent.clauses {M = M})
-total-questions-type-extent c g = refl
+pub total-extent-questions-type-extent : Total type_extent.ended (λ M. type_extent.clauses {M = M})
+total-extent-questions-type-extent c g = refl
 
 pub total-class-question-type-classes : Total type_classes.ended (λ M. type_classes.clauses {M = M})
 total-class-question-type-classes c g = refl

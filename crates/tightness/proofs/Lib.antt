@@ -12,6 +12,7 @@ pub mod OfClassify
 pub mod OfAggregates
 pub mod OfClassTable
 pub mod OfQuestions
+pub mod OfExtentQuestions
 pub mod OfClassQuestion
 pub mod OfRunQuestions
 pub mod OfUses
