@@ -126,7 +126,7 @@ fn place_all(
         let size = extent.size;
         let placed = next_place(used, table, k, extent);
         let place = placed.place;
-        images::place_one(registers, stack, place, size, values, start);
+        argument_bytes::place_one(registers, stack, place, size, values, start);
         start = units::plus(start, size);
         used = placed.used;
         i += 1;
@@ -174,7 +174,7 @@ pub fn gather_all(
         let size = extent.size;
         let placed = next_place(used, table, k, extent);
         let place = placed.place;
-        images::gather_one(registers, stack, place, size, values, start);
+        argument_bytes::gather_one(registers, stack, place, size, values, start);
         start = units::plus(start, size);
         used = placed.used;
         i += 1;

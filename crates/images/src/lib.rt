@@ -1,22 +1,18 @@
-// The two images, and how one argument's bytes go into them and out again (document 01, "Images and moving bytes"). A register's
-// address in its image stands here and nowhere else.
-use places::Place;
+// The two images (document 01, "Images and moving bytes"): bytes copied between a buffer and an image, the hidden address in rdi. A
+// register's address in its image stands here and nowhere else.
 use places::Register;
 use units::Bytes;
 ghost use mathlib.Core.Path.{_≡_};
-ghost use mathlib.Core.List.{_++_};
 ghost use Prim.Native.Nat.{_+_, _*_, _^_, _≤_, _<_};
 ghost use lib.ListN.{length};
-ghost use Rattle.addresses.specs.Addresses.{run, gather, scatter};
 ghost use Rattle.addresses.specs.Copy.{copied};
 ghost use Rattle.description.specs.Description.{wordAt};
-ghost use Rattle.places.specs.Images.{addressOf, bytesOf};
-ghost use Rattle.places.specs.Recorded.{placeOf};
+ghost use Rattle.places.specs.Images.{addressOf};
 ghost use Rattle.images.specs.Words.{withAddress, addressIn};
-ghost use Rattle.images.specs.Asks.{Known, AskMove};
+ghost use Rattle.images.specs.Asks.{Known};
 
 // Where a register's eightbyte begins in the register image.
-fn address_of(register: Register) -> Bytes
+pub fn address_of(register: Register) -> Bytes
     requires { ⌜ Known register ⌝ }
     ensures { λ r. ⌜ r .0 ≡ addressOf register ⌝ }
 {
@@ -38,7 +34,7 @@ fn copy_eight(dst: &mut [u8], to: Bytes, src: &[u8], from: Bytes)
 }
 
 // Copies count bytes: here offsets become indices. Most arguments have eight.
-fn copy_bytes(dst: &mut [u8], to: Bytes, src: &[u8], from: Bytes, count: Bytes)
+pub fn copy_bytes(dst: &mut [u8], to: Bytes, src: &[u8], from: Bytes, count: Bytes)
     requires { ⌜ (to .0 + count .0 ≤ length (now dst)) × (from .0 + count .0 ≤ length (now src)) ⌝ }
     ensures { λ _. ⌜ now (dst .exit) ≡ copied (now (dst .entry)) (to .0) (now (src .entry)) (from .0) (count .0) ⌝ }
 {
@@ -47,66 +43,6 @@ fn copy_bytes(dst: &mut [u8], to: Bytes, src: &[u8], from: Bytes, count: Bytes)
         return;
     }
     addresses::copy(dst, to.0, src, from.0, count.0);
-}
-
-// Places one argument: size bytes of the values, from `at` on.
-pub fn place_one(
-    registers: &mut [u8],
-    stack: &mut [u8],
-    place: Place,
-    size: Bytes,
-    values: &[u8],
-    at: Bytes,
-)
-    requires { ⌜ AskMove place (size .0) (at .0) (length (now registers)) (length (now stack)) (length (now values)) ⌝ }
-    ensures { λ _. ⌜ now (registers .exit) ++ now (stack .exit)
-        ≡ scatter (now (registers .entry) ++ now (stack .entry)) (bytesOf (placeOf place) (size .0)) (gather (now (values .entry)) (run (at .0) (size .0))) ⌝ }
-{
-    match place {
-        Place::One(only) => copy_bytes(registers, address_of(only), values, at, size),
-        Place::Two(low, high) => {
-            copy_bytes(registers, address_of(low), values, at, Bytes(8));
-            let rest = units::minus(size, Bytes(8));
-            copy_bytes(
-                registers,
-                address_of(high),
-                values,
-                units::plus(at, Bytes(8)),
-                rest,
-            );
-        }
-        Place::Stack(offset) => copy_bytes(stack, offset, values, at, size),
-    }
-}
-
-// Gathers one argument: its size bytes into the values, from `at` on.
-pub fn gather_one(
-    registers: &[u8],
-    stack: &[u8],
-    place: Place,
-    size: Bytes,
-    values: &mut [u8],
-    at: Bytes,
-)
-    requires { ⌜ AskMove place (size .0) (at .0) (length (now registers)) (length (now stack)) (length (now values)) ⌝ }
-    ensures { λ _. ⌜ now (values .exit)
-        ≡ scatter (now (values .entry)) (run (at .0) (size .0)) (gather (now (registers .entry) ++ now (stack .entry)) (bytesOf (placeOf place) (size .0))) ⌝ }
-{
-    match place {
-        Place::One(only) => copy_bytes(values, at, registers, address_of(only), size),
-        Place::Two(low, high) => {
-            copy_bytes(values, at, registers, address_of(low), Bytes(8));
-            let rest = units::minus(size, Bytes(8));
-            copy_bytes(
-                values,
-                units::plus(at, Bytes(8)),
-                registers,
-                address_of(high),
-                rest,
-            );
-        }
-        Place::Stack(offset) => copy_bytes(values, at, stack, offset, size),
-    }
 }
 
 // Writes the hidden address into rdi, little-endian.

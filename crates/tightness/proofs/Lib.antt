@@ -24,6 +24,7 @@ pub mod OfLayout
 pub mod OfBegun
 pub mod OfLists
 pub mod OfImages
+pub mod OfArgumentBytes
 pub mod OfFilling
 pub mod OfLent
 pub mod OfMoving

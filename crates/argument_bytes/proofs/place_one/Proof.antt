@@ -2,9 +2,9 @@
 -- Assumes nothing.
 use native.Mathlib.Omega.{arith}
 use borrow.Author.Needs.{needs}
 use Rattle.images.proofs.Moves.{ask-one, ask-two, room-one, room-low, room-high, room-stack, placed-one, placed-stack, placed-two}
-use Rattle.images.proofs.place_one.Statement.{statement}
-use Rattle.images.proofs.place_one.Tie as tie
+use Rattle.argument_bytes.proofs.place_one.Statement.{statement}
+use Rattle.argument_bytes.proofs.place_one.Tie as tie
 
 enum-known-place : tie.Need-enum-known-place
 enum-known-place c = search needs
