@@ -16,7 +16,7 @@ pub fn give_put(d: &[u8], hidden: u64, value: &[u8], image: &mut [u8]) -> Refusa
     ensures { λ r. ⌜ (r ≡ putGiven (putAnswer (now (d .entry)) (now (value .entry)) (length (now (image .entry)))))
         × (now (image .exit) ≡ imageAfter (now (d .entry)) hidden (now (value .entry)) (now (image .entry))) ⌝ }
 {
-    let answer = returning::put_returned(d, hidden, value, image);
+    let answer = putting::put_returned(d, hidden, value, image);
     match answer {
         PutAnswer::Put => form::refusal_of(0),
         PutAnswer::Refused(refusal) => refusal,
@@ -29,7 +29,7 @@ pub fn give_taken(d: &[u8], image: &[u8], value: &mut [u8], held: Gathered) -> G
         × ((r .gathered ≡ leftIn (takenGiven (takeAnswer (now (d .entry)) (now (image .entry)) (length (now (value .entry))))) held)
         × (now (value .exit) ≡ valueAfter (now (d .entry)) (now (image .entry)) (now (value .entry)))) ⌝ }
 {
-    let answer = returning::take_returned(d, image, value);
+    let answer = taking::take_returned(d, image, value);
     match answer {
         TakeAnswer::Taken(address) => GivenGathered {
             gathered: Gathered { hidden: address },

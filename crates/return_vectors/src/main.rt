@@ -72,13 +72,13 @@ fn fill(out: &mut [u8]) {
 
 // Puts, and takes from the image as it is then, whether or not putting was refused.
 fn answer(d: &[u8], hidden: u64, value: &[u8], image: &mut [u8], out: &mut [u8]) {
-    match returning::put_returned(d, hidden, value, image) {
+    match putting::put_returned(d, hidden, value, image) {
         PutAnswer::Put => print(b"put\n"),
         PutAnswer::Refused(refusal) => print_refusal(refusal),
     }
     print_bytes(b"image", image);
     fill(out);
-    match returning::take_returned(d, image, out) {
+    match taking::take_returned(d, image, out) {
         TakeAnswer::Taken(address) => print_number(b"taken ", address),
         TakeAnswer::Refused(refusal) => print_refusal(refusal),
     }

@@ -19,8 +19,8 @@ use Rattle.lists.proofs.lay_out
 use Rattle.lists.proofs.begin
 use Rattle.moving.proofs.place_values
 use Rattle.moving.proofs.gather_values
-use Rattle.returning.proofs.put_returned
-use Rattle.returning.proofs.take_returned
+use Rattle.putting.proofs.put_returned
+use Rattle.taking.proofs.take_returned
 use Rattle.station.proofs.new_station
 use Rattle.attach.proofs.attach
 use Rattle.attach.proofs.attaching
@@ -112,11 +112,11 @@ total-moving-place-values c g = refl
 pub total-moving-gather-values : Total gather_values.ended (λ M. gather_values.clauses {M = M})
 total-moving-gather-values c g = refl
 
-pub total-returning-put-returned : Total put_returned.ended (λ M. put_returned.clauses {M = M})
-total-returning-put-returned c g = refl
+pub total-putting-put-returned : Total put_returned.ended (λ M. put_returned.clauses {M = M})
+total-putting-put-returned c g = refl
 
-pub total-returning-take-returned : Total take_returned.ended (λ M. take_returned.clauses {M = M})
-total-returning-take-returned c g = refl
+pub total-taking-take-returned : Total take_returned.ended (λ M. take_returned.clauses {M = M})
+total-taking-take-returned c g = refl
 
 pub total-station-new-station : Total new_station.ended (λ M. new_station.clauses {M = M})
 total-station-new-station c g = refl

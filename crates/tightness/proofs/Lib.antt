@@ -31,6 +31,8 @@ pub mod OfMoving
 pub mod OfReturnImage
 pub mod OfReturnValues
 pub mod OfReturning
+pub mod OfPutting
+pub mod OfTaking
 pub mod OfStation
 pub mod OfAttach
 pub mod OfDetach

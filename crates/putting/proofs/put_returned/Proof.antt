@@ -2,10 +2,10 @@
 -- Assumes nothing.
 use mathlib.Core.Path.{sym, ap, _∙_}
 use borrow.Author.Needs.{needs}
 use Rattle.returning.proofs.Answers.{laid-right, laid-place, laid-wrong, laid-lent, laid-returnable, put-laid-not, put-wrong-length, put-wrong-bool, put-done}
 use Rattle.layout.specs.Layout.{refusalIn}
-use Rattle.returning.proofs.put_returned.Statement.{statement}
-use Rattle.returning.proofs.put_returned.Tie as tie
+use Rattle.putting.proofs.put_returned.Statement.{statement}
+use Rattle.putting.proofs.put_returned.Tie as tie
 
 layout-with-requires : tie.Need-layout-with-requires
 layout-with-requires c κs = search needs

@@ -2,10 +2,10 @@
 -- Assumes nothing.
 use mathlib.Core.Path.{sym, ap, _∙_}
 use borrow.Author.Needs.{needs}
 use Rattle.returning.proofs.Answers.{laid-right, laid-place, laid-wrong, laid-lent, laid-returnable, take-laid-not, take-wrong-length, take-done}
 use Rattle.layout.specs.Layout.{refusalIn}
-use Rattle.returning.proofs.take_returned.Statement.{statement}
-use Rattle.returning.proofs.take_returned.Tie as tie
+use Rattle.taking.proofs.take_returned.Statement.{statement}
+use Rattle.taking.proofs.take_returned.Tie as tie
 
 layout-with-requires : tie.Need-layout-with-requires
 layout-with-requires c κs = search needs
