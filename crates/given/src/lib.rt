@@ -1,22 +1,18 @@
-// What the questions and the layout of the C interface give, by value: the refusal, number 0 for none, and the lent record at exit,
+// What the questions of the C interface give, by value: the refusal, number 0 for none, and the lent record at exit,
 // which a refusal leaves as it was (document 01, "A refusal returns its number only and writes nothing").
 use flat::Classes;
-use flat::Layout;
 use flat::Part;
 use form::Refusal;
-use layout::LayoutAnswer;
 use questions::ClassesAnswer;
 use questions::ExtentAnswer;
 use questions::RunAnswer;
 use types::Extent;
 use units::Bytes;
 ghost use mathlib.Core.Path.{_≡_};
-ghost use Rattle.description.specs.Description.{argumentsIn};
 ghost use Rattle.questions.specs.Questions.{extentAnswer};
 ghost use Rattle.questions.specs.Runs.{classesAnswer, runAnswer};
-ghost use Rattle.layout.specs.Layout.{layoutAnswer};
 ghost use Rattle.given.specs.Outcome.{refusalIn, leftIn};
-ghost use Rattle.given.specs.Given.{extentGiven, classesGiven, runGiven, layoutGiven};
+ghost use Rattle.given.specs.Given.{extentGiven, classesGiven, runGiven};
 
 pub struct GivenExtent {
     pub extent: Extent,
@@ -30,11 +26,6 @@ pub struct GivenClasses {
 
 pub struct GivenPart {
     pub part: Part,
-    pub refusal: Refusal,
-}
-
-pub struct GivenLayout {
-    pub layout: Layout,
     pub refusal: Refusal,
 }
 
@@ -105,39 +96,4 @@ pub fn give_run(d: &[u8], asked: u8, before: Part) -> GivenPart
             refusal: refusal,
         },
     }
-}
-
-// The number of arguments, of any bytes: 0 where there is no such byte.
-fn arguments_of(d: &[u8]) -> usize
-    ensures { λ r. ⌜ r ≡ argumentsIn (now (d .entry)) ⌝ }
-{
-    if d.len() <= 8 {
-        return 0;
-    }
-    description::byte_at(d, 8)
-}
-
-// What a layout's answer gives, for a call with so many arguments. Nothing else makes the flat record of it.
-pub fn layout_given(answer: LayoutAnswer, arguments: usize, before: Layout) -> GivenLayout
-    ensures { λ r. ⌜ (r .refusal ≡ refusalIn (layoutGiven arguments answer)) × (r .layout ≡ leftIn (layoutGiven arguments answer) before) ⌝ }
-{
-    match answer {
-        LayoutAnswer::Laid(whole) => GivenLayout {
-            layout: flat_layout::layout_of(whole, arguments),
-            refusal: form::refusal_of(0),
-        },
-        LayoutAnswer::Refused(refusal) => GivenLayout {
-            layout: before,
-            refusal: refusal,
-        },
-    }
-}
-
-// The call as a whole.
-pub fn give_layout(d: &[u8], before: Layout) -> GivenLayout
-    ensures { λ r. ⌜ (r .refusal ≡ refusalIn (layoutGiven (argumentsIn (now (d .entry))) (layoutAnswer (now (d .entry)))))
-        × (r .layout ≡ leftIn (layoutGiven (argumentsIn (now (d .entry))) (layoutAnswer (now (d .entry)))) before) ⌝ }
-{
-    let answer = layout::layout_of(d);
-    layout_given(answer, arguments_of(d), before)
 }

@@ -10,8 +10,8 @@ ghost use Rattle.layout.specs.Verdict.{verdict};
 ghost use Rattle.arguments.specs.Asks.{AskArgument};
 ghost use Rattle.listed.specs.Lists.{listBegun, flatStep};
 
-// Before the first record of a list: what `given::GivenLayout` says, how many records there are, none for a refusal, what is used, and the
-// table that the records are made by.
+// Before the first record of a list: what `given_layout::GivenLayout` says, how many records there are, none for a refusal, what is used,
+// and the table that the records are made by.
 pub struct ListBegun {
     pub layout: Layout,
     pub refusal: Refusal,
@@ -35,7 +35,7 @@ pub fn begin_list(d: &[u8], before: Layout, room: usize) -> ListBegun
     let begun = begun::begin_with(d, room, &mut table);
     let answer = begun.answer;
     let used = begun.used;
-    let given = given::layout_given(answer, begun.count, before);
+    let given = given_layout::layout_given(answer, begun.count, before);
     let layout = given.layout;
     let refusal = given.refusal;
     ListBegun {

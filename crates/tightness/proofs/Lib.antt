@@ -50,6 +50,7 @@ pub mod OfListing
 pub mod OfFlat
 pub mod OfFlatLayout
 pub mod OfGiven
+pub mod OfGivenLayout
 pub mod OfListed
 pub mod OfHanded
 pub mod OfBrought

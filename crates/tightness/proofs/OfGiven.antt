@@ -8,12 +8,6 @@ use Rattle.given.proofs.give_classes.Symbol as give-classes-symbol
 use Rattle.given.proofs.give_extent
 use Rattle.given.proofs.give_extent.Met as give-extent-met
 use Rattle.given.proofs.give_extent.Symbol as give-extent-symbol
-use Rattle.given.proofs.layout_given
-use Rattle.given.proofs.layout_given.Met as layout-given-met
-use Rattle.given.proofs.layout_given.Symbol as layout-given-symbol
-use Rattle.given.proofs.give_layout
-use Rattle.given.proofs.give_layout.Met as give-layout-met
-use Rattle.given.proofs.give_layout.Symbol as give-layout-symbol
 use Rattle.given.proofs.give_run
 use Rattle.given.proofs.give_run.Met as give-run-met
 use Rattle.given.proofs.give_run.Symbol as give-run-symbol
@@ -35,15 +29,3 @@ meets-given-give-run M = give-run-met.met
 
 pub tight-given-give-run : Tight give_run.ended (λ M. give_run.clauses {M = M})
 tight-given-give-run c r q w v a b = (settle (result give_run.ended c) (a .ensured) (b .ensured) (λ e f i. record { refusal = (e .0 ∙ sym (f .0)) i; part = (e .1 ∙ sym (f .1)) i }), refl)
-
-pub meets-given-layout-given : Meets layout_given.ended (λ M. layout_given.clauses {M = M}) layout-given-symbol.routine
-meets-given-layout-given M = layout-given-met.met
-
-pub tight-given-layout-given : Tight layout_given.ended (λ M. layout_given.clauses {M = M})
-tight-given-layout-given c r q w v a b = (settle (result layout_given.ended c) (a .ensured) (b .ensured) (λ e f i. record { refusal = (e .0 ∙ sym (f .0)) i; layout = (e .1 ∙ sym (f .1)) i }), refl)
-
-pub meets-given-give-layout : Meets give_layout.ended (λ M. give_layout.clauses {M = M}) give-layout-symbol.routine
-meets-given-give-layout M = give-layout-met.met
-
-pub tight-given-give-layout : Tight give_layout.ended (λ M. give_layout.clauses {M = M})
-tight-given-give-layout c r q w v a b = (settle (result give_layout.ended c) (a .ensured) (b .ensured) (λ e f i. record { refusal = (e .0 ∙ sym (f .0)) i; layout = (e .1 ∙ sym (f .1)) i }), refl)

@@ -2,8 +2,8 @@
 -- Assumes nothing.
 use mathlib.Core.Path.{refl}
 use borrow.Author.Needs.{needs}
-use Rattle.given.proofs.layout_given.Statement.{statement}
-use Rattle.given.proofs.layout_given.Tie as tie
+use Rattle.given_layout.proofs.layout_given.Statement.{statement}
+use Rattle.given_layout.proofs.layout_given.Tie as tie
 
 enum-known-answer : tie.Need-enum-known-answer
 enum-known-answer c = search needs

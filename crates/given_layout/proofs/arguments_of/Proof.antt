@@ -5,8 +5,8 @@ use lib.ListN.{List·getD-eq-default}
 use native.Mathlib.Omega.{arith}
 use borrow.Author.Needs.{needs}
 use denote.Ref.{now}
-use Rattle.given.proofs.arguments_of.Statement.{statement}
-use Rattle.given.proofs.arguments_of.Tie as tie
+use Rattle.given_layout.proofs.arguments_of.Statement.{statement}
+use Rattle.given_layout.proofs.arguments_of.Tie as tie
 
 returns : tie.Need-returns
 returns c = sym (List·getD-eq-default (now (c .before .before .args .d)) 0 {n = 8} (omega (arith, c .if1 .taken)))
