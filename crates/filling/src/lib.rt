@@ -75,7 +75,7 @@ fn next_place(used: Used, table: &[u32; 64], k: usize, extent: Extent) -> Placed
         Lone::Other => placing::place_next(used, places::shape_in(table, k)),
         Lone::General => {
             if !units::at_most(general, Registers(5)) {
-                return places::on_stack(used, extent.size, extent.align);
+                return stack_places::on_stack(used, extent.size, extent.align);
             }
             Placed {
                 place: Place::One(Register::General(general)),
@@ -88,7 +88,7 @@ fn next_place(used: Used, table: &[u32; 64], k: usize, extent: Extent) -> Placed
         }
         Lone::Vector => {
             if !units::at_most(vector, Registers(7)) {
-                return places::on_stack(used, extent.size, extent.align);
+                return stack_places::on_stack(used, extent.size, extent.align);
             }
             Placed {
                 place: Place::One(Register::Vector(vector)),

@@ -4,13 +4,12 @@ use units::Bytes;
 use units::Registers;
 ghost use mathlib.Core.Path.{_≡_};
 ghost use mathlib.Core.List.{[], _∷_};
-ghost use Prim.Native.Nat.{_^_, _≤_, _<_, max};
+ghost use Prim.Native.Nat.{_<_};
 ghost use lib.ListN.{getD};
-ghost use Rattle.units.specs.Raise.{raise};
 ghost use Rattle.places.specs.Shapes.{kindsOf, shapeIn};
 ghost use Rattle.places.specs.Places.{fresh};
 ghost use Rattle.places.specs.Recorded.{listed, asked};
-ghost use Rattle.places.specs.Steps.{eightbyteOf, stackedAt};
+ghost use Rattle.places.specs.Steps.{eightbyteOf};
 
 // What an eightbyte asks for: INTEGER, SSE, SSEUP.
 pub enum Kind {
@@ -154,35 +153,5 @@ pub fn fresh(hidden: bool) -> Used
         general: general,
         vector: Registers(0),
         stack: Bytes(0),
-    }
-}
-
-// "The lowest offset, after the one before, that is a multiple of 8 and of its alignment".
-fn stack_start(end: Bytes, align: Bytes) -> Bytes
-    requires { ⌜ (end .0 ≤ 2 ^ 20) × (align .0 ≤ 16) ⌝ }
-    ensures { λ r. ⌜ r .0 ≡ raise (max 8 (align .0)) (end .0) ⌝ }
-{
-    if units::over(align, Bytes(8)) {
-        return units::raise_to(align, end);
-    }
-    units::raise_to(Bytes(8), end)
-}
-
-// On the stack: "the lowest offset, after the one before, that is a multiple of 8 and of its alignment; the room it takes is rounded up to 8".
-pub fn on_stack(used: Used, size: Bytes, align: Bytes) -> Placed
-    requires { ⌜ (used .stack .0 ≤ 2 ^ 20) × (size .0 ≤ 4096) × (align .0 ≤ 16) ⌝ }
-    ensures { λ r. ⌜ r ≡ stackedAt used (size .0) (align .0) ⌝ }
-{
-    let general = used.general;
-    let vector = used.vector;
-    let offset = stack_start(used.stack, align);
-    let end = units::raise_to(Bytes(8), units::plus(offset, size));
-    Placed {
-        place: Place::Stack(offset),
-        used: Used {
-            general: general,
-            vector: vector,
-            stack: end,
-        },
     }
 }

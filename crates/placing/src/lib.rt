@@ -102,7 +102,7 @@ pub fn place_next(used: Used, shape: Shape) -> Placed
     let align = shape.align;
     let answer = in_registers(used, kinds);
     let Found::Here(placed) = answer else {
-        return places::on_stack(used, size, align);
+        return stack_places::on_stack(used, size, align);
     };
     placed
 }
@@ -131,7 +131,7 @@ fn use_stack(used: Used, table: &[u32; 64], k: usize) -> Used
     ensures { λ r. ⌜ r ≡ stacking used (shapeIn (getD (now (table .entry)) k 0)) ⌝ }
 {
     let extent = types::extent_in(table, k);
-    places::on_stack(used, extent.size, extent.align).used
+    stack_places::on_stack(used, extent.size, extent.align).used
 }
 
 // What is used after an argument of type k, as `place_next` says it, without the place.

@@ -17,6 +17,7 @@ pub mod OfClassQuestion
 pub mod OfRunQuestions
 pub mod OfUses
 pub mod OfPlaces
+pub mod OfStackPlaces
 pub mod OfPlacing
 pub mod OfReturnPlaces
 pub mod OfArguments

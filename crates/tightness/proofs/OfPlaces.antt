@@ -12,9 +12,6 @@ use Rattle.places.proofs.shape_in.Symbol as shape-in-symbol
 use Rattle.places.proofs.kinds_of
 use Rattle.places.proofs.kinds_of.Met as kinds-of-met
 use Rattle.places.proofs.kinds_of.Symbol as kinds-of-symbol
-use Rattle.places.proofs.on_stack
-use Rattle.places.proofs.on_stack.Met as on-stack-met
-use Rattle.places.proofs.on_stack.Symbol as on-stack-symbol
 
 pub meets-places-shape-in : Meets shape_in.ended (λ M. shape_in.clauses {M = M}) shape-in-symbol.routine
 meets-places-shape-in M = shape-in-met.met
@@ -33,9 +30,3 @@ meets-places-kinds-of M = kinds-of-met.met
 
 pub tight-places-kinds-of : Tight kinds_of.ended (λ M. kinds_of.clauses {M = M})
 tight-places-kinds-of c r q w v a b = (settle (result kinds_of.ended c) (a .ensured) (b .ensured) (λ e f. listed-same r q (e ∙ sym f)), refl)
-
-pub meets-places-on-stack : Meets on_stack.ended (λ M. on_stack.clauses {M = M}) on-stack-symbol.routine
-meets-places-on-stack M = on-stack-met.met
-
-pub tight-places-on-stack : Tight on_stack.ended (λ M. on_stack.clauses {M = M})
-tight-places-on-stack c r q w v a b = (equal (result on_stack.ended c) (a .ensured) (b .ensured), refl)

@@ -6,8 +6,8 @@ use native.Mathlib.Omega.{arith}
 use borrow.Author.Tests.{ltb-true, ltb-false}
 use Rattle.units.specs.Raise.{raise}
 use borrow.Author.Needs.{needs}
-use Rattle.places.proofs.stack_start.Statement.{statement}
-use Rattle.places.proofs.stack_start.Tie as tie
+use Rattle.stack_places.proofs.stack_start.Statement.{statement}
+use Rattle.stack_places.proofs.stack_start.Tie as tie
 
 wide-max : (a : ℕ) → 8 < a → a ≡ max 8 a
 wide-max a l = omega arith

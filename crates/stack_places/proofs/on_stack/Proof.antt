@@ -5,10 +5,10 @@ use Prim.Native.Nat.{max}
 use native.Mathlib.Omega.{arith}
 use Rattle.units.specs.Raise.{raise}
 use Rattle.units.proofs.Raise.{raise-below}
 use Rattle.places.proofs.Records.{stacked-is}
 use borrow.Author.Needs.{needs}
-use Rattle.places.proofs.on_stack.Statement.{statement}
-use Rattle.places.proofs.on_stack.Tie as tie
+use Rattle.stack_places.proofs.on_stack.Statement.{statement}
+use Rattle.stack_places.proofs.on_stack.Tie as tie
 
 stack-start-requires : tie.Need-stack-start-requires
 stack-start-requires c κs = search needs
