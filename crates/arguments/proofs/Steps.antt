@@ -1,8 +1,8 @@
--- What the functions of the layout answer, from what they call. Assumes nothing.
+-- What the functions answer, from what they call. Assumes nothing.
 use mathlib.Core.Path.{_≡_, refl, sym, ap, _∙_}
 use mathlib.Core.Bool.{Bool, true, false, cond, not, _&&_}
 use mathlib.Core.List.{List, [], _∷_}
-use Prim.Native.Nat.{ℕ, _<_}
+use Prim.Native.Nat.{ℕ, _/_, _<_}
 use native.Mathlib.Omega.{arith}
 use borrow.Author.Tests.{eq-eqb, ne-eqb}
 use lib.ListN.{length, getD}
@@ -27,7 +27,7 @@ use Rattle.places.proofs.Records.{place-is, shape-known}
 use Rattle.places.proofs.Asking.{asking-known}
 use Rattle.types.specs.Table.{IsEntry}
 use Rattle.types.specs.declared.Extent.{Extent}
-use Rattle.classify.specs.Table.{Tabled}
+use Rattle.classify.specs.Table.{unpackedOf, Tabled}
 use Rattle.classify.proofs.Lengths.{length-classes}
 use Rattle.arguments.specs.Arguments.{shapeAt, isVoid, returnClasses, returnPlace, hidden}
 use Rattle.arguments.specs.Asks.{AskArgument}
@@ -44,6 +44,10 @@ module _ (d : List ℕ) where
 
   pub return-known : usesRefusal d ≡ 0 → (returnIn d ≡ 255 → ⊥) → returnIn d < typesIn d
   return-known right n = right-below d (returnIn d) (accepted-return d right (ne-eqb (returnIn d) 255 n))
+
+  -- the classes that the table has for the returned type
+  pub return-classes : (table : List ℕ) → Tabled d table → usesRefusal d ≡ 0 → (k : ℕ) → k ≡ returnIn d → (returnIn d ≡ 255 → ⊥) → (cs : List Class) → cs ≡ unpackedOf (getD table k 0 / 262144) → cs ≡ returnClasses d
+  return-classes table t right k e n cs is = is ∙ t .classes k (omega (arith, e, return-known right n)) ∙ ap (λ (j : ℕ). classesOf (tyAt d j)) e
 
   module _ (n : returnIn d ≡ 255 → ⊥) (cs : List Class) (is : cs ≡ returnClasses d) where
     both : cs ≡ getD cs 0 NoClass ∷ getD cs 1 NoClass ∷ []

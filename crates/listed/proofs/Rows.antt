@@ -7,8 +7,6 @@ use native.Mathlib.Omega.{arith}
 use lib.Dec.{eqb}
 use lib.ListN.{replicate}
 use Rattle.description.specs.Description.{argumentsIn}
-use Rattle.form.specs.declared.Refusal.{Refusal}
-use Rattle.form.specs.Reading.{refusalOf}
 use Rattle.types.specs.Wrong.{refusalFor}
 use Rattle.places.specs.declared.Used.{Used}
 use Rattle.layout.specs.declared.Layout.{Layout as Whole}

@@ -1,5 +1,5 @@
 -- Each public function of `arguments` meets its contract, and the contract is tight. Assumes nothing.
-use mathlib.Core.Path.{_≡_, refl, sym, _∙_}
+use mathlib.Core.Path.{refl, sym, _∙_}
 use Rattle.tightness.specs.Tight.{Meets, Tight}
 use Rattle.tightness.proofs.Laws.{equal, result, settle}
 use Rattle.arguments.proofs.return_of
