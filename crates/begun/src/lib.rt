@@ -33,7 +33,7 @@ pub fn begin_with(d: &[u8], room: usize, table: &mut [u32; 64]) -> Begun
         × (now (table .exit) ≡ tableAfter (now (d .entry)) (now (table .entry)))
         × (verdict (now (d .entry)) ≡ 0 → Tabled (now (d .entry)) (now (table .exit))) ⌝ }
 {
-    let answer = layout::layout_with(d, table);
+    let answer = deciding::layout_with(d, table);
     let LayoutAnswer::Laid(layout) = answer else {
         return Begun {
             answer: answer,
@@ -79,5 +79,5 @@ pub fn place_by(d: &[u8], used: Used, i: usize, opened: Opened) -> Step
     ensures { λ r. ⌜ r ≡ stepAt (now (d .entry)) used i ⌝ }
 {
     let table = opened.table;
-    arguments::place_argument(d, used, i, &table)
+    argument_places::place_argument(d, used, i, &table)
 }

@@ -45,6 +45,6 @@ pub fn give_layout(d: &[u8], before: Layout) -> GivenLayout
     ensures { λ r. ⌜ (r .refusal ≡ refusalIn (layoutGiven (argumentsIn (now (d .entry))) (layoutAnswer (now (d .entry)))))
         × (r .layout ≡ leftIn (layoutGiven (argumentsIn (now (d .entry))) (layoutAnswer (now (d .entry)))) before) ⌝ }
 {
-    let answer = layout::layout_of(d);
+    let answer = deciding::layout_of(d);
     layout_given(answer, arguments_of(d), before)
 }

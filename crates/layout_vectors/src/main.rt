@@ -180,7 +180,7 @@ fn print_records(d: &[u8], room: usize, begun: Begun, table: &[u32; 64])
     let mut used = begun.used;
     let mut i = 0;
     while i < count {
-        let step = arguments::place_argument(d, used, i, table);
+        let step = argument_places::place_argument(d, used, i, table);
         let placement = step.placement;
         print_record(i, placement);
         used = step.used;

@@ -53,7 +53,7 @@ pub fn place_flat(d: &[u8], used: Used, i: usize, begun: ListBegun) -> FlatStep
     ensures { λ r. ⌜ r ≡ flatStep (now (d .entry)) used i ⌝ }
 {
     let table = begun.table;
-    let step = arguments::place_argument(d, used, i, &table);
+    let step = argument_places::place_argument(d, used, i, &table);
     let record = step.placement;
     let after = step.used;
     FlatStep {

@@ -29,7 +29,7 @@ fn put_records(
     let mut next = at;
     let mut i = 0;
     while i < count {
-        let step = arguments::place_argument(d, used, i, table);
+        let step = argument_places::place_argument(d, used, i, table);
         let placement = step.placement;
         next = lines::put_record(out, next, i, placement);
         used = step.used;
@@ -86,7 +86,7 @@ pub fn write_listing(d: &[u8], out: &mut [u8; 4096]) -> usize
 {
     text::room(out);
     let mut table = [0u32; 64];
-    let answer = layout::layout_with(d, &mut table);
+    let answer = deciding::layout_with(d, &mut table);
     match answer {
         LayoutAnswer::Laid(layout) => put_laid(d, out, layout, &table),
         LayoutAnswer::Refused(refusal) => put_refused(out, refusal),

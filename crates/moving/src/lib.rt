@@ -32,9 +32,9 @@ pub fn place_values(
         × (now (stack .exit) ≡ stackAfter (now (d .entry)) hidden (now (values .entry)) (now (registers .entry)) (now (stack .entry)))) ⌝ }
 {
     let mut table = [0u32; 64];
-    let answer = layout::layout_with(d, &mut table);
+    let answer = deciding::layout_with(d, &mut table);
     let LayoutAnswer::Laid(layout) = answer else {
-        return PlaceAnswer::Refused(layout::refusal_in(answer));
+        return PlaceAnswer::Refused(deciding::refusal_in(answer));
     };
     if lent::wrong_length(
         layout,
@@ -58,9 +58,9 @@ pub fn gather_values(d: &[u8], registers: &[u8], stack: &[u8], values: &mut [u8]
         × (now (values .exit) ≡ valuesAfter (now (d .entry)) (now (registers .entry)) (now (stack .entry)) (now (values .entry))) ⌝ }
 {
     let mut table = [0u32; 64];
-    let answer = layout::layout_with(d, &mut table);
+    let answer = deciding::layout_with(d, &mut table);
     let LayoutAnswer::Laid(layout) = answer else {
-        return GatherAnswer::Refused(layout::refusal_in(answer));
+        return GatherAnswer::Refused(deciding::refusal_in(answer));
     };
     if lent::wrong_length(
         layout,

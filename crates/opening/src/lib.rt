@@ -12,9 +12,9 @@ ghost use Rattle.walk.specs.Steps.{openedIf, openAnswer};
 fn opening(number: u32, d: &[u8]) -> OpenAnswer
     ensures { λ r. ⌜ r ≡ openedIf kcb (now (d .entry)) (first (variadicOrder kcb (now (d .entry)))) (standing kcb (now (d .entry)) number (kcb .named (now (d .entry)))) ⌝ }
 {
-    let answer = layout::layout_of(d);
+    let answer = deciding::layout_of(d);
     let LayoutAnswer::Laid(layout) = answer else {
-        return OpenAnswer::Refused(layout::refusal_in(answer));
+        return OpenAnswer::Refused(deciding::refusal_in(answer));
     };
     if description::byte_at(d, 6) != 1 {
         return OpenAnswer::Refused(form::refusal_of(16));

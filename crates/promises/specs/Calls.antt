@@ -39,8 +39,8 @@ use Rattle.extent_questions.proofs.type_size
 use Rattle.extent_questions.proofs.type_align
 use Rattle.class_question.proofs.type_classes
 use Rattle.run_questions.proofs.run_at
-use Rattle.layout.proofs.check
-use Rattle.layout.proofs.layout_of
+use Rattle.deciding.proofs.check
+use Rattle.deciding.proofs.layout_of
 use Rattle.lists.proofs.lay_out
 use Rattle.moving.proofs.place_values
 use Rattle.moving.proofs.gather_values

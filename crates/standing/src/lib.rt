@@ -29,7 +29,7 @@ fn is_astray(d: &[u8], walk: Walk, table: &[u32; 64]) -> bool
     let there = walk::walk_at(
         walk.number,
         position,
-        layout::used_after(d, position, table),
+        laying::used_after(d, position, table),
     );
     if !units::same(walk.general, there.general) {
         return true;
@@ -46,9 +46,9 @@ fn stands(station: Station, d: &[u8], walk: Walk, stack: &[u8], asked: u8) -> St
         (now (d .entry)) (walk .position) r ⌝ }
 {
     let mut table = [0u32; 64];
-    let answer = layout::layout_with(d, &mut table);
+    let answer = deciding::layout_with(d, &mut table);
     let LayoutAnswer::Laid(layout) = answer else {
-        return Standing::Refused(layout::refusal_in(answer));
+        return Standing::Refused(deciding::refusal_in(answer));
     };
     if walk.number != station.number {
         return Standing::Refused(form::refusal_of(17));

@@ -12,9 +12,9 @@ use Rattle.extent_questions.proofs.type_extent
 use Rattle.class_question.proofs.type_classes
 use Rattle.run_questions.proofs.run_at
 use Rattle.run_questions.proofs.member_run
-use Rattle.uses.proofs.uses_refusal
-use Rattle.layout.proofs.check
-use Rattle.layout.proofs.layout_of
+use Rattle.judging.proofs.uses_refusal
+use Rattle.deciding.proofs.check
+use Rattle.deciding.proofs.layout_of
 use Rattle.lists.proofs.lay_out
 use Rattle.lists.proofs.begin
 use Rattle.moving.proofs.place_values
@@ -91,14 +91,14 @@ total-run-questions-run-at c g = refl
 pub total-run-questions-member-run : Total member_run.ended (λ M. member_run.clauses {M = M})
 total-run-questions-member-run c g = refl
 
-pub total-uses-uses-refusal : Total uses_refusal.ended (λ M. uses_refusal.clauses {M = M})
-total-uses-uses-refusal c g = refl
+pub total-judging-uses-refusal : Total uses_refusal.ended (λ M. uses_refusal.clauses {M = M})
+total-judging-uses-refusal c g = refl
 
-pub total-layout-check : Total check.ended (λ M. check.clauses {M = M})
-total-layout-check c g = refl
+pub total-deciding-check : Total check.ended (λ M. check.clauses {M = M})
+total-deciding-check c g = refl
 
-pub total-layout-layout-of : Total layout_of.ended (λ M. layout_of.clauses {M = M})
-total-layout-layout-of c g = refl
+pub total-deciding-layout-of : Total layout_of.ended (λ M. layout_of.clauses {M = M})
+total-deciding-layout-of c g = refl
 
 pub total-lists-lay-out : Total lay_out.ended (λ M. lay_out.clauses {M = M})
 total-lists-lay-out c g = refl

@@ -15,13 +15,14 @@ pub mod OfQuestions
 pub mod OfExtentQuestions
 pub mod OfClassQuestion
 pub mod OfRunQuestions
-pub mod OfUses
+pub mod OfJudging
 pub mod OfPlaces
 pub mod OfStackPlaces
 pub mod OfPlacing
 pub mod OfReturnPlaces
-pub mod OfArguments
-pub mod OfLayout
+pub mod OfArgumentPlaces
+pub mod OfLaying
+pub mod OfDeciding
 pub mod OfBegun
 pub mod OfLists
 pub mod OfImages
