@@ -1,4 +1,3 @@
 pub mod Blanks
-pub mod Singles
 pub mod Turns
 pub mod Loops

@@ -48,7 +48,7 @@ pub fn place_values(
         return PlaceAnswer::Refused(form::refusal_of(12));
     }
     let count = layout.used.vector;
-    filling::fill_images(d, layout.hidden, hidden, values, registers, stack, &table);
+    image_filling::fill_images(d, layout.hidden, hidden, values, registers, stack, &table);
     PlaceAnswer::Placed(count)
 }
 
@@ -71,7 +71,7 @@ pub fn gather_values(d: &[u8], registers: &[u8], stack: &[u8], values: &mut [u8]
         return GatherAnswer::Refused(form::refusal_of(11));
     }
     let passed = layout.hidden;
-    filling::gather_all(d, places::fresh(passed), registers, stack, values, &table);
+    image_filling::gather_all(d, places::fresh(passed), registers, stack, values, &table);
     if !passed {
         return GatherAnswer::Gathered(0);
     }

@@ -27,7 +27,8 @@ pub mod OfBegun
 pub mod OfLists
 pub mod OfImages
 pub mod OfArgumentBytes
-pub mod OfFilling
+pub mod OfQuickPlaces
+pub mod OfImageFilling
 pub mod OfLent
 pub mod OfMoving
 pub mod OfReturnImage

@@ -2,9 +2,9 @@
 -- Assumes nothing.
 use borrow.Author.Needs.{needs}
 use borrow.Author.Tests.{not-true, not-false}
 use Rattle.filling.proofs.Blanks.{blank-unused, blank-used}
-use Rattle.filling.proofs.blank_images.Statement.{statement}
-use Rattle.filling.proofs.blank_images.Tie as tie
+use Rattle.image_filling.proofs.blank_images.Statement.{statement}
+use Rattle.image_filling.proofs.blank_images.Tie as tie
 
 clear-requires : tie.Need-clear-requires
 clear-requires c κs = search needs

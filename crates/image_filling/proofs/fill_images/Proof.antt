@@ -3,10 +3,10 @@
 use mathlib.Core.Path.{ap, _∙_}
 use native.Mathlib.Omega.{arith}
 use borrow.Author.Needs.{needs}
 use Rattle.filling.proofs.Blanks.{filled-images}
 use Rattle.places.specs.Places.{fresh}
-use Rattle.filling.proofs.fill_images.Statement.{statement}
-use Rattle.filling.proofs.fill_images.Tie as tie
+use Rattle.image_filling.proofs.fill_images.Statement.{statement}
+use Rattle.image_filling.proofs.fill_images.Tie as tie
 
 blank-images-requires : tie.Need-blank-images-requires
 blank-images-requires c κs = c .before .before .before .before .before .before .pre .0 .registers

@@ -4,10 +4,10 @@ use mathlib.Core.Path.{_≡_}
 use Prim.Native.Nat.{_-_}
 use native.Mathlib.Omega.{arith}
 use Rattle.description.specs.Description.{argumentsIn}
 use Rattle.filling.proofs.Loops.{Gathering, gathering-first, gathering-next, gathering-last}
 use Rattle.filling.proofs.Turns.{whole, turn-type, turn-room-left, turn-small, turn-step, turn-move, turn-room}
-use Rattle.filling.proofs.gather_all.Statement.{statement}
-use Rattle.filling.proofs.gather_all.Tie as tie
+use Rattle.image_filling.proofs.gather_all.Statement.{statement}
+use Rattle.image_filling.proofs.gather_all.Tie as tie
 
 abbrev Inv-loop : tie.InvT-loop
 Inv-loop d registers stack values₀ table arguments used₀ start₀ i₀ values used start i = Gathering d registers stack values₀ values used (start .0) i × (arguments ≡ argumentsIn d)

@@ -4,10 +4,10 @@ use mathlib.Core.Path.{_≡_}
 use Prim.Native.Nat.{_-_}
 use native.Mathlib.Omega.{arith}
 use Rattle.description.specs.Description.{argumentsIn}
 use Rattle.filling.proofs.Loops.{Placing, placing-first, placing-next, placing-last}
 use Rattle.filling.proofs.Turns.{whole, turn-type, turn-room-left, turn-small, turn-step, turn-move, turn-room}
-use Rattle.filling.proofs.place_all.Statement.{statement}
-use Rattle.filling.proofs.place_all.Tie as tie
+use Rattle.image_filling.proofs.place_all.Statement.{statement}
+use Rattle.image_filling.proofs.place_all.Tie as tie
 
 abbrev Inv-loop : tie.InvT-loop
 Inv-loop d values registers₀ stack₀ table arguments used₀ start₀ i₀ registers stack used start i = Placing d values registers₀ stack₀ registers stack used (start .0) i × (arguments ≡ argumentsIn d)

@@ -6,9 +6,9 @@ use borrow.Author.Tests.{not-true, not-false}
 use denote.Ref.{now}
 use lib.ListN.{getD}
 use Rattle.places.specs.Shapes.{shapeIn}
-use Rattle.filling.proofs.Singles.{told-general, told-vector, in-general, in-vector, no-general, no-vector, entry-stacked, entry-asks}
-use Rattle.filling.proofs.next_place.Statement.{statement}
-use Rattle.filling.proofs.next_place.Tie as tie
+use Rattle.quick_places.proofs.Singles.{told-general, told-vector, in-general, in-vector, no-general, no-vector, entry-stacked, entry-asks}
+use Rattle.quick_places.proofs.next_place.Statement.{statement}
+use Rattle.quick_places.proofs.next_place.Tie as tie
 
 asked-of-requires : tie.Need-asked-of-requires
 asked-of-requires c κs = search needs

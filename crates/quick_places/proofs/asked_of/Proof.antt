@@ -8,9 +8,9 @@ use lib.ListN.{length, getD}
 use Rattle.classes.specs.declared.Class.the-variants.{NoClass}
 use Rattle.classes.proofs.Pairs.{two}
 use Rattle.classify.specs.Table.{unpackedOf}
-use Rattle.filling.proofs.Singles.{lone-general, lone-vector}
-use Rattle.filling.proofs.asked_of.Statement.{statement}
-use Rattle.filling.proofs.asked_of.Tie as tie
+use Rattle.quick_places.proofs.Singles.{lone-general, lone-vector}
+use Rattle.quick_places.proofs.asked_of.Statement.{statement}
+use Rattle.quick_places.proofs.asked_of.Tie as tie
 
 classes-in-requires : tie.Need-classes-in-requires
 classes-in-requires c κs = search needs

@@ -25,9 +25,9 @@ use Rattle.places.specs.Shapes.{Shape, kindsOf, shapeIn}
 use Rattle.places.specs.Places.{inRegisters, registerFor, taking, enough, fits, start, place, next}
 use Rattle.places.specs.Recorded.{Room, Small, IsPlaced}
 use Rattle.places.specs.Steps.{stackedAt}
-use Rattle.filling.specs.declared.Lone.{Lone}
-use Rattle.filling.specs.declared.Lone.the-variants.{General as LoneGeneral, Vector as LoneVector}
-use Rattle.filling.specs.Asks.{IsLone}
+use Rattle.quick_places.specs.declared.Lone.{Lone}
+use Rattle.quick_places.specs.declared.Lone.the-variants.{General as LoneGeneral, Vector as LoneVector}
+use Rattle.quick_places.specs.Asked.{IsLone}
 use Rattle.places.proofs.Fits.{place-fits, place-not, next-fits, next-not, used-same}
 
 -- ---- one eightbyte, by its class
