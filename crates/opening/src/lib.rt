@@ -21,7 +21,7 @@ fn opening(number: u32, d: &[u8]) -> OpenAnswer
     }
     let named = description::byte_at(d, 7);
     let used = layout.named;
-    OpenAnswer::Opened(walk::walk_at(number, named, used))
+    OpenAnswer::Opened(fetching::walk_at(number, named, used))
 }
 
 // Opens a walk over the unnamed arguments of the description in the seat.

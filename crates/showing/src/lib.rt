@@ -26,7 +26,7 @@ pub fn shown_at(
     let Standing::Before(shape) = standing else {
         return ShownAnswer::Refused(standing::refusal_in(standing));
     };
-    let fetch = walk::fetch_at(walk, shape);
+    let fetch = fetching::fetch_at(walk, shape);
     show::part_of(fetch, shape)
 }
 

@@ -26,7 +26,7 @@ fn is_astray(d: &[u8], walk: Walk, table: &[u32; 64]) -> bool
     if description::byte_at(d, 8) < position {
         return true;
     }
-    let there = walk::walk_at(
+    let there = fetching::walk_at(
         walk.number,
         position,
         laying::used_after(d, position, table),

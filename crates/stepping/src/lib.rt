@@ -74,9 +74,9 @@ pub fn stepping(
             refusal: form::refusal_of(11),
         };
     }
-    let fetch = walk::fetch_at(walk, shape);
+    let fetch = fetching::fetch_at(walk, shape);
     copy_out(fetch, size, registers, stack, out);
-    let next = walk::moved_on(walk, shape);
+    let next = fetching::moved_on(walk, shape);
     Stepped {
         walk: next,
         refusal: form::refusal_of(0),

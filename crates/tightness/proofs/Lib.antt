@@ -39,7 +39,7 @@ pub mod OfTaking
 pub mod OfStation
 pub mod OfAttach
 pub mod OfDetach
-pub mod OfWalk
+pub mod OfFetching
 pub mod OfOpening
 pub mod OfStanding
 pub mod OfStepping

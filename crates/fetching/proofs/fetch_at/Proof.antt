@@ -3,9 +3,9 @@
 use mathlib.Core.Path.{sym, _∙_}
 use borrow.Author.Needs.{needs}
 use borrow.Author.Tests.{not-true, not-false}
 use Rattle.walk.proofs.Fetches.{single-few, none-fits, read-stack, read-one, read-two}
-use Rattle.walk.proofs.fetch_at.Statement.{statement}
-use Rattle.walk.proofs.fetch_at.Tie as tie
+use Rattle.fetching.proofs.fetch_at.Statement.{statement}
+use Rattle.fetching.proofs.fetch_at.Tie as tie
 
 raise-overflow-requires : tie.Need-raise-overflow-requires
 raise-overflow-requires c κs = search needs

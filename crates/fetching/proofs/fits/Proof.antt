@@ -4,9 +4,9 @@ use mathlib.Core.Path.{sym, _∙_}
 use native.Mathlib.Omega.{arith}
 use borrow.Author.Needs.{needs}
 use borrow.Author.Tests.{ltb-true, ltb-false, not-true, not-false}
 use Rattle.walk.proofs.Fetches.{listed-few, holds-none, holds-general, holds-last}
-use Rattle.walk.proofs.fits.Statement.{statement}
-use Rattle.walk.proofs.fits.Tie as tie
+use Rattle.fetching.proofs.fits.Statement.{statement}
+use Rattle.fetching.proofs.fits.Tie as tie
 
 may-fit-requires : tie.Need-may-fit-requires
 may-fit-requires c κs = search needs

@@ -2,8 +2,8 @@
 -- Assumes nothing.
 use native.Mathlib.Omega.{arith}
 use borrow.Author.Needs.{needs}
-use Rattle.walk.proofs.read.Statement.{statement}
-use Rattle.walk.proofs.read.Tie as tie
+use Rattle.fetching.proofs.read.Statement.{statement}
+use Rattle.fetching.proofs.read.Tie as tie
 
 general-bytes-requires : tie.Need-general-bytes-requires
 general-bytes-requires c κs = search needs

@@ -2,8 +2,8 @@
 -- Assumes nothing.
 use mathlib.Core.Path.{sym, _∙_}
 use borrow.Author.Needs.{needs}
-use Rattle.walk.proofs.raise_overflow.Statement.{statement}
-use Rattle.walk.proofs.raise_overflow.Tie as tie
+use Rattle.fetching.proofs.raise_overflow.Statement.{statement}
+use Rattle.fetching.proofs.raise_overflow.Tie as tie
 
 over-requires : tie.Need-over-requires
 over-requires c κs = search needs

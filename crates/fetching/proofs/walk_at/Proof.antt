@@ -3,10 +3,10 @@
 use mathlib.Core.Path.{refl}
 use native.Mathlib.Omega.{arith}
 use borrow.Author.Needs.{needs}
 use Rattle.walk.specs.Offsets.{walkAt}
 use Rattle.walk.proofs.Fetches.{walk-same}
-use Rattle.walk.proofs.walk_at.Statement.{statement}
-use Rattle.walk.proofs.walk_at.Tie as tie
+use Rattle.fetching.proofs.walk_at.Statement.{statement}
+use Rattle.fetching.proofs.walk_at.Tie as tie
 
 general-bytes-requires : tie.Need-general-bytes-requires
 general-bytes-requires c κs = search needs

@@ -1,9 +1,9 @@
 -- num_gp and num_fp, eightbyte after eightbyte.
 -- Assumes nothing.
 use borrow.Author.Needs.{needs}
 use Rattle.walk.proofs.Fetches.{counted-one, counted-two, one-few}
-use Rattle.walk.proofs.registers_for.Statement.{statement}
-use Rattle.walk.proofs.registers_for.Tie as tie
+use Rattle.fetching.proofs.registers_for.Statement.{statement}
+use Rattle.fetching.proofs.registers_for.Tie as tie
 
 enum-told : tie.Need-enum-told
 enum-told c = search needs

@@ -2,8 +2,8 @@
 -- Assumes nothing.
 use native.Mathlib.Omega.{arith}
 use borrow.Author.Needs.{needs}
-use Rattle.walk.proofs.count_one.Statement.{statement}
-use Rattle.walk.proofs.count_one.Tie as tie
+use Rattle.fetching.proofs.count_one.Statement.{statement}
+use Rattle.fetching.proofs.count_one.Tie as tie
 
 enum-told : tie.Need-enum-told
 enum-told c = search needs

@@ -3,10 +3,10 @@
 use mathlib.Core.Path.{refl, sym, ap, _∙_}
 use native.Mathlib.Omega.{arith}
 use borrow.Author.Needs.{needs}
 use Rattle.walk.proofs.Fetches.{listed-few, moved-registers, moved-stack, raised-small}
 use Rattle.units.specs.Raise.{raise}
-use Rattle.walk.proofs.moved_on.Statement.{statement}
-use Rattle.walk.proofs.moved_on.Tie as tie
+use Rattle.fetching.proofs.moved_on.Statement.{statement}
+use Rattle.fetching.proofs.moved_on.Tie as tie
 
 add-position : tie.Need-add-position
 add-position c = search needs
