@@ -40,7 +40,7 @@ fn look_up(
         return first;
     }
     if offset < 8 {
-        return classify::wide(finished[8 * k + offset]);
+        return class_words::wide(finished[8 * k + offset]);
     }
     if offset + size <= 16 {
         return 64 + 8 * (first % 8);
@@ -62,7 +62,7 @@ fn classify_type(
 {
     let packed = look_up(d, k, at, table, finished, done);
     if 0 < packed {
-        return classify::unpack(packed);
+        return class_words::unpack(packed);
     }
     work_out(d, k, at, table, finished, done)
 }
@@ -82,7 +82,7 @@ pub fn work_out(
     let kind = description::kind_at(d, k);
     let a = description::a_at(d, k);
     if kind == 0 {
-        return classify::basic_at(a, at);
+        return class_words::basic_at(a, at);
     }
     let count = description::count_at(d, k);
     if kind == 1 {

@@ -22,7 +22,7 @@ pub fn return_of(d: &[u8], table: &[u32; 64]) -> ReturnPlace
     if k == 255 {
         return ReturnPlace::Void;
     }
-    let classes = classify::classes_in(table, k);
+    let classes = class_words::classes_in(table, k);
     let first = classes[0];
     let second = classes[1];
     return_places::return_place(first, second)
@@ -37,7 +37,7 @@ pub fn hidden_of(d: &[u8], table: &[u32; 64]) -> bool
     if k == 255 {
         return false;
     }
-    let classes = classify::classes_in(table, k);
+    let classes = class_words::classes_in(table, k);
     let first = classes[0];
     return_places::hidden_for(first)
 }

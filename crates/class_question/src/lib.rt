@@ -13,7 +13,7 @@ pub fn type_classes(d: &[u8], t: u8) -> ClassesAnswer
         return ClassesAnswer::Refused(sizes::refusal_for(d, number));
     }
     class_table::fill_classes(d, &mut table);
-    let classes = classify::classes_in(&table, t as usize);
+    let classes = class_words::classes_in(&table, t as usize);
     let first = classes[0];
     let second = classes[1];
     ClassesAnswer::Classes(first, second)

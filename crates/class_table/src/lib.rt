@@ -20,10 +20,10 @@ fn aggregate_word(d: &[u8], k: usize, table: &[u32; 64], finished: &[u8; 512]) -
 {
     let extent = types::extent_in(table, k);
     if units::over(extent.size, Bytes(16)) {
-        return classify::word_of([Class::Memory, Class::NoClass]);
+        return class_words::word_of([Class::Memory, Class::NoClass]);
     }
     let classes = aggregates::work_out(d, k, Bytes(0), table, finished, k);
-    classify::word_of(classes)
+    class_words::word_of(classes)
 }
 
 // The same of any type.
@@ -36,7 +36,7 @@ fn word_at(d: &[u8], k: usize, table: &[u32; 64], finished: &[u8; 512]) -> u32
         return aggregate_word(d, k, table, finished);
     }
     let code = description::a_at(d, k);
-    classify::basic_word(code)
+    class_words::basic_word(code)
 }
 
 // The finished answer for type k at offset `at`.
@@ -45,7 +45,7 @@ fn finish_at(d: &[u8], k: usize, at: usize, table: &[u32; 64], finished: &mut [u
     ensures { λ _. ⌜ Right (now (d .entry)) (now (finished .exit)) ⌝ }
 {
     let classes = aggregates::work_out(d, k, Bytes(at), table, finished, k);
-    finished[8 * k + at] = classify::pack(classes);
+    finished[8 * k + at] = class_words::pack(classes);
 }
 
 // The finished answers for type k: at each offset at which it lies in both eightbytes; a basic type needs none.
@@ -86,7 +86,7 @@ pub fn fill_classes(d: &[u8], table: &mut [u32; 64])
     while k < types {
         finish(d, k, table, &mut finished);
         let word = word_at(d, k, table, &finished);
-        table[k] = classify::with_word(table[k], word);
+        table[k] = class_words::with_word(table[k], word);
         k += 1;
     }
 }

@@ -130,7 +130,7 @@ pub fn shape_in(table: &[u32; 64], k: usize) -> Shape
     requires { ⌜ k < 64 ⌝ }
     ensures { λ r. ⌜ asked r ≡ shapeIn (getD (now (table .entry)) k 0) ⌝ }
 {
-    let classes = classify::classes_in(table, k);
+    let classes = class_words::classes_in(table, k);
     let first = classes[0];
     let second = classes[1];
     let kinds = kinds_of(first, second);

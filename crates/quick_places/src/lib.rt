@@ -26,7 +26,7 @@ fn asked_of(table: &[u32; 64], k: usize) -> Lone
     requires { ⌜ k < 64 ⌝ }
     ensures { λ r. ⌜ IsLone (shapeIn (getD (now (table .entry)) k 0) .kinds) r ⌝ }
 {
-    let classes = classify::classes_in(table, k);
+    let classes = class_words::classes_in(table, k);
     let first = classes[0];
     let second = classes[1];
     if !classes::is_same(second, Class::NoClass) {

@@ -8,7 +8,7 @@ pub mod OfFormReading
 pub mod OfTypes
 pub mod OfSizes
 pub mod OfClasses
-pub mod OfClassify
+pub mod OfClassWords
 pub mod OfAggregates
 pub mod OfClassTable
 pub mod OfQuestions

@@ -5,9 +5,9 @@ use mathlib.Core.Path.{refl}
 use native.Mathlib.Omega.{arith}
 use borrow.Author.Needs.{needs}
 use lib.ListN.{getD}
 use Rattle.classify.proofs.Table.{code-small, pack-is}
-use Rattle.classify.proofs.pack.Statement.{statement}
-use Rattle.classify.proofs.pack.Tie as tie
+use Rattle.class_words.proofs.pack.Statement.{statement}
+use Rattle.class_words.proofs.pack.Tie as tie
 
 array-copy-out-first : tie.Need-array-copy-out-first
 array-copy-out-first c = search needs

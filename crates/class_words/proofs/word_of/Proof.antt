@@ -5,11 +5,11 @@ use mathlib.Core.List.{[], _∷_}
 use native.Mathlib.Omega.{arith}
 use lib.ListN.{getD}
 use Rattle.classes.specs.declared.Class.the-variants.{NoClass}
 use Rattle.classify.specs.Table.{asksOf, wordOf}
 use Rattle.classify.proofs.Table.{asks-small, packed-range}
 use borrow.Author.Needs.{needs}
-use Rattle.classify.proofs.word_of.Statement.{statement}
-use Rattle.classify.proofs.word_of.Tie as tie
+use Rattle.class_words.proofs.word_of.Statement.{statement}
+use Rattle.class_words.proofs.word_of.Tie as tie
 
 array-copy-out-first : tie.Need-array-copy-out-first
 array-copy-out-first c = search needs

@@ -2,9 +2,9 @@
 -- Assumes nothing.
 use Rattle.classes.specs.declared.Class.the-variants.{NoClass, Integer, Sse, SseUp, X87, X87Up, ComplexX87, Memory}
 use native.Mathlib.Omega.{arith}
 use Rattle.classify.proofs.Table.{class-is, seven}
-use Rattle.classify.proofs.class_by.Statement.{statement}
-use Rattle.classify.proofs.class_by.Tie as tie
+use Rattle.class_words.proofs.class_by.Statement.{statement}
+use Rattle.class_words.proofs.class_by.Tie as tie
 
 returns : tie.Need-returns
 returns c = class-is NoClass (c .before .args .code) (c .match .keys1)
