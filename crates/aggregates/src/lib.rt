@@ -88,10 +88,10 @@ pub fn work_out(
     if kind == 1 {
         let element = types::extent_in(table, a);
         let merged = classify_elements(d, a, count, element.size, at, table, finished, done);
-        return classes::clean_up(merged);
+        return class_pairs::clean_up(merged);
     }
     let merged = classify_members(d, k, a, count, kind == 3, at, table, finished, done);
-    classes::clean_up(merged)
+    class_pairs::clean_up(merged)
 }
 
 // `count` elements of type k, of `size` bytes each, from offset `at` on, merged.
@@ -113,7 +113,7 @@ fn classify_elements(
     let mut left = count;
     while 0 < left {
         let classes = classify_type(d, k, offset, table, finished, done);
-        let next = classes::merge_both(merged, classes);
+        let next = class_pairs::merge_both(merged, classes);
         merged = next;
         offset = units::plus(offset, size);
         left -= 1;
@@ -170,7 +170,7 @@ fn classify_members(
         let offset = types::offset_after(union, end, extent.align);
         let member_at = units::plus(at, offset);
         let classes = classify_type(d, member, member_at, table, finished, done);
-        let next = classes::merge_both(merged, classes);
+        let next = class_pairs::merge_both(merged, classes);
         merged = next;
         end = end_past(end, offset, extent.size);
     }

@@ -91,7 +91,7 @@ pub fn basic_at(code: usize, at: Bytes) -> [Class; 2]
     let first = put_class(at, FIRST[code]);
     let second_at = units::plus(at, Bytes(wide(GAP[code])));
     let second = put_class(second_at, SECOND[code]);
-    classes::merge_both(first, second)
+    class_pairs::merge_both(first, second)
 }
 
 // The class with this number.

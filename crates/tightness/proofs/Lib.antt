@@ -8,6 +8,7 @@ pub mod OfFormReading
 pub mod OfTypes
 pub mod OfSizes
 pub mod OfClasses
+pub mod OfClassPairs
 pub mod OfClassWords
 pub mod OfAggregates
 pub mod OfClassTable
