@@ -48,7 +48,7 @@ pub fn place_argument(d: &[u8], used: Used, i: usize, table: &[u32; 64]) -> Step
     ensures { λ r. ⌜ r ≡ stepAt (now (d .entry)) used i ⌝ }
 {
     let k = description::argument_at(d, i);
-    let shape = places::shape_in(table, k);
+    let shape = shapes::shape_in(table, k);
     let size = shape.size;
     let align = shape.align;
     let placed = placing::place_next(used, shape);

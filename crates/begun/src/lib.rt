@@ -38,7 +38,7 @@ pub fn begin_with(d: &[u8], room: usize, table: &mut [u32; 64]) -> Begun
         return Begun {
             answer: answer,
             count: 0,
-            used: places::fresh(false),
+            used: shapes::fresh(false),
         };
     };
     let arguments = description::byte_at(d, 8);
@@ -46,13 +46,13 @@ pub fn begin_with(d: &[u8], room: usize, table: &mut [u32; 64]) -> Begun
         return Begun {
             answer: LayoutAnswer::Refused(form::refusal_of(11)),
             count: 0,
-            used: places::fresh(false),
+            used: shapes::fresh(false),
         };
     }
     Begun {
         answer: answer,
         count: arguments,
-        used: places::fresh(layout.hidden),
+        used: shapes::fresh(layout.hidden),
     }
 }
 

@@ -52,7 +52,7 @@ pub fn next_place(used: Used, table: &[u32; 64], k: usize, extent: Extent) -> Pl
     let stack = used.stack;
     let lone = asked_of(table, k);
     match lone {
-        Lone::Other => placing::place_next(used, places::shape_in(table, k)),
+        Lone::Other => placing::place_next(used, shapes::shape_in(table, k)),
         Lone::General => {
             if !units::at_most(general, Registers(5)) {
                 return stack_places::on_stack(used, extent.size, extent.align);

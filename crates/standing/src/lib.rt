@@ -68,7 +68,7 @@ fn stands(station: Station, d: &[u8], walk: Walk, stack: &[u8], asked: u8) -> St
     if !units::same(Bytes(stack.len()), area) {
         return Standing::Refused(form::refusal_of(11));
     }
-    Standing::Before(places::shape_in(&table, ty))
+    Standing::Before(shapes::shape_in(&table, ty))
 }
 
 // Whether the walk goes on here, by every check of a step but that of the out buffer; and what the next argument asks for.

@@ -17,7 +17,7 @@ pub mod OfExtentQuestions
 pub mod OfClassQuestion
 pub mod OfRunQuestions
 pub mod OfJudging
-pub mod OfPlaces
+pub mod OfShapes
 pub mod OfStackPlaces
 pub mod OfPlacing
 pub mod OfReturnPlaces

@@ -1,8 +1,8 @@
 -- `eightbyte_of` meets its contract.
 -- Assumes nothing.
 use borrow.Author.Needs.{needs}
-use Rattle.places.proofs.eightbyte_of.Statement.{statement}
-use Rattle.places.proofs.eightbyte_of.Tie as tie
+use Rattle.shapes.proofs.eightbyte_of.Statement.{statement}
+use Rattle.shapes.proofs.eightbyte_of.Tie as tie
 
 enum-told : tie.Need-enum-told
 enum-told c = search needs

@@ -9,8 +9,8 @@ use mathlib.Core.Path.{_≡_, ap}
 use Prim.Native.Nat.{_/_}
 use lib.ListN.{length, getD}
 use Rattle.classify.specs.Table.{unpackedOf}
-use Rattle.places.proofs.shape_in.Statement.{statement}
-use Rattle.places.proofs.shape_in.Tie as tie
+use Rattle.shapes.proofs.shape_in.Statement.{statement}
+use Rattle.shapes.proofs.shape_in.Tie as tie
 
 classes-in-requires : tie.Need-classes-in-requires
 classes-in-requires c κs = search needs
