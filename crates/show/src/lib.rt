@@ -1,20 +1,14 @@
-// The part of an image that an argument lies in, and the number of `show` (document 01, "Station and walk", "A third call").
+// The part of an image that an argument lies in (document 01, "Station and walk", "A second call").
 use form::Refusal;
 use places::Kind;
 use places::Kinds;
 use places::Shape;
-use station::Station;
 use units::Bytes;
 use walk::Fetch;
-use walk::Walk;
 ghost use mathlib.Core.Path.{_≡_};
 ghost use mathlib.Core.Bool.{cond};
-ghost use mathlib.Core.List.{[]};
 ghost use Rattle.places.specs.Recorded.{listed, asked as askedOf};
-ghost use Rattle.station.specs.Paper.{kcb, refusalUnder};
-ghost use Rattle.station.specs.Attachment.{described};
 ghost use Rattle.walk.specs.Offsets.{sourceOf};
-ghost use Rattle.walk.specs.Orders.{asking, showRefusal};
 ghost use Rattle.show.specs.Show.{alike, onePiece, partIn};
 
 // So many bytes of an image, from an offset on.
@@ -90,19 +84,4 @@ pub fn part_of(fetch: Fetch, shape: Shape) -> ShownAnswer
             length: size,
         }),
     }
-}
-
-// The refusal of `show`, number 0 for none.
-pub fn show_number(
-    station: Station,
-    seat: &[u8],
-    walk: Walk,
-    registers: &[u8],
-    stack: &[u8],
-    asked: u8,
-) -> Refusal
-    ensures { λ r. ⌜ r ≡ refusalUnder kcb (described station (now (seat .entry))) (showRefusal kcb station (now (seat .entry)) walk (asking (now (registers .entry)) (now (stack .entry)) asked [])) ⌝ }
-{
-    let standing = standing::checked(station, seat, walk, registers, stack, asked);
-    standing::refusal_in(standing)
 }

@@ -33,7 +33,7 @@ use Rattle.step.proofs.step
 use Rattle.stepping.proofs.stepping
 use Rattle.showing.proofs.shown_at
 use Rattle.showing.proofs.show
-use Rattle.show.proofs.show_number
+use Rattle.showing.proofs.show_number
 use Rattle.listing.proofs.write_listing
 use Rattle.shapes.proofs.fresh
 use Rattle.return_places.proofs.return_place
@@ -154,8 +154,8 @@ total-showing-shown-at c g = refl
 pub total-showing-show : Total show.ended (λ M. show.clauses {M = M})
 total-showing-show c g = refl
 
-pub total-show-show-number : Total show_number.ended (λ M. show_number.clauses {M = M})
-total-show-show-number c g = refl
+pub total-showing-show-number : Total show_number.ended (λ M. show_number.clauses {M = M})
+total-showing-show-number c g = refl
 
 pub total-listing-write-listing : Total write_listing.ended (λ M. write_listing.clauses {M = M})
 total-listing-write-listing c g = refl

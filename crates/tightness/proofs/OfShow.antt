@@ -5,18 +5,9 @@ use Rattle.tightness.proofs.Laws.{equal, result}
 use Rattle.show.proofs.part_of
 use Rattle.show.proofs.part_of.Met as part-of-met
 use Rattle.show.proofs.part_of.Symbol as part-of-symbol
-use Rattle.show.proofs.show_number
-use Rattle.show.proofs.show_number.Met as show-number-met
-use Rattle.show.proofs.show_number.Symbol as show-number-symbol
 
 pub meets-show-part-of : Meets part_of.ended (λ M. part_of.clauses {M = M}) part-of-symbol.routine
 meets-show-part-of M = part-of-met.met
 
 pub tight-show-part-of : Tight part_of.ended (λ M. part_of.clauses {M = M})
 tight-show-part-of c r q w v a b = (equal (result part_of.ended c) (a .ensured) (b .ensured), refl)
-
-pub meets-show-show-number : Meets show_number.ended (λ M. show_number.clauses {M = M}) show-number-symbol.routine
-meets-show-show-number M = show-number-met.met
-
-pub tight-show-show-number : Tight show_number.ended (λ M. show_number.clauses {M = M})
-tight-show-show-number c r q w v a b = (equal (result show_number.ended c) (a .ensured) (b .ensured), refl)

@@ -1,10 +1,10 @@
 -- The refusal of the checks.
 -- Assumes nothing.
 use borrow.Author.Needs.{needs}
 use Rattle.show.proofs.Shown.{number-is}
 use Rattle.station.specs.Paper.{kcb}
-use Rattle.show.proofs.show_number.Statement.{statement}
-use Rattle.show.proofs.show_number.Tie as tie
+use Rattle.showing.proofs.show_number.Statement.{statement}
+use Rattle.showing.proofs.show_number.Tie as tie
 
 checked-requires : tie.Need-checked-requires
 checked-requires c κs = search needs
