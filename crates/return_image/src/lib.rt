@@ -1,11 +1,10 @@
 // The return image (document 02, request 2026-02): rax, rdx at 0 and 8, then xmm0, xmm1, st0, st1 of 16 bytes each; and which bytes
-// of a returned value stand where in it. `parts_of` says it, and nothing else does.
+// of a returned value stand where in it, as definitions and laws; the parts that they are made of.
 use places::Register;
-use places::ReturnPlace;
 use units::Bytes;
 ghost use mathlib.Core.Path.{_≡_};
-ghost use Rattle.return_image.specs.Moved.{returnAddress, moved, ten, noPart, partsOf};
-ghost use Rattle.return_image.specs.Asks.{Returning, Returnable};
+ghost use Rattle.return_image.specs.Moved.{returnAddress, moved, ten, noPart};
+ghost use Rattle.return_image.specs.Asks.{Returning};
 
 // So many bytes of a value, from its byte `from` on, that stand in the image from its byte `to` on.
 pub struct Part {
@@ -21,7 +20,7 @@ pub struct Parts {
 }
 
 // Where a register's eightbyte begins in the return image.
-fn return_address(register: Register) -> Bytes
+pub fn return_address(register: Register) -> Bytes
     requires { ⌜ Returning register ⌝ }
     ensures { λ r. ⌜ r .0 ≡ returnAddress register ⌝ }
 {
@@ -32,7 +31,7 @@ fn return_address(register: Register) -> Bytes
     }
 }
 
-fn moved(from: Bytes, to: Bytes, count: Bytes) -> Part
+pub fn moved(from: Bytes, to: Bytes, count: Bytes) -> Part
     ensures { λ r. ⌜ r ≡ moved (from .0) (to .0) (count .0) ⌝ }
 {
     Part {
@@ -42,52 +41,15 @@ fn moved(from: Bytes, to: Bytes, count: Bytes) -> Part
     }
 }
 
-fn no_part() -> Part
+pub fn no_part() -> Part
     ensures { λ r. ⌜ r ≡ noPart ⌝ }
 {
     moved(Bytes(0), Bytes(0), Bytes(0))
 }
 
 // The ten significant bytes of a long double.
-fn ten(from: Bytes, to: Bytes) -> Part
+pub fn ten(from: Bytes, to: Bytes) -> Part
     ensures { λ r. ⌜ r ≡ ten (from .0) (to .0) ⌝ }
 {
     moved(from, to, Bytes(10))
-}
-
-// Which bytes of a value of `size` bytes are moved.
-pub fn parts_of(place: ReturnPlace, size: Bytes) -> Parts
-    requires { ⌜ Returnable place (size .0) ⌝ }
-    ensures { λ r. ⌜ r ≡ partsOf place (size .0) ⌝ }
-{
-    match place {
-        ReturnPlace::Void => Parts {
-            low: no_part(),
-            high: no_part(),
-        },
-        ReturnPlace::Memory => Parts {
-            low: no_part(),
-            high: no_part(),
-        },
-        ReturnPlace::One(only) => Parts {
-            low: moved(Bytes(0), return_address(only), size),
-            high: no_part(),
-        },
-        ReturnPlace::Two(first, second) => Parts {
-            low: moved(Bytes(0), return_address(first), Bytes(8)),
-            high: moved(
-                Bytes(8),
-                return_address(second),
-                units::minus(size, Bytes(8)),
-            ),
-        },
-        ReturnPlace::St0 => Parts {
-            low: ten(Bytes(0), Bytes(48)),
-            high: no_part(),
-        },
-        ReturnPlace::St0St1 => Parts {
-            low: ten(Bytes(0), Bytes(48)),
-            high: ten(Bytes(16), Bytes(64)),
-        },
-    }
 }

@@ -1,12 +1,51 @@
-// A returned value goes into the return image and out again (document 02, request 2026-02), by the parts that `return_image` says.
+// A returned value goes into the return image and out again (document 02, request 2026-02). `parts_of` says which of its bytes stand where, and nothing else does.
 use places::ReturnPlace;
 use return_image::Part;
+use return_image::Parts;
 use units::Bytes;
 ghost use mathlib.Core.Path.{_≡_};
 ghost use lib.ListN.{length};
 ghost use Rattle.addresses.specs.Copy.{copied};
+ghost use Rattle.return_image.specs.Moved.{partsOf};
 ghost use Rattle.return_image.specs.Image.{lengthFor, inMemory, blankReturn, returnImage, returnValue, returnedAddress};
 ghost use Rattle.return_image.specs.Asks.{Returnable, AskPart};
+
+// Which bytes of a value of `size` bytes are moved.
+pub fn parts_of(place: ReturnPlace, size: Bytes) -> Parts
+    requires { ⌜ Returnable place (size .0) ⌝ }
+    ensures { λ r. ⌜ r ≡ partsOf place (size .0) ⌝ }
+{
+    match place {
+        ReturnPlace::Void => Parts {
+            low: return_image::no_part(),
+            high: return_image::no_part(),
+        },
+        ReturnPlace::Memory => Parts {
+            low: return_image::no_part(),
+            high: return_image::no_part(),
+        },
+        ReturnPlace::One(only) => Parts {
+            low: return_image::moved(Bytes(0), return_image::return_address(only), size),
+            high: return_image::no_part(),
+        },
+        ReturnPlace::Two(first, second) => Parts {
+            low: return_image::moved(Bytes(0), return_image::return_address(first), Bytes(8)),
+            high: return_image::moved(
+                Bytes(8),
+                return_image::return_address(second),
+                units::minus(size, Bytes(8)),
+            ),
+        },
+        ReturnPlace::St0 => Parts {
+            low: return_image::ten(Bytes(0), Bytes(48)),
+            high: return_image::no_part(),
+        },
+        ReturnPlace::St0St1 => Parts {
+            low: return_image::ten(Bytes(0), Bytes(48)),
+            high: return_image::ten(Bytes(16), Bytes(64)),
+        },
+    }
+}
 
 // The length of a value of a type of `size` bytes: none of it is moved where it is in memory.
 pub fn length_for(place: ReturnPlace, size: Bytes) -> Bytes
@@ -72,7 +111,7 @@ pub fn put_value(place: ReturnPlace, hidden: u64, value: &[u8], image: &mut [u8]
     requires { ⌜ Returnable place (length (now value)) × (length (now image) ≡ 80) ⌝ }
     ensures { λ _. ⌜ now (image .exit) ≡ returnImage place hidden (now (value .entry)) ⌝ }
 {
-    let parts = return_image::parts_of(place, Bytes(value.len()));
+    let parts = parts_of(place, Bytes(value.len()));
     let low = parts.low;
     let high = parts.high;
     blank_image(in_memory(place), hidden, image);
@@ -85,7 +124,7 @@ pub fn take_value(place: ReturnPlace, image: &[u8], value: &mut [u8])
     requires { ⌜ Returnable place (length (now value)) × (length (now image) ≡ 80) ⌝ }
     ensures { λ _. ⌜ now (value .exit) ≡ returnValue place (length (now (value .entry))) (now (image .entry)) ⌝ }
 {
-    let parts = return_image::parts_of(place, Bytes(value.len()));
+    let parts = parts_of(place, Bytes(value.len()));
     let low = parts.low;
     let high = parts.high;
     addresses::clear(value);

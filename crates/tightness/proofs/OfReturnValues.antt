@@ -2,6 +2,9 @@
 use mathlib.Core.Path.{_≡_, refl, sym, _∙_}
 use Rattle.tightness.specs.Tight.{Meets, Tight}
 use Rattle.tightness.proofs.Laws.{bytes, equal, result, settle}
+use Rattle.return_values.proofs.parts_of
+use Rattle.return_values.proofs.parts_of.Met as parts-of-met
+use Rattle.return_values.proofs.parts_of.Symbol as parts-of-symbol
 use Rattle.return_values.proofs.length_for
 use Rattle.return_values.proofs.length_for.Met as length-for-met
 use Rattle.return_values.proofs.length_for.Symbol as length-for-symbol
@@ -14,6 +17,12 @@ use Rattle.return_values.proofs.returned_address.Symbol as returned-address-sym
 use Rattle.return_values.proofs.take_value
 use Rattle.return_values.proofs.take_value.Met as take-value-met
 use Rattle.return_values.proofs.take_value.Symbol as take-value-symbol
+
+pub meets-return-values-parts-of : Meets parts_of.ended (λ M. parts_of.clauses {M = M}) parts-of-symbol.routine
+meets-return-values-parts-of M = parts-of-met.met
+
+pub tight-return-values-parts-of : Tight parts_of.ended (λ M. parts_of.clauses {M = M})
+tight-return-values-parts-of c r q w v a b = (equal (result parts_of.ended c) (a .ensured) (b .ensured), refl)
 
 pub meets-return-values-length-for : Meets length_for.ended (λ M. length_for.clauses {M = M}) length-for-symbol.routine
 meets-return-values-length-for M = length-for-met.met

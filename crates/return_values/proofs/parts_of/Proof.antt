@@ -1,9 +1,9 @@
 -- `parts_of` meets its contract, arm by arm.
 -- Assumes nothing.
 use borrow.Author.Needs.{needs}
 use Rattle.return_image.proofs.Moves.{asks-one, asks-two, parts-void, parts-memory, parts-st0, parts-st0-st1, parts-one, parts-two}
-use Rattle.return_image.proofs.parts_of.Statement.{statement}
-use Rattle.return_image.proofs.parts_of.Tie as tie
+use Rattle.return_values.proofs.parts_of.Statement.{statement}
+use Rattle.return_values.proofs.parts_of.Tie as tie
 
 enum-told : tie.Need-enum-told
 enum-told c = search needs
