@@ -27,12 +27,12 @@ fn look_up(
     if done <= k {
         return 0;
     }
-    let size = types::extent_in(table, k).size.0;
+    let size = extents::extent_in(table, k).size.0;
     if 16 < size {
         return 0;
     }
     let offset = at.0;
-    let first = types::wide(table[k]) / 262144 % 128;
+    let first = extents::wide(table[k]) / 262144 % 128;
     if offset == 0 {
         return first;
     }
@@ -86,7 +86,7 @@ pub fn work_out(
     }
     let count = description::count_at(d, k);
     if kind == 1 {
-        let element = types::extent_in(table, a);
+        let element = extents::extent_in(table, a);
         let merged = classify_elements(d, a, count, element.size, at, table, finished, done);
         return class_pairs::clean_up(merged);
     }
@@ -166,8 +166,8 @@ fn classify_members(
             continue;
         }
         seen[member] = mark;
-        let extent = types::extent_in(table, member);
-        let offset = types::offset_after(union, end, extent.align);
+        let extent = extents::extent_in(table, member);
+        let offset = extents::offset_after(union, end, extent.align);
         let member_at = units::plus(at, offset);
         let classes = classify_type(d, member, member_at, table, finished, done);
         let next = class_pairs::merge_both(merged, classes);

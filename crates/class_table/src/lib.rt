@@ -18,7 +18,7 @@ fn aggregate_word(d: &[u8], k: usize, table: &[u32; 64], finished: &[u8; 512]) -
     requires { ⌜ AskType (now d) k 0 × (kindAt (now d) k ≡ 0 → ⊥) × Ready (now d) (now table) (now finished) k ⌝ }
     ensures { λ r. ⌜ r ≡ wordOf (classesOf (tyAt (now (d .entry)) k)) ⌝ }
 {
-    let extent = types::extent_in(table, k);
+    let extent = extents::extent_in(table, k);
     if units::over(extent.size, Bytes(16)) {
         return class_words::word_of([Class::Memory, Class::NoClass]);
     }
@@ -56,7 +56,7 @@ fn finish(d: &[u8], k: usize, table: &[u32; 64], finished: &mut [u8; 512])
     if description::kind_at(d, k) == 0 {
         return;
     }
-    let extent = types::extent_in(table, k);
+    let extent = extents::extent_in(table, k);
     let size = extent.size.0;
     let step = extent.align.0;
     let mut at = step;
@@ -79,7 +79,7 @@ pub fn fill_classes(d: &[u8], table: &mut [u32; 64])
     ensures { λ _. ⌜ (now (table .exit) ≡ filled (fullEntry (now (d .entry))) (typesIn (now (d .entry))) (now (table .entry)))
         × Tabled (now (d .entry)) (now (table .exit)) ⌝ }
 {
-    types::entries(table);
+    extents::entries(table);
     let types = description::byte_at(d, 5);
     let mut finished = [0u8; 512];
     let mut k = 0;

@@ -204,5 +204,5 @@ pub fn classes_in(table: &[u32; 64], k: usize) -> [Class; 2]
     requires { ⌜ k < 64 ⌝ }
     ensures { λ r. ⌜ r ≡ unpackedOf (getD (now (table .entry)) k 0 / 262144) ⌝ }
 {
-    unpack(types::wide(table[k]) / 262144)
+    unpack(extents::wide(table[k]) / 262144)
 }

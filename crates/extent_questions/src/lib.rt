@@ -15,7 +15,7 @@ pub fn type_extent(d: &[u8], t: u8) -> ExtentAnswer
     if number != 0 {
         return ExtentAnswer::Refused(sizes::refusal_for(d, number));
     }
-    ExtentAnswer::Known(types::extent_in(&table, t as usize))
+    ExtentAnswer::Known(extents::extent_in(&table, t as usize))
 }
 
 // The refusal that an answer carries, for a caller that passes it on.

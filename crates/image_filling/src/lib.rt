@@ -43,7 +43,7 @@ fn place_all(
     let mut i = 0;
     while i < arguments {
         let k = description::argument_at(d, i);
-        let extent = types::extent_in(table, k);
+        let extent = extents::extent_in(table, k);
         let size = extent.size;
         let placed = quick_places::next_place(used, table, k, extent);
         let place = placed.place;
@@ -91,7 +91,7 @@ pub fn gather_all(
     let mut i = 0;
     while i < arguments {
         let k = description::argument_at(d, i);
-        let extent = types::extent_in(table, k);
+        let extent = extents::extent_in(table, k);
         let size = extent.size;
         let placed = quick_places::next_place(used, table, k, extent);
         let place = placed.place;

@@ -16,15 +16,15 @@ fn fill_sizes(d: &[u8], table: &mut [u32; 64]) -> usize
         × (now (table .exit) ≡ filled (entryAt (now (d .entry))) (firstLarge (now (d .entry))) (now (table .entry)))
         × Sizes (now (d .entry)) (firstLarge (now (d .entry))) (now (table .exit)) ⌝ }
 {
-    types::entries(table);
+    extents::entries(table);
     let types = description::byte_at(d, 5);
     let mut k = 0;
     while k < types {
-        let extent = types::extent_of(d, k, table);
+        let extent = extents::extent_of(d, k, table);
         if units::over(extent.size, Bytes(4096)) {
             return k;
         }
-        table[k] = types::entry_of(extent);
+        table[k] = extents::entry_of(extent);
         k += 1;
     }
     k

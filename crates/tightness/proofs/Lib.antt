@@ -5,7 +5,7 @@ pub mod OfDescription
 pub mod OfForm
 pub mod OfFormRecords
 pub mod OfFormReading
-pub mod OfTypes
+pub mod OfExtents
 pub mod OfSizes
 pub mod OfClasses
 pub mod OfClassPairs

@@ -1,16 +1,16 @@
 -- `members_extent` meets its contract. The invariant: what answers for the members that are left answers for all of them.
 -- Assumes nothing.
 use Rattle.types.specs.declared.Extent.{Extent}
 use native.Mathlib.Omega.{arith}
 use borrow.Author.Needs.{needs}
 use denote.Ref.{now}
 use Rattle.types.specs.Asks.{SizedRun, IsRun}
 use Rattle.types.specs.Decode.{tysFrom, tyAt}
 use Rattle.types.proofs.Runs.{run-none, member-low, member-asks, run-rest, run-done}
 use Rattle.types.proofs.Table.{entry-low, entry-extent}
 use Rattle.form.specs.Order.{first}
-use Rattle.types.proofs.members_extent.Statement.{statement}
-use Rattle.types.proofs.members_extent.Tie as tie
+use Rattle.extents.proofs.members_extent.Statement.{statement}
+use Rattle.extents.proofs.members_extent.Tie as tie
 
 abbrev Inv-loop : tie.InvT-loop
 Inv-loop d k first count union table end₀ align₀ at₀ left₀ end align at left = SizedRun d k at left (end .0) (align .0) × ((r : Extent) → IsRun (tysFrom (tyAt d) d at left) union (end .0) (align .0) r → IsRun (tysFrom (tyAt d) d first count) union 0 1 r)

@@ -2,9 +2,9 @@
 -- Assumes nothing.
 use mathlib.Core.Path.{refl}
 use borrow.Author.Needs.{needs}
 use Rattle.types.specs.Table.{packed}
-use Rattle.types.proofs.entry_of.Statement.{statement}
-use Rattle.types.proofs.entry_of.Tie as tie
+use Rattle.extents.proofs.entry_of.Statement.{statement}
+use Rattle.extents.proofs.entry_of.Tie as tie
 
 mul-result : tie.Need-mul-result
 mul-result c = search needs
