@@ -79,12 +79,12 @@ pub fn work_out(
     requires { ⌜ AskType (now d) k (at .0) × Ready (now d) (now table) (now finished) done ⌝ }
     ensures { λ r. ⌜ r ≡ classesAt 2 (tyAt (now (d .entry)) k) (at .0) ⌝ }
 {
-    let kind = description::kind_at(d, k);
-    let a = description::a_at(d, k);
+    let kind = records::kind_at(d, k);
+    let a = records::a_at(d, k);
     if kind == 0 {
         return class_words::basic_at(a, at);
     }
-    let count = description::count_at(d, k);
+    let count = records::count_at(d, k);
     if kind == 1 {
         let element = extents::extent_in(table, a);
         let merged = classify_elements(d, a, count, element.size, at, table, finished, done);
@@ -159,7 +159,7 @@ fn classify_members(
     let mut i = first;
     let mut left = count;
     while 0 < left {
-        let member = description::member_at(d, i);
+        let member = records::member_at(d, i);
         i += 1;
         left -= 1;
         if seen[member] == 1 {

@@ -18,7 +18,7 @@ pub fn return_of(d: &[u8], table: &[u32; 64]) -> ReturnPlace
     requires { ⌜ (usesRefusal (now d) ≡ 0) × Tabled (now d) (now table) ⌝ }
     ensures { λ r. ⌜ r ≡ returnPlace (now (d .entry)) ⌝ }
 {
-    let k = description::byte_at(d, 9);
+    let k = reading::byte_at(d, 9);
     if k == 255 {
         return ReturnPlace::Void;
     }
@@ -33,7 +33,7 @@ pub fn hidden_of(d: &[u8], table: &[u32; 64]) -> bool
     requires { ⌜ (usesRefusal (now d) ≡ 0) × Tabled (now d) (now table) ⌝ }
     ensures { λ r. ⌜ r ≡ hidden (now (d .entry)) ⌝ }
 {
-    let k = description::byte_at(d, 9);
+    let k = reading::byte_at(d, 9);
     if k == 255 {
         return false;
     }
@@ -47,7 +47,7 @@ pub fn place_argument(d: &[u8], used: Used, i: usize, table: &[u32; 64]) -> Step
     requires { ⌜ AskArgument (now d) i used × Tabled (now d) (now table) ⌝ }
     ensures { λ r. ⌜ r ≡ stepAt (now (d .entry)) used i ⌝ }
 {
-    let k = description::argument_at(d, i);
+    let k = records::argument_at(d, i);
     let shape = shapes::shape_in(table, k);
     let size = shape.size;
     let align = shape.align;
@@ -70,7 +70,7 @@ fn use_argument(d: &[u8], used: Used, i: usize, table: &[u32; 64]) -> Turn
     requires { ⌜ AskArgument (now d) i used × Tabled (now d) (now table) ⌝ }
     ensures { λ r. ⌜ r ≡ turnAt (now (d .entry)) used i ⌝ }
 {
-    let k = description::argument_at(d, i);
+    let k = records::argument_at(d, i);
     let size = extents::extent_in(table, k).size;
     let after = placing::use_next(used, table, k);
     Turn {

@@ -41,7 +41,7 @@ pub fn begin_with(d: &[u8], room: usize, table: &mut [u32; 64]) -> Begun
             used: shapes::fresh(false),
         };
     };
-    let arguments = description::byte_at(d, 8);
+    let arguments = reading::byte_at(d, 8);
     if room < arguments {
         return Begun {
             answer: LayoutAnswer::Refused(form::refusal_of(11)),

@@ -31,11 +31,11 @@ fn word_at(d: &[u8], k: usize, table: &[u32; 64], finished: &[u8; 512]) -> u32
     requires { ⌜ AskType (now d) k 0 × Ready (now d) (now table) (now finished) k ⌝ }
     ensures { λ r. ⌜ r ≡ wordOf (classesOf (tyAt (now (d .entry)) k)) ⌝ }
 {
-    let kind = description::kind_at(d, k);
+    let kind = records::kind_at(d, k);
     if kind != 0 {
         return aggregate_word(d, k, table, finished);
     }
-    let code = description::a_at(d, k);
+    let code = records::a_at(d, k);
     class_words::basic_word(code)
 }
 
@@ -53,7 +53,7 @@ fn finish(d: &[u8], k: usize, table: &[u32; 64], finished: &mut [u8; 512])
     requires { ⌜ Sized (now d) k × Ready (now d) (now table) (now finished) k ⌝ }
     ensures { λ _. ⌜ Right (now (d .entry)) (now (finished .exit)) ⌝ }
 {
-    if description::kind_at(d, k) == 0 {
+    if records::kind_at(d, k) == 0 {
         return;
     }
     let extent = extents::extent_in(table, k);
@@ -80,7 +80,7 @@ pub fn fill_classes(d: &[u8], table: &mut [u32; 64])
         × Tabled (now (d .entry)) (now (table .exit)) ⌝ }
 {
     extents::entries(table);
-    let types = description::byte_at(d, 5);
+    let types = reading::byte_at(d, 5);
     let mut finished = [0u8; 512];
     let mut k = 0;
     while k < types {

@@ -102,7 +102,7 @@ fn members_extent(
     let mut at = first;
     let mut left = count;
     while 0 < left {
-        let member = description::member_at(d, at);
+        let member = records::member_at(d, at);
         let extent = extent_in(table, member);
         end = end_after(union, end, extent);
         align = units::larger(align, extent.align);
@@ -120,12 +120,12 @@ pub fn extent_of(d: &[u8], k: usize, table: &[u32; 64]) -> Extent
     requires { ⌜ Sized (now d) k × Sizes (now d) k (now table) ⌝ }
     ensures { λ r. ⌜ IsExtent (tyAt (now (d .entry)) k) r ⌝ }
 {
-    let kind = description::kind_at(d, k);
-    let a = description::a_at(d, k);
+    let kind = records::kind_at(d, k);
+    let a = records::a_at(d, k);
     if kind == 0 {
         return basic_extent(a);
     }
-    let count = description::count_at(d, k);
+    let count = records::count_at(d, k);
     if kind == 1 {
         let element = extent_in(table, a);
         let size = units::times(element.size, count);

@@ -24,7 +24,7 @@ fn wrong_version(d: &[u8]) -> bool
     requires { ⌜ 11 ≤ length (now d) ⌝ }
     ensures { λ r. ⌜ r ≡ wrongVersion (now (d .entry)) ⌝ }
 {
-    description::word_at(d, 3) != 1
+    reading::word_at(d, 3) != 1
 }
 
 fn wrong_counts(d: &[u8]) -> bool
@@ -57,9 +57,9 @@ fn wrong_length(d: &[u8]) -> bool
     requires { ⌜ 11 ≤ length (now d) ⌝ }
     ensures { λ r. ⌜ r ≡ wrongLength (now (d .entry)) ⌝ }
 {
-    let types = description::byte_at(d, 5);
-    let arguments = description::byte_at(d, 8);
-    let members = description::byte_at(d, 10);
+    let types = reading::byte_at(d, 5);
+    let arguments = reading::byte_at(d, 8);
+    let members = reading::byte_at(d, 10);
     d.len() != 11 + 4 * types + members + arguments
 }
 
@@ -82,7 +82,7 @@ pub fn form_refusal(d: &[u8]) -> u8
     if wrong_length(d) {
         return 5;
     }
-    let types = description::byte_at(d, 5);
+    let types = reading::byte_at(d, 5);
     if form_records::first_broken(d) < types {
         return 6;
     }
@@ -95,7 +95,7 @@ pub fn read_form(d: &[u8]) -> Reading
 {
     let number = form_refusal(d);
     if number == 0 {
-        return Reading::Accepted(description::header_of(d));
+        return Reading::Accepted(reading::header_of(d));
     }
     if number == 6 {
         return Reading::Refused(form::refusal_at(6, form_records::first_broken(d)));

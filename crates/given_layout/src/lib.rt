@@ -21,7 +21,7 @@ fn arguments_of(d: &[u8]) -> usize
     if d.len() <= 8 {
         return 0;
     }
-    description::byte_at(d, 8)
+    reading::byte_at(d, 8)
 }
 
 // What a layout's answer gives, for a call with so many arguments. Nothing else makes the flat record of it.

@@ -37,12 +37,12 @@ fn place_all(
     ensures { λ _. ⌜ now (registers .exit) ++ now (stack .exit)
         ≡ scatter (now (registers .entry) ++ now (stack .entry)) (addressesOf (now (d .entry))) (now (values .entry)) ⌝ }
 {
-    let arguments = description::byte_at(d, 8);
+    let arguments = reading::byte_at(d, 8);
     let mut used = first;
     let mut start = Bytes(0);
     let mut i = 0;
     while i < arguments {
-        let k = description::argument_at(d, i);
+        let k = records::argument_at(d, i);
         let extent = extents::extent_in(table, k);
         let size = extent.size;
         let placed = quick_places::next_place(used, table, k, extent);
@@ -85,12 +85,12 @@ pub fn gather_all(
         × Tabled (now d) (now table) ⌝ }
     ensures { λ _. ⌜ now (values .exit) ≡ gathered (now (d .entry)) (now (registers .entry) ++ now (stack .entry)) ⌝ }
 {
-    let arguments = description::byte_at(d, 8);
+    let arguments = reading::byte_at(d, 8);
     let mut used = first;
     let mut start = Bytes(0);
     let mut i = 0;
     while i < arguments {
-        let k = description::argument_at(d, i);
+        let k = records::argument_at(d, i);
         let extent = extents::extent_in(table, k);
         let size = extent.size;
         let placed = quick_places::next_place(used, table, k, extent);

@@ -64,8 +64,8 @@ fn half_at(registers: &[u8], i: usize) -> u64
     requires { ⌜ (i ≤ 4) × (8 ≤ length (now registers)) ⌝ }
     ensures { λ r. ⌜ (r ≡ wordAt (now (registers .entry)) i + 65536 * wordAt (now (registers .entry)) (i + 2)) × (r < 2 ^ 32) ⌝ }
 {
-    let low = description::word_at(registers, i) as u64;
-    let high = description::word_at(registers, i + 2) as u64;
+    let low = reading::word_at(registers, i) as u64;
+    let high = reading::word_at(registers, i + 2) as u64;
     low + 65536 * high
 }
 

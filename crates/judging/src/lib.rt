@@ -10,18 +10,18 @@ fn wrong_number(d: &[u8], t: usize) -> bool
     requires { ⌜ Whole (now d) ⌝ }
     ensures { λ r. ⌜ r ≡ wrongNumber (now (d .entry)) t ⌝ }
 {
-    let types = description::byte_at(d, 5);
+    let types = reading::byte_at(d, 5);
     if types <= t {
         return true;
     }
-    description::kind_at(d, t) == 1
+    records::kind_at(d, t) == 1
 }
 
 fn wrong_return(d: &[u8]) -> bool
     requires { ⌜ Whole (now d) ⌝ }
     ensures { λ r. ⌜ r ≡ wrongReturn (now (d .entry)) ⌝ }
 {
-    let returns = description::byte_at(d, 9);
+    let returns = reading::byte_at(d, 9);
     if returns == 255 {
         return false;
     }
@@ -33,10 +33,10 @@ fn first_wrong(d: &[u8]) -> usize
     requires { ⌜ Whole (now d) ⌝ }
     ensures { λ r. ⌜ r ≡ firstWrong (now (d .entry)) ⌝ }
 {
-    let arguments = description::byte_at(d, 8);
+    let arguments = reading::byte_at(d, 8);
     let mut i = 0;
     while i < arguments {
-        let t = description::argument_at(d, i);
+        let t = records::argument_at(d, i);
         if wrong_number(d, t) {
             return i;
         }
@@ -50,10 +50,10 @@ fn is_narrow(d: &[u8], k: usize) -> bool
     requires { ⌜ Whole (now d) × (k < typesIn (now d)) ⌝ }
     ensures { λ r. ⌜ r ≡ narrow (now (d .entry)) k ⌝ }
 {
-    if description::kind_at(d, k) != 0 {
+    if records::kind_at(d, k) != 0 {
         return false;
     }
-    let code = description::a_at(d, k);
+    let code = records::a_at(d, k);
     if code <= 2 {
         return true;
     }
@@ -65,11 +65,11 @@ fn first_narrow(d: &[u8]) -> usize
     requires { ⌜ Typed (now d) ⌝ }
     ensures { λ r. ⌜ r ≡ firstNarrow (now (d .entry)) ⌝ }
 {
-    let named = description::byte_at(d, 7);
-    let arguments = description::byte_at(d, 8);
+    let named = reading::byte_at(d, 7);
+    let arguments = reading::byte_at(d, 8);
     let mut i = named;
     while i < arguments {
-        let t = description::argument_at(d, i);
+        let t = records::argument_at(d, i);
         if is_narrow(d, t) {
             return i;
         }
@@ -91,7 +91,7 @@ pub fn uses_refusal_with(d: &[u8], table: &mut [u32; 64]) -> u8
     if wrong_return(d) {
         return 8;
     }
-    let arguments = description::byte_at(d, 8);
+    let arguments = reading::byte_at(d, 8);
     if first_wrong(d) < arguments {
         return 8;
     }

@@ -29,8 +29,8 @@ pub fn lay(d: &[u8], table: &[u32; 64]) -> Layout
     requires { ⌜ (usesRefusal (now d) ≡ 0) × Tabled (now d) (now table) ⌝ }
     ensures { λ r. ⌜ r ≡ layoutOf (now (d .entry)) ⌝ }
 {
-    let named = description::byte_at(d, 7);
-    let arguments = description::byte_at(d, 8);
+    let named = reading::byte_at(d, 7);
+    let arguments = reading::byte_at(d, 8);
     let hidden = argument_places::hidden_of(d, table);
     let before = Laying {
         used: shapes::fresh(hidden),

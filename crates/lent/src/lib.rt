@@ -29,10 +29,10 @@ fn is_bool(d: &[u8], k: usize) -> bool
     requires { ⌜ Whole (now d) × (k < typesIn (now d)) ⌝ }
     ensures { λ r. ⌜ r ≡ isBool (now (d .entry)) k ⌝ }
 {
-    if description::kind_at(d, k) != 0 {
+    if records::kind_at(d, k) != 0 {
         return false;
     }
-    description::a_at(d, k) == 0
+    records::a_at(d, k) == 0
 }
 
 // Whether type k is _Bool, and the byte is not 0 or 1.
@@ -51,7 +51,7 @@ fn first_bool(d: &[u8]) -> usize
     requires { ⌜ Whole (now d) ⌝ }
     ensures { λ r. ⌜ r ≡ firstFrom (isBool (now (d .entry))) 0 (typesIn (now (d .entry))) ⌝ }
 {
-    let types = description::byte_at(d, 5);
+    let types = reading::byte_at(d, 5);
     let mut k = 0;
     while k < types {
         if is_bool(d, k) {
@@ -67,12 +67,12 @@ fn search_broken(d: &[u8], values: &[u8], table: &[u32; 64]) -> usize
     requires { ⌜ (verdict (now d) ≡ 0) × (length (now values) ≡ valuesOf (now d)) × Tabled (now d) (now table) ⌝ }
     ensures { λ r. ⌜ r ≡ firstBroken (now (d .entry)) (now (values .entry)) ⌝ }
 {
-    let arguments = description::byte_at(d, 8);
+    let arguments = reading::byte_at(d, 8);
     let mut start = Bytes(0);
     let mut i = 0;
     while i < arguments {
-        let k = description::argument_at(d, i);
-        let byte = description::byte_at(values, start.0);
+        let k = records::argument_at(d, i);
+        let byte = reading::byte_at(values, start.0);
         if broken_byte(d, k, byte) {
             return i;
         }
@@ -87,8 +87,8 @@ pub fn first_broken(d: &[u8], values: &[u8], table: &[u32; 64]) -> usize
     requires { ⌜ (verdict (now d) ≡ 0) × (length (now values) ≡ valuesOf (now d)) × Tabled (now d) (now table) ⌝ }
     ensures { λ r. ⌜ r ≡ firstBroken (now (d .entry)) (now (values .entry)) ⌝ }
 {
-    if first_bool(d) == description::byte_at(d, 5) {
-        return description::byte_at(d, 8);
+    if first_bool(d) == reading::byte_at(d, 5) {
+        return reading::byte_at(d, 8);
     }
     search_broken(d, values, table)
 }

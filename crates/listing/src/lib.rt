@@ -24,7 +24,7 @@ fn put_records(
     requires { ⌜ (at + 3328 ≤ 4096) × Accepted (now d) layout × Tabled (now d) (now table) ⌝ }
     ensures { λ r. ⌜ Wrote 3328 (now (out .entry)) at (recordLines (now (d .entry)) 0 (argumentsIn (now (d .entry)))) (now (out .exit)) r ⌝ }
 {
-    let count = description::byte_at(d, 8);
+    let count = reading::byte_at(d, 8);
     let mut used = shapes::fresh(layout.hidden);
     let mut next = at;
     let mut i = 0;
@@ -43,10 +43,10 @@ fn put_laid(d: &[u8], out: &mut [u8; 4096], layout: Layout, table: &[u32; 64]) -
     requires { ⌜ Accepted (now d) layout × Tabled (now d) (now table) ⌝ }
     ensures { λ r. ⌜ Wrote 3452 (now (out .entry)) 0 (laidText (now (d .entry)) layout) (now (out .exit)) r ⌝ }
 {
-    let variadic = description::byte_at(d, 6);
-    let first = description::byte_at(d, 7);
-    let all = description::byte_at(d, 8);
-    let k = description::byte_at(d, 9);
+    let variadic = reading::byte_at(d, 6);
+    let first = reading::byte_at(d, 7);
+    let all = reading::byte_at(d, 8);
+    let k = reading::byte_at(d, 9);
     let returns = layout.returns;
     let named = layout.named;
     let behind_head = lines::put_head(out, 0, all, first, layout);

@@ -44,7 +44,7 @@ pub fn place_values(
     ) {
         return PlaceAnswer::Refused(form::refusal_of(11));
     }
-    if lent::first_broken(d, values, &table) < description::byte_at(d, 8) {
+    if lent::first_broken(d, values, &table) < reading::byte_at(d, 8) {
         return PlaceAnswer::Refused(form::refusal_of(12));
     }
     let count = layout.used.vector;

@@ -16,10 +16,10 @@ fn opening(number: u32, d: &[u8]) -> OpenAnswer
     let LayoutAnswer::Laid(layout) = answer else {
         return OpenAnswer::Refused(deciding::refusal_in(answer));
     };
-    if description::byte_at(d, 6) != 1 {
+    if reading::byte_at(d, 6) != 1 {
         return OpenAnswer::Refused(form::refusal_of(16));
     }
-    let named = description::byte_at(d, 7);
+    let named = reading::byte_at(d, 7);
     let used = layout.named;
     OpenAnswer::Opened(fetching::walk_at(number, named, used))
 }

@@ -24,7 +24,7 @@ pub fn returned_size(d: &[u8], table: &[u32; 64]) -> Bytes
     requires { ⌜ (verdict (now d) ≡ 0) × Tabled (now d) (now table) ⌝ }
     ensures { λ r. ⌜ r .0 ≡ returnedSize (now (d .entry)) ⌝ }
 {
-    let k = description::byte_at(d, 9);
+    let k = reading::byte_at(d, 9);
     if k == 255 {
         return Bytes(0);
     }
@@ -49,7 +49,7 @@ pub fn wrong_bool(d: &[u8], value: &[u8]) -> bool
     if value.len() == 0 {
         return false;
     }
-    let k = description::byte_at(d, 9);
-    let byte = description::byte_at(value, 0);
+    let k = reading::byte_at(d, 9);
+    let byte = reading::byte_at(value, 0);
     lent::broken_byte(d, k, byte)
 }

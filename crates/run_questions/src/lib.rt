@@ -14,13 +14,13 @@ pub fn run_at(d: &[u8], t: u8) -> RunAnswer
         return RunAnswer::Refused(sizes::refusal_for(d, number));
     }
     let k = t as usize;
-    let kind = description::kind_at(d, k);
+    let kind = records::kind_at(d, k);
     if kind < 2 {
         return RunAnswer::NoRun;
     }
-    let first = description::a_at(d, k);
-    let count = description::count_at(d, k);
-    let types = description::byte_at(d, 5);
+    let first = records::a_at(d, k);
+    let count = records::count_at(d, k);
+    let types = reading::byte_at(d, 5);
     RunAnswer::Run(Bytes(11 + 4 * types + first), count)
 }
 

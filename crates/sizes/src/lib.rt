@@ -17,7 +17,7 @@ fn fill_sizes(d: &[u8], table: &mut [u32; 64]) -> usize
         × Sizes (now (d .entry)) (firstLarge (now (d .entry))) (now (table .exit)) ⌝ }
 {
     extents::entries(table);
-    let types = description::byte_at(d, 5);
+    let types = reading::byte_at(d, 5);
     let mut k = 0;
     while k < types {
         let extent = extents::extent_of(d, k, table);
@@ -40,7 +40,7 @@ pub fn types_refusal_with(d: &[u8], table: &mut [u32; 64]) -> u8
     if number != 0 {
         return number;
     }
-    let types = description::byte_at(d, 5);
+    let types = reading::byte_at(d, 5);
     if fill_sizes(d, table) < types {
         return 7;
     }

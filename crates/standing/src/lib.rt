@@ -20,10 +20,10 @@ fn is_astray(d: &[u8], walk: Walk, table: &[u32; 64]) -> bool
     ensures { λ r. ⌜ r ≡ astray kcb (now (d .entry)) walk ⌝ }
 {
     let position = walk.position;
-    if position < description::byte_at(d, 7) {
+    if position < reading::byte_at(d, 7) {
         return true;
     }
-    if description::byte_at(d, 8) < position {
+    if reading::byte_at(d, 8) < position {
         return true;
     }
     let there = fetching::walk_at(
@@ -57,10 +57,10 @@ fn stands(station: Station, d: &[u8], walk: Walk, stack: &[u8], asked: u8) -> St
         return Standing::Refused(form::refusal_of(18));
     }
     let position = walk.position;
-    if position == description::byte_at(d, 8) {
+    if position == reading::byte_at(d, 8) {
         return Standing::Refused(form::refusal_of(19));
     }
-    let ty = description::argument_at(d, position);
+    let ty = records::argument_at(d, position);
     if ty != asked as usize {
         return Standing::Refused(form::refusal_of(20));
     }

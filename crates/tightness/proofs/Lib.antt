@@ -1,7 +1,8 @@
 pub mod Laws
 pub mod OfUnits
 pub mod OfAddresses
-pub mod OfDescription
+pub mod OfRecords
+pub mod OfReading
 pub mod OfForm
 pub mod OfFormRecords
 pub mod OfFormReading
