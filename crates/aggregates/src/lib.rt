@@ -3,8 +3,7 @@
 use classes::Class;
 use units::Bytes;
 ghost use mathlib.Core.Path.{_≡_};
-ghost use mathlib.Core.Bool.{cond};
-ghost use Prim.Native.Nat.{_+_, _^_, _<_, _≤_, max};
+ghost use Prim.Native.Nat.{_<_};
 ghost use Rattle.classes.specs.Classes.{noClasses};
 ghost use Rattle.types.specs.Decode.{tyAt, tysFrom};
 ghost use Rattle.classify.specs.Classify.{elementsAt, classesAt, membersAt};
@@ -121,21 +120,6 @@ fn classify_elements(
     merged
 }
 
-// What marks a member type that need not be merged again.
-fn mark_for(union: bool) -> u8
-    ensures { λ r. ⌜ r ≡ cond union 1 0 ⌝ }
-{
-    if union { 1 } else { 0 }
-}
-
-// Where members end that ended at `end`, once one of `size` bytes at `offset` is there too.
-fn end_past(end: Bytes, offset: Bytes, size: Bytes) -> Bytes
-    requires { ⌜ offset .0 + size .0 ≤ 2 ^ 63 ⌝ }
-    ensures { λ r. ⌜ r .0 ≡ max (end .0) (offset .0 + size .0) ⌝ }
-{
-    units::larger(end, units::plus(offset, size))
-}
-
 // `count` members of type k, which is at offset `at`, from place `first` on, merged. In a union all lie at one offset, so a type
 // that was merged already adds nothing and is passed over.
 fn classify_members(
@@ -152,7 +136,7 @@ fn classify_members(
     requires { ⌜ AskMembers (now d) k first count union 0 (at .0) × Ready (now d) (now table) (now finished) done ⌝ }
     ensures { λ r. ⌜ r ≡ membersAt 2 (tysFrom (tyAt (now (d .entry))) (now (d .entry)) first count) union 0 (at .0) (noClasses 2) ⌝ }
 {
-    let mark = mark_for(union);
+    let mark = member_steps::mark_for(union);
     let mut merged = [Class::NoClass, Class::NoClass];
     let mut seen = [0u8; 64];
     let mut end = Bytes(0);
@@ -172,7 +156,7 @@ fn classify_members(
         let classes = classify_type(d, member, member_at, table, finished, done);
         let next = class_pairs::merge_both(merged, classes);
         merged = next;
-        end = end_past(end, offset, extent.size);
+        end = member_steps::end_past(end, offset, extent.size);
     }
     merged
 }

@@ -11,6 +11,7 @@ pub mod OfSizes
 pub mod OfClasses
 pub mod OfClassPairs
 pub mod OfClassWords
+pub mod OfMemberSteps
 pub mod OfAggregates
 pub mod OfClassTable
 pub mod OfQuestions
