@@ -51,7 +51,7 @@ pub fn place_argument(d: &[u8], used: Used, i: usize, table: &[u32; 64]) -> Step
     let shape = shapes::shape_in(table, k);
     let size = shape.size;
     let align = shape.align;
-    let placed = placing::place_next(used, shape);
+    let placed = next_places::place_next(used, shape);
     let place = placed.place;
     let after = placed.used;
     Step {
@@ -72,7 +72,7 @@ fn use_argument(d: &[u8], used: Used, i: usize, table: &[u32; 64]) -> Turn
 {
     let k = records::argument_at(d, i);
     let size = extents::extent_in(table, k).size;
-    let after = placing::use_next(used, table, k);
+    let after = next_places::use_next(used, table, k);
     Turn {
         size: size,
         used: after,

@@ -41,7 +41,7 @@ fn asked_of(table: &[u32; 64], k: usize) -> Lone
     Lone::Other
 }
 
-// The place of an argument of type k, by the table, as `placing::place_next` says it: a short way for one eightbyte of class INTEGER
+// The place of an argument of type k, by the table, as `next_places::place_next` says it: a short way for one eightbyte of class INTEGER
 // or SSE, which most arguments are.
 pub fn next_place(used: Used, table: &[u32; 64], k: usize, extent: Extent) -> Placed
     requires { ⌜ (k < 64) × Room used × Small (shapeIn (getD (now table) k 0)) × IsEntry (getD (now table) k 0) extent ⌝ }
@@ -52,7 +52,7 @@ pub fn next_place(used: Used, table: &[u32; 64], k: usize, extent: Extent) -> Pl
     let stack = used.stack;
     let lone = asked_of(table, k);
     match lone {
-        Lone::Other => placing::place_next(used, shapes::shape_in(table, k)),
+        Lone::Other => next_places::place_next(used, shapes::shape_in(table, k)),
         Lone::General => {
             if !units::at_most(general, Registers(5)) {
                 return stack_places::on_stack(used, extent.size, extent.align);

@@ -22,6 +22,7 @@ pub mod OfJudging
 pub mod OfShapes
 pub mod OfStackPlaces
 pub mod OfPlacing
+pub mod OfNextPlaces
 pub mod OfReturnPlaces
 pub mod OfArgumentPlaces
 pub mod OfLaying

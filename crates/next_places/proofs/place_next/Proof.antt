@@ -2,8 +2,8 @@
 -- Assumes nothing.
 use borrow.Author.Needs.{needs}
 use Rattle.places.proofs.Records.{placed-stack, placed-registers}
-use Rattle.placing.proofs.place_next.Statement.{statement}
-use Rattle.placing.proofs.place_next.Tie as tie
+use Rattle.next_places.proofs.place_next.Statement.{statement}
+use Rattle.next_places.proofs.place_next.Tie as tie
 
 in-registers-requires : tie.Need-in-registers-requires
 in-registers-requires c κs = search needs

@@ -4,8 +4,8 @@ use lib.ListN.{getD}
 use denote.Ref.{now}
 use Rattle.places.proofs.Asking.{extent-room, used-stack}
 use borrow.Author.Needs.{needs}
-use Rattle.placing.proofs.use_stack.Statement.{statement}
-use Rattle.placing.proofs.use_stack.Tie as tie
+use Rattle.next_places.proofs.use_stack.Statement.{statement}
+use Rattle.next_places.proofs.use_stack.Tie as tie
 
 extent-in-requires : tie.Need-extent-in-requires
 extent-in-requires c κs = search needs
