@@ -23,25 +23,31 @@ pub fn place_one(
         ≡ scatter (now (registers .entry) ++ now (stack .entry)) (bytesOf (placeOf place) (size .0)) (gather (now (values .entry)) (run (at .0) (size .0))) ⌝ }
 {
     match place {
-        Place::One(only) => images::copy_bytes(
+        Place::One(only) => image_bytes::copy_bytes(
             registers,
-            images::address_of(only),
+            image_bytes::address_of(only),
             values,
             at,
             size,
         ),
         Place::Two(low, high) => {
-            images::copy_bytes(registers, images::address_of(low), values, at, Bytes(8));
-            let rest = units::minus(size, Bytes(8));
-            images::copy_bytes(
+            image_bytes::copy_bytes(
                 registers,
-                images::address_of(high),
+                image_bytes::address_of(low),
+                values,
+                at,
+                Bytes(8),
+            );
+            let rest = units::minus(size, Bytes(8));
+            image_bytes::copy_bytes(
+                registers,
+                image_bytes::address_of(high),
                 values,
                 units::plus(at, Bytes(8)),
                 rest,
             );
         }
-        Place::Stack(offset) => images::copy_bytes(stack, offset, values, at, size),
+        Place::Stack(offset) => image_bytes::copy_bytes(stack, offset, values, at, size),
     }
 }
 
@@ -59,24 +65,30 @@ pub fn gather_one(
         ≡ scatter (now (values .entry)) (run (at .0) (size .0)) (gather (now (registers .entry) ++ now (stack .entry)) (bytesOf (placeOf place) (size .0))) ⌝ }
 {
     match place {
-        Place::One(only) => images::copy_bytes(
+        Place::One(only) => image_bytes::copy_bytes(
             values,
             at,
             registers,
-            images::address_of(only),
+            image_bytes::address_of(only),
             size,
         ),
         Place::Two(low, high) => {
-            images::copy_bytes(values, at, registers, images::address_of(low), Bytes(8));
+            image_bytes::copy_bytes(
+                values,
+                at,
+                registers,
+                image_bytes::address_of(low),
+                Bytes(8),
+            );
             let rest = units::minus(size, Bytes(8));
-            images::copy_bytes(
+            image_bytes::copy_bytes(
                 values,
                 units::plus(at, Bytes(8)),
                 registers,
-                images::address_of(high),
+                image_bytes::address_of(high),
                 rest,
             );
         }
-        Place::Stack(offset) => images::copy_bytes(values, at, stack, offset, size),
+        Place::Stack(offset) => image_bytes::copy_bytes(values, at, stack, offset, size),
     }
 }

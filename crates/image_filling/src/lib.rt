@@ -20,7 +20,7 @@ fn blank_images(used: bool, address: u64, registers: &mut [u8], stack: &mut [u8]
     if !used {
         return;
     }
-    images::put_address(registers, address);
+    hidden_address::put_address(registers, address);
 }
 
 // Places every argument into the images, over what stands there; `first` is what is used before the first.

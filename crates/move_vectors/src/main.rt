@@ -170,7 +170,7 @@ fn answer_values(d: &[u8]) {
     let mut values = io::large_buffer();
     io::read_full(STDIN_FILENO, &mut address);
     let n = read_sized(&mut values);
-    answer_images(d, images::address_in(&address), &values[..n]);
+    answer_images(d, hidden_address::address_in(&address), &values[..n]);
 }
 
 // One record; false at the end of the input.

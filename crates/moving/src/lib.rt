@@ -75,5 +75,5 @@ pub fn gather_values(d: &[u8], registers: &[u8], stack: &[u8], values: &mut [u8]
     if !passed {
         return GatherAnswer::Gathered(0);
     }
-    GatherAnswer::Gathered(images::address_in(registers))
+    GatherAnswer::Gathered(hidden_address::address_in(registers))
 }

@@ -83,7 +83,7 @@ fn blank_image(memory: bool, hidden: u64, image: &mut [u8])
     if !memory {
         return;
     }
-    images::put_address(image, hidden);
+    hidden_address::put_address(image, hidden);
 }
 
 fn put_part(part: Part, value: &[u8], image: &mut [u8])
@@ -140,5 +140,5 @@ pub fn returned_address(place: ReturnPlace, image: &[u8]) -> u64
     if !in_memory(place) {
         return 0;
     }
-    images::address_in(image)
+    hidden_address::address_in(image)
 }

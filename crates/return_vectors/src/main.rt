@@ -153,7 +153,7 @@ fn answer_value(d: &[u8]) {
     let mut value = io::large_buffer();
     io::read_full(STDIN_FILENO, &mut address);
     let n = read_sized(&mut value);
-    answer_image(d, images::address_in(&address), &value[..n]);
+    answer_image(d, hidden_address::address_in(&address), &value[..n]);
 }
 
 // One record; false at the end of the input.

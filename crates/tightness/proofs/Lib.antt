@@ -29,7 +29,8 @@ pub mod OfLaying
 pub mod OfDeciding
 pub mod OfBegun
 pub mod OfLists
-pub mod OfImages
+pub mod OfHiddenAddress
+pub mod OfImageBytes
 pub mod OfArgumentBytes
 pub mod OfQuickPlaces
 pub mod OfImageFilling

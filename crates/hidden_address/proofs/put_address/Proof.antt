@@ -2,9 +2,9 @@
 -- Assumes nothing.
 use Prim.Native.Nat.{_-_}
 use native.Mathlib.Omega.{arith}
 use Rattle.images.proofs.Words.{Putting, putting-first, putting-next, putting-last}
-use Rattle.images.proofs.put_address.Statement.{statement}
-use Rattle.images.proofs.put_address.Tie as tie
+use Rattle.hidden_address.proofs.put_address.Statement.{statement}
+use Rattle.hidden_address.proofs.put_address.Tie as tie
 
 abbrev Inv-loop : tie.InvT-loop
 Inv-loop registers₀ address rest₀ i₀ registers rest i = Putting registers₀ address registers rest i

@@ -3,9 +3,9 @@
 use native.Mathlib.Omega.{arith}
 use borrow.Author.Needs.{needs}
 use denote.Ref.{now}
 use Rattle.images.proofs.Words.{address-words}
-use Rattle.images.proofs.address_in.Statement.{statement}
-use Rattle.images.proofs.address_in.Tie as tie
+use Rattle.hidden_address.proofs.address_in.Statement.{statement}
+use Rattle.hidden_address.proofs.address_in.Tie as tie
 
 half-at-requires : tie.Need-half-at-requires
 half-at-requires c κs = search needs
