@@ -46,7 +46,7 @@ pub fn give_placed(
         × ((now (registers .exit) ≡ registersAfter (now (d .entry)) hidden (now (values .entry)) (now (registers .entry)) (now (stack .entry)))
         × (now (stack .exit) ≡ stackAfter (now (d .entry)) hidden (now (values .entry)) (now (registers .entry)) (now (stack .entry))))) ⌝ }
 {
-    let answer = moving::place_values(d, hidden, values, registers, stack);
+    let answer = value_placing::place_values(d, hidden, values, registers, stack);
     match answer {
         PlaceAnswer::Placed(vector) => GivenPlaced {
             placed: Placed { vector: vector },
@@ -71,7 +71,7 @@ pub fn give_gathered(
         × ((r .gathered ≡ leftIn (gatheredGiven (gatherAnswer (now (d .entry)) (now (registers .entry)) (now (stack .entry)) (length (now (values .entry))))) before)
         × (now (values .exit) ≡ valuesAfter (now (d .entry)) (now (registers .entry)) (now (stack .entry)) (now (values .entry)))) ⌝ }
 {
-    let answer = moving::gather_values(d, registers, stack, values);
+    let answer = value_gathering::gather_values(d, registers, stack, values);
     match answer {
         GatherAnswer::Gathered(hidden) => GivenGathered {
             gathered: Gathered { hidden: hidden },

@@ -79,14 +79,14 @@ fn answer(
     stack: &mut [u8],
     out: &mut [u8],
 ) {
-    match moving::place_values(d, hidden, values, registers, stack) {
+    match value_placing::place_values(d, hidden, values, registers, stack) {
         PlaceAnswer::Placed(count) => print_number(b"placed ", count.0 as u64),
         PlaceAnswer::Refused(refusal) => print_refusal(refusal),
     }
     print_bytes(b"registers", registers);
     print_bytes(b"stack", stack);
     fill(out);
-    match moving::gather_values(d, registers, stack, out) {
+    match value_gathering::gather_values(d, registers, stack, out) {
         GatherAnswer::Gathered(address) => print_number(b"gathered ", address),
         GatherAnswer::Refused(refusal) => print_refusal(refusal),
     }

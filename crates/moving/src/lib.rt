@@ -1,11 +1,6 @@
-// Placing and gathering (document 01, "Images and moving bytes"): the bytes of all values, packed, into the two images and out again.
+// Placing and gathering (document 01, "Images and moving bytes"): the bytes of all values, packed, into the two images and out again, as definitions and laws. There is no code here: `value_placing` and `value_gathering` have the calls.
 use form::Refusal;
-use layout::LayoutAnswer;
-use units::Bytes;
 use units::Registers;
-ghost use mathlib.Core.Path.{_≡_};
-ghost use lib.ListN.{length};
-ghost use Rattle.moving.specs.Answers.{placeAnswer, registersAfter, stackAfter, gatherAnswer, valuesAfter};
 
 pub enum PlaceAnswer {
     // The vector count, for al.
@@ -17,63 +12,4 @@ pub enum GatherAnswer {
     // The hidden address, 0 where none is used.
     Gathered(u64),
     Refused(Refusal),
-}
-
-// Places packed values: every byte of both images is written, or none.
-pub fn place_values(
-    d: &[u8],
-    hidden: u64,
-    values: &[u8],
-    registers: &mut [u8],
-    stack: &mut [u8],
-) -> PlaceAnswer
-    ensures { λ r. ⌜ (r ≡ placeAnswer (now (d .entry)) (now (values .entry)) (length (now (registers .entry))) (length (now (stack .entry))))
-        × ((now (registers .exit) ≡ registersAfter (now (d .entry)) hidden (now (values .entry)) (now (registers .entry)) (now (stack .entry)))
-        × (now (stack .exit) ≡ stackAfter (now (d .entry)) hidden (now (values .entry)) (now (registers .entry)) (now (stack .entry)))) ⌝ }
-{
-    let mut table = [0u32; 64];
-    let answer = deciding::layout_with(d, &mut table);
-    let LayoutAnswer::Laid(layout) = answer else {
-        return PlaceAnswer::Refused(deciding::refusal_in(answer));
-    };
-    if lent::wrong_length(
-        layout,
-        Bytes(values.len()),
-        Bytes(registers.len()),
-        Bytes(stack.len()),
-    ) {
-        return PlaceAnswer::Refused(form::refusal_of(11));
-    }
-    if lent::first_broken(d, values, &table) < reading::byte_at(d, 8) {
-        return PlaceAnswer::Refused(form::refusal_of(12));
-    }
-    let count = layout.used.vector;
-    image_filling::fill_images(d, layout.hidden, hidden, values, registers, stack, &table);
-    PlaceAnswer::Placed(count)
-}
-
-// Gathers the values again, packed, and answers the hidden address.
-pub fn gather_values(d: &[u8], registers: &[u8], stack: &[u8], values: &mut [u8]) -> GatherAnswer
-    ensures { λ r. ⌜ (r ≡ gatherAnswer (now (d .entry)) (now (registers .entry)) (now (stack .entry)) (length (now (values .entry))))
-        × (now (values .exit) ≡ valuesAfter (now (d .entry)) (now (registers .entry)) (now (stack .entry)) (now (values .entry))) ⌝ }
-{
-    let mut table = [0u32; 64];
-    let answer = deciding::layout_with(d, &mut table);
-    let LayoutAnswer::Laid(layout) = answer else {
-        return GatherAnswer::Refused(deciding::refusal_in(answer));
-    };
-    if lent::wrong_length(
-        layout,
-        Bytes(values.len()),
-        Bytes(registers.len()),
-        Bytes(stack.len()),
-    ) {
-        return GatherAnswer::Refused(form::refusal_of(11));
-    }
-    let passed = layout.hidden;
-    image_filling::gather_all(d, shapes::fresh(passed), registers, stack, values, &table);
-    if !passed {
-        return GatherAnswer::Gathered(0);
-    }
-    GatherAnswer::Gathered(hidden_address::address_in(registers))
 }

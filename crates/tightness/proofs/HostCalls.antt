@@ -17,8 +17,8 @@ use Rattle.deciding.proofs.check
 use Rattle.deciding.proofs.layout_of
 use Rattle.lists.proofs.lay_out
 use Rattle.lists.proofs.begin
-use Rattle.moving.proofs.place_values
-use Rattle.moving.proofs.gather_values
+use Rattle.value_placing.proofs.place_values
+use Rattle.value_gathering.proofs.gather_values
 use Rattle.putting.proofs.put_returned
 use Rattle.taking.proofs.take_returned
 use Rattle.station.proofs.new_station
@@ -106,11 +106,11 @@ total-lists-lay-out c g = refl
 pub total-lists-begin : Total begin.ended (λ M. begin.clauses {M = M})
 total-lists-begin c g = refl
 
-pub total-moving-place-values : Total place_values.ended (λ M. place_values.clauses {M = M})
-total-moving-place-values c g = refl
+pub total-value-placing-place-values : Total place_values.ended (λ M. place_values.clauses {M = M})
+total-value-placing-place-values c g = refl
 
-pub total-moving-gather-values : Total gather_values.ended (λ M. gather_values.clauses {M = M})
-total-moving-gather-values c g = refl
+pub total-value-gathering-gather-values : Total gather_values.ended (λ M. gather_values.clauses {M = M})
+total-value-gathering-gather-values c g = refl
 
 pub total-putting-put-returned : Total put_returned.ended (λ M. put_returned.clauses {M = M})
 total-putting-put-returned c g = refl

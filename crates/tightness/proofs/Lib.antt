@@ -35,7 +35,8 @@ pub mod OfArgumentBytes
 pub mod OfQuickPlaces
 pub mod OfImageFilling
 pub mod OfLent
-pub mod OfMoving
+pub mod OfValuePlacing
+pub mod OfValueGathering
 pub mod OfReturnImage
 pub mod OfReturnValues
 pub mod OfReturning

@@ -4,11 +4,11 @@ use mathlib.Core.Path.{sym, ap, _∙_}
 use native.Mathlib.Omega.{arith}
 use borrow.Author.Needs.{needs}
 use Rattle.layout.proofs.Layouts.{laid-accepted}
 use Rattle.moving.proofs.Answers.{place-laid-not, place-wrong-length, place-lengths, place-hidden, place-wrong-bool, place-done}
 use Rattle.filling.proofs.Turns.{whole}
 use Rattle.layout.specs.Layout.{refusalIn}
-use Rattle.moving.proofs.place_values.Statement.{statement}
-use Rattle.moving.proofs.place_values.Tie as tie
+use Rattle.value_placing.proofs.place_values.Statement.{statement}
+use Rattle.value_placing.proofs.place_values.Tie as tie
 
 layout-with-requires : tie.Need-layout-with-requires
 layout-with-requires c κs = search needs

@@ -5,10 +5,10 @@ use native.Mathlib.Omega.{arith}
 use borrow.Author.Needs.{needs}
 use borrow.Author.Tests.{not-true, not-false}
 use Rattle.layout.proofs.Layouts.{laid-accepted}
 use Rattle.moving.proofs.Answers.{gather-laid-not, gather-wrong-length, gather-lengths, gather-first, gather-none, gather-address}
 use Rattle.layout.specs.Layout.{refusalIn}
-use Rattle.moving.proofs.gather_values.Statement.{statement}
-use Rattle.moving.proofs.gather_values.Tie as tie
+use Rattle.value_gathering.proofs.gather_values.Statement.{statement}
+use Rattle.value_gathering.proofs.gather_values.Tie as tie
 
 layout-with-requires : tie.Need-layout-with-requires
 layout-with-requires c κs = search needs
