@@ -70,7 +70,7 @@ pub extern "C" fn cb_type_classes(d: &[u8], asked: u8, classes: &mut Classes) ->
     ensures { λ r. ⌜ (r ≡ refusalIn (classesGiven (classesAnswer (now (d .entry)) asked)))
         × (now (classes .exit) ≡ leftIn (classesGiven (classesAnswer (now (d .entry)) asked)) (now (classes .entry))) ⌝ }
 {
-    let given = given::give_classes(d, asked, *classes);
+    let given = given_classes::give_classes(d, asked, *classes);
     *classes = given.classes;
     given.refusal
 }

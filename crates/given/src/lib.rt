@@ -1,18 +1,17 @@
 // What the questions of the C interface give, by value: the refusal, number 0 for none, and the lent record at exit,
-// which a refusal leaves as it was (document 01, "A refusal returns its number only and writes nothing").
+// which a refusal leaves as it was (document 01, "A refusal returns its number only and writes nothing"). The classes of a type are given by `given_classes`.
 use flat::Classes;
 use flat::Part;
 use form::Refusal;
-use questions::ClassesAnswer;
 use questions::ExtentAnswer;
 use questions::RunAnswer;
 use types::Extent;
 use units::Bytes;
 ghost use mathlib.Core.Path.{_≡_};
 ghost use Rattle.questions.specs.Questions.{extentAnswer};
-ghost use Rattle.questions.specs.Runs.{classesAnswer, runAnswer};
+ghost use Rattle.questions.specs.Runs.{runAnswer};
 ghost use Rattle.given.specs.Outcome.{refusalIn, leftIn};
-ghost use Rattle.given.specs.Given.{extentGiven, classesGiven, runGiven};
+ghost use Rattle.given.specs.Given.{extentGiven, runGiven};
 
 pub struct GivenExtent {
     pub extent: Extent,
@@ -42,27 +41,6 @@ pub fn give_extent(d: &[u8], asked: u8, before: Extent) -> GivenExtent
         },
         ExtentAnswer::Refused(refusal) => GivenExtent {
             extent: before,
-            refusal: refusal,
-        },
-    }
-}
-
-// The classes of a type.
-pub fn give_classes(d: &[u8], asked: u8, before: Classes) -> GivenClasses
-    ensures { λ r. ⌜ (r .refusal ≡ refusalIn (classesGiven (classesAnswer (now (d .entry)) asked)))
-        × (r .classes ≡ leftIn (classesGiven (classesAnswer (now (d .entry)) asked)) before) ⌝ }
-{
-    let answer = class_question::type_classes(d, asked);
-    match answer {
-        ClassesAnswer::Classes(first, second) => GivenClasses {
-            classes: Classes {
-                first: classes::code_of(first),
-                second: classes::code_of(second),
-            },
-            refusal: form::refusal_of(0),
-        },
-        ClassesAnswer::Refused(refusal) => GivenClasses {
-            classes: before,
             refusal: refusal,
         },
     }

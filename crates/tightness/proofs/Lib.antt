@@ -59,6 +59,7 @@ pub mod OfListing
 pub mod OfFlat
 pub mod OfFlatLayout
 pub mod OfGiven
+pub mod OfGivenClasses
 pub mod OfGivenLayout
 pub mod OfListed
 pub mod OfHanded

@@ -2,9 +2,6 @@
 use mathlib.Core.Path.{refl, sym, _∙_}
 use Rattle.tightness.specs.Tight.{Meets, Tight}
 use Rattle.tightness.proofs.Laws.{result, settle}
-use Rattle.given.proofs.give_classes
-use Rattle.given.proofs.give_classes.Met as give-classes-met
-use Rattle.given.proofs.give_classes.Symbol as give-classes-symbol
 use Rattle.given.proofs.give_extent
 use Rattle.given.proofs.give_extent.Met as give-extent-met
 use Rattle.given.proofs.give_extent.Symbol as give-extent-symbol
@@ -17,12 +14,6 @@ meets-given-give-extent M = give-extent-met.met
 
 pub tight-given-give-extent : Tight give_extent.ended (λ M. give_extent.clauses {M = M})
 tight-given-give-extent c r q w v a b = (settle (result give_extent.ended c) (a .ensured) (b .ensured) (λ e f i. record { refusal = (e .0 ∙ sym (f .0)) i; extent = (e .1 ∙ sym (f .1)) i }), refl)
-
-pub meets-given-give-classes : Meets give_classes.ended (λ M. give_classes.clauses {M = M}) give-classes-symbol.routine
-meets-given-give-classes M = give-classes-met.met
-
-pub tight-given-give-classes : Tight give_classes.ended (λ M. give_classes.clauses {M = M})
-tight-given-give-classes c r q w v a b = (settle (result give_classes.ended c) (a .ensured) (b .ensured) (λ e f i. record { refusal = (e .0 ∙ sym (f .0)) i; classes = (e .1 ∙ sym (f .1)) i }), refl)
 
 pub meets-given-give-run : Meets give_run.ended (λ M. give_run.clauses {M = M}) give-run-symbol.routine
 meets-given-give-run M = give-run-met.met

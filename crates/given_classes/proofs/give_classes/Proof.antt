@@ -2,8 +2,8 @@
 -- Assumes nothing.
 use mathlib.Core.Path.{refl, sym, _∙_}
 use borrow.Author.Needs.{needs}
-use Rattle.given.proofs.give_classes.Statement.{statement}
-use Rattle.given.proofs.give_classes.Tie as tie
+use Rattle.given_classes.proofs.give_classes.Statement.{statement}
+use Rattle.given_classes.proofs.give_classes.Tie as tie
 
 type-classes-requires : tie.Need-type-classes-requires
 type-classes-requires c κs = search needs
