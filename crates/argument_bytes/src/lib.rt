@@ -23,31 +23,25 @@ pub fn place_one(
         ≡ scatter (now (registers .entry) ++ now (stack .entry)) (bytesOf (placeOf place) (size .0)) (gather (now (values .entry)) (run (at .0) (size .0))) ⌝ }
 {
     match place {
-        Place::One(only) => image_bytes::copy_bytes(
+        Place::One(only) => copying::copy_bytes(
             registers,
-            image_bytes::address_of(only),
+            copying::address_of(only),
             values,
             at,
             size,
         ),
         Place::Two(low, high) => {
-            image_bytes::copy_bytes(
-                registers,
-                image_bytes::address_of(low),
-                values,
-                at,
-                Bytes(8),
-            );
+            copying::copy_bytes(registers, copying::address_of(low), values, at, Bytes(8));
             let rest = units::minus(size, Bytes(8));
-            image_bytes::copy_bytes(
+            copying::copy_bytes(
                 registers,
-                image_bytes::address_of(high),
+                copying::address_of(high),
                 values,
                 units::plus(at, Bytes(8)),
                 rest,
             );
         }
-        Place::Stack(offset) => image_bytes::copy_bytes(stack, offset, values, at, size),
+        Place::Stack(offset) => copying::copy_bytes(stack, offset, values, at, size),
     }
 }
 
@@ -65,30 +59,24 @@ pub fn gather_one(
         ≡ scatter (now (values .entry)) (run (at .0) (size .0)) (gather (now (registers .entry) ++ now (stack .entry)) (bytesOf (placeOf place) (size .0))) ⌝ }
 {
     match place {
-        Place::One(only) => image_bytes::copy_bytes(
+        Place::One(only) => copying::copy_bytes(
             values,
             at,
             registers,
-            image_bytes::address_of(only),
+            copying::address_of(only),
             size,
         ),
         Place::Two(low, high) => {
-            image_bytes::copy_bytes(
-                values,
-                at,
-                registers,
-                image_bytes::address_of(low),
-                Bytes(8),
-            );
+            copying::copy_bytes(values, at, registers, copying::address_of(low), Bytes(8));
             let rest = units::minus(size, Bytes(8));
-            image_bytes::copy_bytes(
+            copying::copy_bytes(
                 values,
                 units::plus(at, Bytes(8)),
                 registers,
-                image_bytes::address_of(high),
+                copying::address_of(high),
                 rest,
             );
         }
-        Place::Stack(offset) => image_bytes::copy_bytes(values, at, stack, offset, size),
+        Place::Stack(offset) => copying::copy_bytes(values, at, stack, offset, size),
     }
 }

@@ -30,7 +30,7 @@ pub mod OfDeciding
 pub mod OfBegun
 pub mod OfLists
 pub mod OfHiddenAddress
-pub mod OfImageBytes
+pub mod OfCopying
 pub mod OfArgumentBytes
 pub mod OfQuickPlaces
 pub mod OfImageFilling

@@ -3,8 +3,8 @@
 use mathlib.Core.Path.{sym, _∙_}
 use borrow.Author.Needs.{needs}
 use Rattle.images.proofs.Moves.{room-eight, copied-eight}
-use Rattle.image_bytes.proofs.copy_bytes.Statement.{statement}
-use Rattle.image_bytes.proofs.copy_bytes.Tie as tie
+use Rattle.copying.proofs.copy_bytes.Statement.{statement}
+use Rattle.copying.proofs.copy_bytes.Tie as tie
 
 same-requires : tie.Need-same-requires
 same-requires c κs = search needs

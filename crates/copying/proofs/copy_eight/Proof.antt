@@ -3,8 +3,8 @@
 use mathlib.Core.Path.{refl}
 use borrow.Author.Needs.{needs}
 use Rattle.images.proofs.Moves.{copied-by-word}
-use Rattle.image_bytes.proofs.copy_eight.Statement.{statement}
-use Rattle.image_bytes.proofs.copy_eight.Tie as tie
+use Rattle.copying.proofs.copy_eight.Statement.{statement}
+use Rattle.copying.proofs.copy_eight.Tie as tie
 
 slice-aggregate-copy : tie.Need-slice-aggregate-copy
 slice-aggregate-copy c = search needs

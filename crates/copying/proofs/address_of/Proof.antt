@@ -4,8 +4,8 @@ use Rattle.places.specs.declared.Register.the-variants.{General, Vector, Upper}
 use native.Mathlib.Omega.{arith}
 use borrow.Author.Needs.{needs}
 use Rattle.images.specs.Asks.{Known}
-use Rattle.image_bytes.proofs.address_of.Statement.{statement}
-use Rattle.image_bytes.proofs.address_of.Tie as tie
+use Rattle.copying.proofs.address_of.Statement.{statement}
+use Rattle.copying.proofs.address_of.Tie as tie
 
 enum-known-register : tie.Need-enum-known-register
 enum-known-register c = search needs
