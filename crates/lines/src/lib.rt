@@ -39,7 +39,7 @@ pub fn put_record(out: &mut [u8; 4096], at: usize, i: usize, placement: Placemen
     let behind_type = text::put_number(out, behind_position, b" type ", ty);
     let behind_size = text::put_number(out, behind_type, b" size ", size.0);
     let behind_align = text::put_number(out, behind_size, b" align ", align.0);
-    let behind_place = place_words::put_place(out, behind_align, place);
+    let behind_place = place_writing::put_place(out, behind_align, place);
     text::put(out, behind_place, b"\n")
 }
 
@@ -61,7 +61,7 @@ pub fn put_return(out: &mut [u8; 4096], at: usize, k: usize, place: ReturnPlace)
 {
     let next = text::put(out, at, b"return");
     let behind_type = put_type(out, next, k);
-    let behind_place = place_words::put_return_place(out, behind_type, place);
+    let behind_place = place_writing::put_return_place(out, behind_type, place);
     text::put(out, behind_place, b"\n")
 }
 

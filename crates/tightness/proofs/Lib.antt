@@ -53,7 +53,8 @@ pub mod OfStep
 pub mod OfShow
 pub mod OfShowing
 pub mod OfText
-pub mod OfPlaceWords
+pub mod OfRegisterWords
+pub mod OfPlaceWriting
 pub mod OfLines
 pub mod OfListing
 pub mod OfFlat

@@ -3,8 +3,8 @@
 use native.Mathlib.Omega.{arith}
 use borrow.Author.Needs.{needs}
 use Rattle.text.proofs.Written.{wrote-join, wrote-more}
-use Rattle.place_words.proofs.put_register.Statement.{statement}
-use Rattle.place_words.proofs.put_register.Tie as tie
+use Rattle.register_words.proofs.put_register.Statement.{statement}
+use Rattle.register_words.proofs.put_register.Tie as tie
 
 enum-known-register : tie.Need-enum-known-register
 enum-known-register c = search needs

@@ -2,9 +2,9 @@
 -- Assumes nothing.
 use borrow.Author.Needs.{needs}
 use denote.Ref.{now}
 use Rattle.place_words.proofs.Words.{vector-is, vector-none}
-use Rattle.place_words.proofs.put_vector.Statement.{statement}
-use Rattle.place_words.proofs.put_vector.Tie as tie
+use Rattle.register_words.proofs.put_vector.Statement.{statement}
+use Rattle.register_words.proofs.put_vector.Tie as tie
 
 returns : tie.Need-returns
 returns c = vector-none (c .before .args .n) (now (c .before .args .out)) (c .before .args .at) (c .if1 .taken)

@@ -3,9 +3,9 @@
 use native.Mathlib.Omega.{arith}
 use borrow.Author.Needs.{needs}
 use denote.Ref.{now}
 use Rattle.place_words.proofs.Words.{general-is, general-none}
-use Rattle.place_words.proofs.put_general.Statement.{statement}
-use Rattle.place_words.proofs.put_general.Tie as tie
+use Rattle.register_words.proofs.put_general.Statement.{statement}
+use Rattle.register_words.proofs.put_general.Tie as tie
 
 slice-aggregate-put : tie.Need-slice-aggregate-put
 slice-aggregate-put c = search needs
