@@ -31,7 +31,7 @@ fn put_records(
     while i < count {
         let step = argument_places::place_argument(d, used, i, table);
         let placement = step.placement;
-        next = lines::put_record(out, next, i, placement);
+        next = line_writing::put_record(out, next, i, placement);
         used = step.used;
         i += 1;
     }
@@ -49,10 +49,10 @@ fn put_laid(d: &[u8], out: &mut [u8; 4096], layout: Layout, table: &[u32; 64]) -
     let k = reading::byte_at(d, 9);
     let returns = layout.returns;
     let named = layout.named;
-    let behind_head = lines::put_head(out, 0, all, first, layout);
+    let behind_head = line_writing::put_head(out, 0, all, first, layout);
     let behind_records = put_records(d, out, behind_head, layout, table);
-    let behind_return = lines::put_return(out, behind_records, k, returns);
-    lines::put_walk(out, behind_return, variadic, named)
+    let behind_return = line_writing::put_return(out, behind_records, k, returns);
+    line_writing::put_walk(out, behind_return, variadic, named)
 }
 
 // Whether a refusal with this number names a type.

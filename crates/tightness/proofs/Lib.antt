@@ -55,7 +55,7 @@ pub mod OfShowing
 pub mod OfText
 pub mod OfRegisterWords
 pub mod OfPlaceWriting
-pub mod OfLines
+pub mod OfLineWriting
 pub mod OfListing
 pub mod OfFlat
 pub mod OfFlatLayout

@@ -3,11 +3,11 @@
 use native.Mathlib.Omega.{arith}
 use borrow.Author.Needs.{needs}
 use borrow.Author.Tests.{eq-eqb}
 use Rattle.lines.specs.Listing.{walkLine}
 use Rattle.lines.proofs.Lines.{walk-is}
 use Rattle.text.proofs.Written.{wrote-more}
-use Rattle.lines.proofs.put_walk.Statement.{statement}
-use Rattle.lines.proofs.put_walk.Tie as tie
+use Rattle.line_writing.proofs.put_walk.Statement.{statement}
+use Rattle.line_writing.proofs.put_walk.Tie as tie
 
 slice-aggregate-put : tie.Need-slice-aggregate-put
 slice-aggregate-put c = search needs

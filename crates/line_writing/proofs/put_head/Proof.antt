@@ -1,10 +1,10 @@
 -- The words and numbers of the first line, in order. Assumes nothing.
 -- Assumes nothing.
 use borrow.Author.Needs.{needs}
 use Rattle.lines.specs.Listing.{headLine}
 use Rattle.text.proofs.Written.{wrote-join}
-use Rattle.lines.proofs.put_head.Statement.{statement}
-use Rattle.lines.proofs.put_head.Tie as tie
+use Rattle.line_writing.proofs.put_head.Statement.{statement}
+use Rattle.line_writing.proofs.put_head.Tie as tie
 
 slice-aggregate-put-number : tie.Need-slice-aggregate-put-number
 slice-aggregate-put-number c = search needs

@@ -1,10 +1,10 @@
 -- The words and numbers of a record's line, in order. Assumes nothing.
 -- Assumes nothing.
 use borrow.Author.Needs.{needs}
 use Rattle.lines.specs.Listing.{recordLine}
 use Rattle.text.proofs.Written.{wrote-join}
-use Rattle.lines.proofs.put_record.Statement.{statement}
-use Rattle.lines.proofs.put_record.Tie as tie
+use Rattle.line_writing.proofs.put_record.Statement.{statement}
+use Rattle.line_writing.proofs.put_record.Tie as tie
 
 cast-ty : tie.Need-cast-ty
 cast-ty c = search needs

@@ -1,10 +1,10 @@
 -- The words of the return line, in order. Assumes nothing.
 -- Assumes nothing.
 use borrow.Author.Needs.{needs}
 use Rattle.lines.specs.Listing.{returnLine}
 use Rattle.text.proofs.Written.{wrote-join}
-use Rattle.lines.proofs.put_return.Statement.{statement}
-use Rattle.lines.proofs.put_return.Tie as tie
+use Rattle.line_writing.proofs.put_return.Statement.{statement}
+use Rattle.line_writing.proofs.put_return.Tie as tie
 
 slice-aggregate-put : tie.Need-slice-aggregate-put
 slice-aggregate-put c = search needs

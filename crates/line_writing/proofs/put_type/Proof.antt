@@ -5,8 +5,8 @@ use borrow.Author.Needs.{needs}
 use borrow.Author.Tests.{eq-eqb, ne-eqb}
 use denote.Ref.{now}
 use Rattle.text.proofs.Written.{wrote-none, wrote-more}
-use Rattle.lines.proofs.put_type.Statement.{statement}
-use Rattle.lines.proofs.put_type.Tie as tie
+use Rattle.line_writing.proofs.put_type.Statement.{statement}
+use Rattle.line_writing.proofs.put_type.Tie as tie
 
 returns : tie.Need-returns
 returns c = rw (eq-eqb (c .before .args .k) 255 (c .if1 .taken)) (wrote-more (wrote-none (now (c .before .args .out)) (c .before .args .at)) (omega arith))
