@@ -1,6 +1,5 @@
 // The lister's text (document 01, "The lister"), line after line. A record's line has at most 52 bytes and the three other lines together 124, so that with 64 records no
 // listing is over 3,452.
-use form::Refusal;
 use layout::Layout;
 use layout::LayoutAnswer;
 ghost use mathlib.Core.Path.{_≡_};
@@ -10,7 +9,7 @@ ghost use lib.ListN.{length, drop};
 ghost use Rattle.description.specs.Description.{argumentsIn};
 ghost use Rattle.classify.specs.Table.{Tabled};
 ghost use Rattle.text.specs.Written.{Wrote};
-ghost use Rattle.lines.specs.Listing.{recordLines, namesType, refusedLine, laidText, listing};
+ghost use Rattle.lines.specs.Listing.{recordLines, laidText, listing};
 ghost use Rattle.lines.specs.Asks.{Accepted};
 
 // A line for each argument.
@@ -55,30 +54,6 @@ fn put_laid(d: &[u8], out: &mut [u8; 4096], layout: Layout, table: &[u32; 64]) -
     line_writing::put_walk(out, behind_return, variadic, named)
 }
 
-// Whether a refusal with this number names a type.
-fn names_type(number: u8) -> bool
-    ensures { λ r. ⌜ r ≡ namesType number ⌝ }
-{
-    if number == 6 {
-        return true;
-    }
-    number == 7
-}
-
-// The line of a refusal: `refused 8`, or `refused 6 type 12`. The number decides, since the type can be 0.
-fn put_refused(out: &mut [u8; 4096], refusal: Refusal) -> usize
-    ensures { λ r. ⌜ Wrote 25 (now (out .entry)) 0 (refusedLine refusal) (now (out .exit)) r ⌝ }
-{
-    let number = refusal.number;
-    let ty = refusal.ty;
-    let behind_number = text::put_number(out, 0, b"refused ", number as usize);
-    if names_type(number) {
-        let behind_type = text::put_number(out, behind_number, b" type ", ty as usize);
-        return text::put(out, behind_type, b"\n");
-    }
-    text::put(out, behind_number, b"\n")
-}
-
 // The listing of any bytes, at the start of `out`: all behind it stays. The answer is its length.
 pub fn write_listing(d: &[u8], out: &mut [u8; 4096]) -> usize
     ensures { λ r. ⌜ (r ≡ length (listing (now (d .entry)))) × (r ≤ 3452)
@@ -89,6 +64,6 @@ pub fn write_listing(d: &[u8], out: &mut [u8; 4096]) -> usize
     let answer = deciding::layout_with(d, &mut table);
     match answer {
         LayoutAnswer::Laid(layout) => put_laid(d, out, layout, &table),
-        LayoutAnswer::Refused(refusal) => put_refused(out, refusal),
+        LayoutAnswer::Refused(refusal) => refused_line::put_refused(out, refusal),
     }
 }

@@ -56,6 +56,7 @@ pub mod OfText
 pub mod OfRegisterWords
 pub mod OfPlaceWriting
 pub mod OfLineWriting
+pub mod OfRefusedLine
 pub mod OfListing
 pub mod OfFlat
 pub mod OfFlatLayout

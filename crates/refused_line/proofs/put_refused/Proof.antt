@@ -4,8 +4,8 @@ use native.Mathlib.Omega.{arith}
 use borrow.Author.Needs.{needs}
 use Rattle.text.proofs.Written.{wrote-none, wrote-join, wrote-more}
 use Rattle.lines.specs.Listing.{refusedLine}
-use Rattle.listing.proofs.put_refused.Statement.{statement}
-use Rattle.listing.proofs.put_refused.Tie as tie
+use Rattle.refused_line.proofs.put_refused.Statement.{statement}
+use Rattle.refused_line.proofs.put_refused.Tie as tie
 
 slice-aggregate-put-number : tie.Need-slice-aggregate-put-number
 slice-aggregate-put-number c = search needs

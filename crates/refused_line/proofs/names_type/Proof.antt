@@ -1,8 +1,8 @@
 -- 6 and 7 name a type. Assumes nothing.
 use borrow.Author.Tests.{eq-eqb, ne-eqb}
 use Rattle.lines.specs.Listing.{namesType}
-use Rattle.listing.proofs.names_type.Statement.{statement}
-use Rattle.listing.proofs.names_type.Tie as tie
+use Rattle.refused_line.proofs.names_type.Statement.{statement}
+use Rattle.refused_line.proofs.names_type.Tie as tie
 
 returns : tie.Need-returns
 unfolding namesType
