@@ -21,7 +21,7 @@ byte-at-requires-4 : tie.Need-byte-at-requires-4
 byte-at-requires-4 c κs = omega (arith, headed (now (c .before .before .before .before .args .d)) (c .before .before .before .before .pre .0 .right))
 
 put-head-requires : tie.Need-put-head-requires
-put-head-requires c κs = (omega arith, c .before .before .before .byte-at3 .ensures .1, c .before .before .before .before .byte-at2 .ensures .1, layout-small (c .before .before .before .before .before .before .before .pre .0))
+put-head-requires c κs = (omega arith, search needs, search needs, layout-small (c .before .before .before .before .before .before .before .pre .0))
 
 put-records-requires : tie.Need-put-records-requires
 put-records-requires c κs = search needs
