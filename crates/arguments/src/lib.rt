@@ -1,4 +1,4 @@
-// The arguments of a call (document 01, "Places"), as definitions and laws: the record of each, and what is used after some of them; `argument_places` works them out.
+// The arguments of a call (document 01, "Places"): the record of each, and what is used after some of them. What they are is defined here; `argument_places` finds it.
 use places::Place;
 use places::Used;
 use units::Bytes;

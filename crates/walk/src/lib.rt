@@ -1,4 +1,4 @@
-// The walk over unnamed arguments (document 01, "Station and walk"; 000, section 3.5.7), as definitions and laws: where it stands, where the next argument is fetched and where the walk stands after it; `fetching` works it out.
+// The walk over unnamed arguments (document 01, "Station and walk"; 000, section 3.5.7): where it stands, where the next argument is fetched and where the walk stands after it. What that is is defined here; `fetching` finds it.
 use form::Refusal;
 use places::Shape;
 use units::Bytes;
