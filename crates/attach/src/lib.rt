@@ -25,7 +25,7 @@ fn attach_refusal(station: Station, seat: &[u8], d: &[u8]) -> Refusal
     if station.number == 4294967295 {
         return form::refusal_of(15);
     }
-    deciding::check(d)
+    checking::check(d)
 }
 
 // Attaches, by value: the station counts up and the seat is filled, or both stay.

@@ -50,7 +50,7 @@ pub extern "C" fn cb_version() -> u32
 pub extern "C" fn cb_check(d: &[u8]) -> Refusal
     ensures { λ r. ⌜ r ≡ refusalFor (now (d .entry)) (verdict (now (d .entry))) ⌝ }
 {
-    deciding::check(d)
+    checking::check(d)
 }
 
 // Size and alignment of a type.

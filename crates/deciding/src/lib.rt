@@ -1,12 +1,10 @@
 // Decides the layout of a call (document 01, "Places"): the verdict on any bytes, 1 to 10, and what all arguments take.
-use form::Refusal;
 use layout::LayoutAnswer;
 use units::Bytes;
 ghost use mathlib.Core.Path.{_≡_};
-ghost use Rattle.types.specs.Wrong.{refusalFor};
 ghost use Rattle.classify.specs.Table.{Tabled};
 ghost use Rattle.layout.specs.Verdict.{verdict};
-ghost use Rattle.layout.specs.Layout.{layoutAnswer, refusalIn, tableAfter};
+ghost use Rattle.layout.specs.Layout.{layoutAnswer, tableAfter};
 
 // The layout of any bytes, or which of 1 to 10 refuses them. Where none does, the table holds what is known of each type.
 pub fn layout_with(d: &[u8], table: &mut [u32; 64]) -> LayoutAnswer
@@ -33,21 +31,4 @@ pub fn layout_of(d: &[u8]) -> LayoutAnswer
 {
     let mut table = [0u32; 64];
     layout_with(d, &mut table)
-}
-
-// The refusal that an answer carries, for a caller that passes it on.
-pub fn refusal_in(answer: LayoutAnswer) -> Refusal
-    ensures { λ r. ⌜ r ≡ refusalIn answer ⌝ }
-{
-    match answer {
-        LayoutAnswer::Laid(_) => form::refusal_of(0),
-        LayoutAnswer::Refused(refusal) => refusal,
-    }
-}
-
-// Which of the refusals 1 to 10 the description gets; number 0 where it is accepted.
-pub fn check(d: &[u8]) -> Refusal
-    ensures { λ r. ⌜ r ≡ refusalFor (now (d .entry)) (verdict (now (d .entry))) ⌝ }
-{
-    refusal_in(layout_of(d))
 }

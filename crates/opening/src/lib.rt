@@ -14,7 +14,7 @@ fn opening(number: u32, d: &[u8]) -> OpenAnswer
 {
     let answer = deciding::layout_of(d);
     let LayoutAnswer::Laid(layout) = answer else {
-        return OpenAnswer::Refused(deciding::refusal_in(answer));
+        return OpenAnswer::Refused(layout_answers::refusal_in(answer));
     };
     if reading::byte_at(d, 6) != 1 {
         return OpenAnswer::Refused(form::refusal_of(16));

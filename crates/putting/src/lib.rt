@@ -15,7 +15,7 @@ pub fn put_returned(d: &[u8], hidden: u64, value: &[u8], image: &mut [u8]) -> Pu
     let mut table = [0u32; 64];
     let answer = deciding::layout_with(d, &mut table);
     let LayoutAnswer::Laid(layout) = answer else {
-        return PutAnswer::Refused(deciding::refusal_in(answer));
+        return PutAnswer::Refused(layout_answers::refusal_in(answer));
     };
     let place = layout.returns;
     let right = return_values::length_for(place, returning::returned_size(d, &table));

@@ -48,7 +48,7 @@ fn stands(station: Station, d: &[u8], walk: Walk, stack: &[u8], asked: u8) -> St
     let mut table = [0u32; 64];
     let answer = deciding::layout_with(d, &mut table);
     let LayoutAnswer::Laid(layout) = answer else {
-        return Standing::Refused(deciding::refusal_in(answer));
+        return Standing::Refused(layout_answers::refusal_in(answer));
     };
     if walk.number != station.number {
         return Standing::Refused(form::refusal_of(17));

@@ -14,7 +14,7 @@ pub fn take_returned(d: &[u8], image: &[u8], value: &mut [u8]) -> TakeAnswer
     let mut table = [0u32; 64];
     let answer = deciding::layout_with(d, &mut table);
     let LayoutAnswer::Laid(layout) = answer else {
-        return TakeAnswer::Refused(deciding::refusal_in(answer));
+        return TakeAnswer::Refused(layout_answers::refusal_in(answer));
     };
     let place = layout.returns;
     let right = return_values::length_for(place, returning::returned_size(d, &table));

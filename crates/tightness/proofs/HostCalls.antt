@@ -13,7 +13,7 @@ use Rattle.class_question.proofs.type_classes
 use Rattle.run_questions.proofs.run_at
 use Rattle.run_questions.proofs.member_run
 use Rattle.judging.proofs.uses_refusal
-use Rattle.deciding.proofs.check
+use Rattle.checking.proofs.check
 use Rattle.deciding.proofs.layout_of
 use Rattle.lists.proofs.lay_out
 use Rattle.lists.proofs.begin
@@ -94,8 +94,8 @@ total-run-questions-member-run c g = refl
 pub total-judging-uses-refusal : Total uses_refusal.ended (λ M. uses_refusal.clauses {M = M})
 total-judging-uses-refusal c g = refl
 
-pub total-deciding-check : Total check.ended (λ M. check.clauses {M = M})
-total-deciding-check c g = refl
+pub total-checking-check : Total check.ended (λ M. check.clauses {M = M})
+total-checking-check c g = refl
 
 pub total-deciding-layout-of : Total layout_of.ended (λ M. layout_of.clauses {M = M})
 total-deciding-layout-of c g = refl

@@ -27,6 +27,8 @@ pub mod OfReturnPlaces
 pub mod OfArgumentPlaces
 pub mod OfLaying
 pub mod OfDeciding
+pub mod OfChecking
+pub mod OfLayoutAnswers
 pub mod OfBegun
 pub mod OfLists
 pub mod OfHiddenAddress

@@ -14,7 +14,7 @@ pub fn gather_values(d: &[u8], registers: &[u8], stack: &[u8], values: &mut [u8]
     let mut table = [0u32; 64];
     let answer = deciding::layout_with(d, &mut table);
     let LayoutAnswer::Laid(layout) = answer else {
-        return GatherAnswer::Refused(deciding::refusal_in(answer));
+        return GatherAnswer::Refused(layout_answers::refusal_in(answer));
     };
     if lent::wrong_length(
         layout,

@@ -21,7 +21,7 @@ pub fn place_values(
     let mut table = [0u32; 64];
     let answer = deciding::layout_with(d, &mut table);
     let LayoutAnswer::Laid(layout) = answer else {
-        return PlaceAnswer::Refused(deciding::refusal_in(answer));
+        return PlaceAnswer::Refused(layout_answers::refusal_in(answer));
     };
     if lent::wrong_length(
         layout,

@@ -4,8 +4,8 @@ use mathlib.Core.Path.{ap, _∙_}
 use borrow.Author.Needs.{needs}
 use Rattle.layout.specs.Layout.{refusalIn}
 use Rattle.layout.proofs.Layouts.{told}
-use Rattle.deciding.proofs.check.Statement.{statement}
-use Rattle.deciding.proofs.check.Tie as tie
+use Rattle.checking.proofs.check.Statement.{statement}
+use Rattle.checking.proofs.check.Tie as tie
 
 layout-of-requires : tie.Need-layout-of-requires
 layout-of-requires c κs = search needs

@@ -1,8 +1,8 @@
 -- `refusal_in` meets its contract.
 -- Assumes nothing.
 use borrow.Author.Needs.{needs}
-use Rattle.deciding.proofs.refusal_in.Statement.{statement}
-use Rattle.deciding.proofs.refusal_in.Tie as tie
+use Rattle.layout_answers.proofs.refusal_in.Statement.{statement}
+use Rattle.layout_answers.proofs.refusal_in.Tie as tie
 
 enum-told : tie.Need-enum-told
 enum-told c = search needs
