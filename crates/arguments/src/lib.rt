@@ -1,4 +1,4 @@
-// The arguments of a call (document 01, "Places"): the record of each, and what is used after some of them. What they are is defined here; `argument_places` finds it.
+// The arguments of a call (document 01, "Places"): the record of each, and what is used after some of them, as definitions and laws; `argument_places` works them out.
 use places::Place;
 use places::Used;
 use units::Bytes;

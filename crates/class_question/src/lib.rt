@@ -8,7 +8,7 @@ pub fn type_classes(d: &[u8], t: u8) -> ClassesAnswer
     ensures { λ r. ⌜ r ≡ classesAnswer (now (d .entry)) t ⌝ }
 {
     let mut table = [0u32; 64];
-    let number = questions::question_refusal_with(d, t, &mut table);
+    let number = question_refusals::question_refusal_with(d, t, &mut table);
     if number != 0 {
         return ClassesAnswer::Refused(sizes::refusal_for(d, number));
     }

@@ -11,7 +11,7 @@ pub fn type_extent(d: &[u8], t: u8) -> ExtentAnswer
     ensures { λ r. ⌜ r ≡ extentAnswer (now (d .entry)) t ⌝ }
 {
     let mut table = [0u32; 64];
-    let number = questions::question_refusal_with(d, t, &mut table);
+    let number = question_refusals::question_refusal_with(d, t, &mut table);
     if number != 0 {
         return ExtentAnswer::Refused(sizes::refusal_for(d, number));
     }

@@ -28,7 +28,7 @@ use Rattle.walk.specs.Steps.{bytesAt}
 use Rattle.walk.proofs.Checks.{astray-not}
 use Rattle.walk.proofs.Passes.{show-passes, room, genuine-reads}
 use Rattle.show.specs.declared.ShownAnswer.the-variants.{Registers, Apart}
-use Rattle.show.specs.Show.{onePiece, headOf, whole, partIn, cut as partOf, shownIn, shownAnswer, showPart}
+use Rattle.show.specs.Show.{onePiece, headOf, whole, partIn, shownBytes, shownIn, shownAnswer, showPart}
 use Rattle.histories.specs.Calls.{Lends}
 use Rattle.histories.specs.Lawful.{Lawful, Holds}
 use Rattle.histories.specs.Values.{cut, imagesFor}
@@ -74,7 +74,7 @@ module _ (r s : List ℕ) (e : length r ≡ 176) where
 
 -- the part is the bytes that a step would write, where they are one part
 part-bytes : (u : Used) (o : Shape) (a : Ask) → Shaped o → length (a .registers) ≡ 176 → (fits u (o .kinds) ≡ false → start u o + o .size ≤ length (a .stack))
-    → partOf (partIn (sourceIn (place u o)) o) a
+    → shownBytes (partIn (sourceIn (place u o)) o) (a .registers) (a .stack)
     ≡ cond (whole (sourceIn (place u o)) o) (gather (a .registers ++ a .stack) (bytesFrom (sourceIn (place u o)) (o .size))) []
 unfolding place
 part-bytes u o a h l m = by (fits u (o .kinds)) refl
@@ -83,7 +83,7 @@ part-bytes u o a h l m = by (fits u (o .kinds)) refl
     at = slots (registersFor (u .general .0) (u .vector .0) (o .kinds))
 
     in-registers : (b : Bool) → fits u (o .kinds) ≡ true → onePiece (o .kinds) ≡ b
-        → partOf (cond b (Registers (record { offset = record { 0 = headOf at }; length = record { 0 = o .size } })) Apart) a
+        → shownBytes (cond b (Registers (record { offset = record { 0 = headOf at }; length = record { 0 = o .size } })) Apart) (a .registers) (a .stack)
         ≡ cond b (gather (a .registers ++ a .stack) (spread at (o .size))) []
     in-registers false e p = refl
     in-registers true e p =
@@ -92,7 +92,7 @@ part-bytes u o a h l m = by (fits u (o .kinds)) refl
         sym (ap (λ (ps : List ℕ). gather (a .registers ++ a .stack) ps) (z .0) ∙ gather-registers (a .registers) (a .stack) l _ _ (z .1))
 
     by : (b : Bool) → fits u (o .kinds) ≡ b
-        → partOf (partIn (sourceIn (placeIf b u o)) o) a
+        → shownBytes (partIn (sourceIn (placeIf b u o)) o) (a .registers) (a .stack)
         ≡ cond (whole (sourceIn (placeIf b u o)) o) (gather (a .registers ++ a .stack) (bytesFrom (sourceIn (placeIf b u o)) (o .size))) []
     by true e = in-registers (onePiece (o .kinds)) e refl
     by false e = sym (gather-stack (a .registers) (a .stack) l (start u o) (o .size) (m e))
@@ -108,7 +108,7 @@ module _ (P : Paper) where
 
   part-accepted : (s : Station) (seat : List ℕ) (w : Walk) (a : Ask) → showRefusal P s seat w a ≡ 0
       → showPart P s seat w a
-      ≡ partOf (partIn (readAt (offsetsOf w) (shapeAt P (described s seat) (w .position))) (shapeAt P (described s seat) (w .position))) a
+      ≡ shownBytes (partIn (readAt (offsetsOf w) (shapeAt P (described s seat) (w .position))) (shapeAt P (described s seat) (w .position))) (a .registers) (a .stack)
   unfolding showPart shownAnswer shownIn
   part-accepted s seat w a e = rw (eq-eqb (showRefusal P s seat w a) 0 e)
 

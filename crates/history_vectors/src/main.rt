@@ -437,7 +437,7 @@ fn show_number(state: State, seat: &[u8], registers: &[u8], stack: &[u8]) {
     let slot = read_byte() as usize;
     let asked = read_byte();
     let walk = walk_in(state, slot);
-    let refusal = showing::show_number(station, seat, walk, registers, stack, asked);
+    let refusal = show_number::show_number(station, seat, walk, registers, stack, asked);
     print_refusal(b"number ", refusal);
     print(b"\n");
 }

@@ -7,21 +7,8 @@ ghost use lib.ListN.{length};
 ghost use Rattle.addresses.specs.Addresses.{scatter};
 ghost use Rattle.classify.specs.Table.{Tabled};
 ghost use Rattle.arguments.specs.Arguments.{hidden, usedFirst};
-ghost use Rattle.filling.specs.Images.{blankBy, addressesOf, placed, gathered};
+ghost use Rattle.filling.specs.Images.{addressesOf, placed, gathered};
 ghost use Rattle.filling.specs.Asks.{Lent};
-
-// Zeros, and the hidden address in rdi where it is used.
-fn blank_images(used: bool, address: u64, registers: &mut [u8], stack: &mut [u8])
-    requires { ⌜ length (now registers) ≡ 176 ⌝ }
-    ensures { λ _. ⌜ now (registers .exit) ++ now (stack .exit) ≡ blankBy used address (length (now (stack .entry))) ⌝ }
-{
-    addresses::clear(registers);
-    addresses::clear(stack);
-    if !used {
-        return;
-    }
-    hidden_address::put_address(registers, address);
-}
 
 // Places every argument into the images, over what stands there; `first` is what is used before the first.
 fn place_all(
@@ -68,7 +55,7 @@ pub fn fill_images(
         × Tabled (now d) (now table) ⌝ }
     ensures { λ _. ⌜ now (registers .exit) ++ now (stack .exit) ≡ placed (now (d .entry)) address (now (values .entry)) ⌝ }
 {
-    blank_images(used, address, registers, stack);
+    blank_images::blank_images(used, address, registers, stack);
     place_all(d, shapes::fresh(used), values, registers, stack, table);
 }
 

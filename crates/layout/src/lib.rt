@@ -1,4 +1,4 @@
-// The layout of a call (document 01, "Places"): the verdict on a description, 1 to 10, and what all its arguments take. What they are is defined here; `deciding` finds it.
+// The layout of a call (document 01, "Places"): the verdict on a description, 1 to 10, and what all its arguments take, as definitions and laws; `deciding` works them out.
 use form::Refusal;
 use places::ReturnPlace;
 use places::Used;

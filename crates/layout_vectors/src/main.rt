@@ -211,7 +211,7 @@ fn print_refusal(refusal: Refusal) {
 
 fn answer(d: &[u8], room: usize) {
     let mut table = [0u32; 64];
-    let begun = begun::begin_with(d, room, &mut table);
+    let begun = beginning::begin_with(d, room, &mut table);
     let answer = begun.answer;
     match answer {
         LayoutAnswer::Laid(layout) => print_laid(d, room, begun, layout, &table),

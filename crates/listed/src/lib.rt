@@ -32,7 +32,7 @@ pub fn begin_list(d: &[u8], before: Layout, room: usize) -> ListBegun
         × (verdict (now (d .entry)) ≡ 0 → Tabled (now (d .entry)) (r .table)) ⌝ }
 {
     let mut table = [0u32; 64];
-    let begun = begun::begin_with(d, room, &mut table);
+    let begun = beginning::begin_with(d, room, &mut table);
     let answer = begun.answer;
     let used = begun.used;
     let given = given_layout::layout_given(answer, begun.count, before);

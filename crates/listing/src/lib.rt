@@ -4,7 +4,7 @@ use layout::Layout;
 use layout::LayoutAnswer;
 ghost use mathlib.Core.Path.{_≡_};
 ghost use mathlib.Core.List.{_++_};
-ghost use Prim.Native.Nat.{_+_, _≤_, _<_};
+ghost use Prim.Native.Nat.{_+_, _≤_};
 ghost use lib.ListN.{length, drop};
 ghost use Rattle.description.specs.Description.{argumentsIn};
 ghost use Rattle.classify.specs.Table.{Tabled};

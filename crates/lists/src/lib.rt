@@ -13,7 +13,7 @@ pub fn begin(d: &[u8], room: usize) -> Begun
     ensures { λ r. ⌜ (r ≡ begunOf (now (d .entry)) room) × (r .count ≤ room) ⌝ }
 {
     let mut table = [0u32; 64];
-    begun::begin_with(d, room, &mut table)
+    beginning::begin_with(d, room, &mut table)
 }
 
 // Fills the list that the caller lends with one record for each argument; entries past A stay, and so does the whole list where
@@ -22,12 +22,12 @@ pub fn lay_out(d: &[u8], list: &mut [Placement]) -> LayoutAnswer
     ensures { λ r. ⌜ (r ≡ listAnswer (now (d .entry)) (length (now (list .entry))))
         × (now (list .exit) ≡ filled (placementAt (now (d .entry))) (listCount (now (d .entry)) (length (now (list .entry)))) (now (list .entry))) ⌝ }
 {
-    let opened = begun::open_list(d, list.len());
+    let opened = beginning::open_list(d, list.len());
     let n = opened.count;
     let mut used = opened.used;
     let mut i = 0;
     while i < n {
-        let step = begun::place_by(d, used, i, opened);
+        let step = beginning::place_by(d, used, i, opened);
         list[i] = step.placement;
         used = step.used;
         i += 1;

@@ -29,7 +29,7 @@ use Rattle.station.specs.Paper.{kcb, refusalUnder}
 use Rattle.station.specs.Attachment.{attachRefusal, detachRefusal}
 use Rattle.station.proofs.Attachments.{attach-left, detach-left}
 use Rattle.walk.specs.Orders.{openRefusal, stepRefusal, showRefusal}
-use Rattle.stepping.proofs.Steps.{step-left}
+use Rattle.walk.proofs.Steps.{step-left}
 use Rattle.promises.specs.Demand1.{A1-Verdict, A2-Below, A2-Questions, A2-Layout, A2-Walk, A3-Frame, A6-Bounds, A7-Run, Demand1}
 use Rattle.promises.proofs.Answering.{answered, decided-number}
 use Rattle.promises.proofs.Numbers.{reading-means, extent-means, size-means, align-means, classes-means, run-means, layout-means, list-means, placing-means, gathering-means, opening-means, shown-means}

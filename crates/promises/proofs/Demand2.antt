@@ -41,7 +41,7 @@ use Rattle.cases.proofs.Cases.{cases-hold}
 use Rattle.listing_cases.proofs.Listings.{listings-hold}
 use Rattle.moving.proofs.Theorems.{places-all, address-unseen, gathers-placed, places-gathered, unused-unseen, twelve-exactly}
 use Rattle.station.specs.Paper.{kcb}
-use Rattle.stepping.proofs.Steps.{step-done}
+use Rattle.walk.proofs.Steps.{step-done}
 use Rattle.walk.proofs.Agreement.{none-used}
 use Rattle.promises.specs.Demand2.{listAfter, B1-Sizes, B2-Classes, B3-Registers, B4-Stack, B5-Counts, B6-Returns, B7-Records, B8-B12-Moving, B13-Steps, B14-Cases, Demand2}
 use Rattle.promises.proofs.Merging.{merges}

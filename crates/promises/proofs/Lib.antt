@@ -10,4 +10,3 @@ pub mod BringingBack
 pub mod PlacedFor
 pub mod ValueBytes
 pub mod Demand3
-pub mod Calls

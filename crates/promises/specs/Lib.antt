@@ -5,4 +5,3 @@ pub mod WrongType
 pub mod Demand2
 pub mod BringingBack
 pub mod Demand3
-pub mod Calls

@@ -18,7 +18,7 @@ pub fn put_returned(d: &[u8], hidden: u64, value: &[u8], image: &mut [u8]) -> Pu
         return PutAnswer::Refused(layout_answers::refusal_in(answer));
     };
     let place = layout.returns;
-    let right = return_values::length_for(place, returning::returned_size(d, &table));
+    let right = memory_returns::length_for(place, returning::returned_size(d, &table));
     if returning::wrong_length(right, Bytes(value.len()), Bytes(image.len())) {
         return PutAnswer::Refused(form::refusal_of(11));
     }

@@ -7,7 +7,7 @@ ghost use mathlib.Core.Path.{_≡_};
 ghost use lib.ListN.{length};
 ghost use Rattle.addresses.specs.Copy.{copied};
 ghost use Rattle.return_image.specs.Moved.{partsOf};
-ghost use Rattle.return_image.specs.Image.{lengthFor, inMemory, blankReturn, returnImage, returnValue, returnedAddress};
+ghost use Rattle.return_image.specs.Image.{blankReturn, returnImage, returnValue, returnedAddress};
 ghost use Rattle.return_image.specs.Asks.{Returnable, AskPart};
 
 // Which bytes of a value of `size` bytes are moved.
@@ -44,33 +44,6 @@ pub fn parts_of(place: ReturnPlace, size: Bytes) -> Parts
             low: return_image::ten(Bytes(0), Bytes(48)),
             high: return_image::ten(Bytes(16), Bytes(64)),
         },
-    }
-}
-
-// The length of a value of a type of `size` bytes: none of it is moved where it is in memory.
-pub fn length_for(place: ReturnPlace, size: Bytes) -> Bytes
-    ensures { λ r. ⌜ r .0 ≡ lengthFor place (size .0) ⌝ }
-{
-    match place {
-        ReturnPlace::Void => Bytes(0),
-        ReturnPlace::Memory => Bytes(0),
-        ReturnPlace::One(_) => size,
-        ReturnPlace::Two(_, _) => size,
-        ReturnPlace::St0 => size,
-        ReturnPlace::St0St1 => size,
-    }
-}
-
-fn in_memory(place: ReturnPlace) -> bool
-    ensures { λ r. ⌜ r ≡ inMemory place ⌝ }
-{
-    match place {
-        ReturnPlace::Void => false,
-        ReturnPlace::Memory => true,
-        ReturnPlace::One(_) => false,
-        ReturnPlace::Two(_, _) => false,
-        ReturnPlace::St0 => false,
-        ReturnPlace::St0St1 => false,
     }
 }
 
@@ -114,7 +87,7 @@ pub fn put_value(place: ReturnPlace, hidden: u64, value: &[u8], image: &mut [u8]
     let parts = parts_of(place, Bytes(value.len()));
     let low = parts.low;
     let high = parts.high;
-    blank_image(in_memory(place), hidden, image);
+    blank_image(memory_returns::in_memory(place), hidden, image);
     put_part(low, value, image);
     put_part(high, value, image);
 }
@@ -137,7 +110,7 @@ pub fn returned_address(place: ReturnPlace, image: &[u8]) -> u64
     requires { ⌜ length (now image) ≡ 80 ⌝ }
     ensures { λ r. ⌜ r ≡ returnedAddress place (now (image .entry)) ⌝ }
 {
-    if !in_memory(place) {
+    if !memory_returns::in_memory(place) {
         return 0;
     }
     hidden_address::address_in(image)

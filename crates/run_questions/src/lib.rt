@@ -9,7 +9,7 @@ ghost use Rattle.questions.specs.Runs.{runAnswer, RunFits, runIn};
 pub fn run_at(d: &[u8], t: u8) -> RunAnswer
     ensures { λ r. ⌜ (r ≡ runAnswer (now (d .entry)) t) × RunFits r (length (now (d .entry))) ⌝ }
 {
-    let number = questions::question_refusal(d, t);
+    let number = question_refusals::question_refusal(d, t);
     if number != 0 {
         return RunAnswer::Refused(sizes::refusal_for(d, number));
     }

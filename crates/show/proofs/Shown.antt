@@ -39,7 +39,7 @@ use Rattle.walk.proofs.Passes.{Ready, ready, room, genuine-reads}
 use Rattle.show.specs.declared.Part.{Part}
 use Rattle.show.specs.declared.ShownAnswer.{ShownAnswer}
 use Rattle.show.specs.declared.ShownAnswer.the-variants.{Registers, Stack, Apart, Refused}
-use Rattle.show.specs.Show.{alike, onePiece, headOf, whole, partIn, cut, Lies, shownIn, shownAnswer, showPart}
+use Rattle.show.specs.Show.{alike, onePiece, headOf, whole, partIn, shownBytes, Lies, shownIn, shownAnswer, showPart}
 
 pub upper-never : (k : Kind) → false ≡ alike upper k
 upper-never general = refl
@@ -97,12 +97,12 @@ part-lies u o stack h m = by (fits u (o .kinds)) refl
     by false e = m e
 
 part-bytes : (u : Used) (o : Shape) (a : Ask) → Shaped o → length (a .registers) ≡ 176 → (fits u (o .kinds) ≡ false → start u o + o .size ≤ length (a .stack))
-    → cut (partIn (sourceIn (place u o)) o) a ≡ cond (whole (sourceIn (place u o)) o) (gather (a .registers ++ a .stack) (bytesFrom (sourceIn (place u o)) (o .size))) []
+    → shownBytes (partIn (sourceIn (place u o)) o) (a .registers) (a .stack) ≡ cond (whole (sourceIn (place u o)) o) (gather (a .registers ++ a .stack) (bytesFrom (sourceIn (place u o)) (o .size))) []
 unfolding place
 part-bytes u o a h l m = by (fits u (o .kinds)) refl
   where
     regs : (b : Bool) → fits u (o .kinds) ≡ true → onePiece (o .kinds) ≡ b
-        → cut (cond b (Registers (record { offset = record { 0 = headOf (slots (registersFor (u .general .0) (u .vector .0) (o .kinds))) }; length = record { 0 = o .size } })) Apart) a
+        → shownBytes (cond b (Registers (record { offset = record { 0 = headOf (slots (registersFor (u .general .0) (u .vector .0) (o .kinds))) }; length = record { 0 = o .size } })) Apart) (a .registers) (a .stack)
         ≡ cond b (gather (a .registers ++ a .stack) (spread (slots (registersFor (u .general .0) (u .vector .0) (o .kinds))) (o .size))) []
     regs false e p = refl
     regs true e p =
@@ -110,7 +110,7 @@ part-bytes u o a h l m = by (fits u (o .kinds)) refl
         sym (ap (gather (a .registers ++ a .stack)) (z .0) ∙ gather-registers (a .registers) (a .stack) l _ _ (z .1))
 
     by : (b : Bool) → fits u (o .kinds) ≡ b
-        → cut (partIn (sourceIn (placeIf b u o)) o) a ≡ cond (whole (sourceIn (placeIf b u o)) o) (gather (a .registers ++ a .stack) (bytesFrom (sourceIn (placeIf b u o)) (o .size))) []
+        → shownBytes (partIn (sourceIn (placeIf b u o)) o) (a .registers) (a .stack) ≡ cond (whole (sourceIn (placeIf b u o)) o) (gather (a .registers ++ a .stack) (bytesFrom (sourceIn (placeIf b u o)) (o .size))) []
     by true e = regs (onePiece (o .kinds)) e refl
     by false e = sym (gather-stack (a .registers) (a .stack) l (start u o) (o .size) (m e))
 
@@ -170,24 +170,18 @@ module _ (s : Station) (seat : List ℕ) (w : Walk) (a : Ask) (t : Standing) (h 
           rw (x, z .passed .registers) (shown-lies s seat w a z),
         )
 
--- the part that an answer names is what show answers
-module _ (P : Paper) (s : Station) (seat : List ℕ) (w : Walk) (a : Ask) (x : ShownAnswer) (named : x ≡ shownAnswer P s seat w a) where
-  shows-cut : cut x a ≡ showPart P s seat w a
-  unfolding showPart
-  shows-cut = ap (λ (y : ShownAnswer). cut y a) named
+-- the bytes that an answer names are what show answers
+pub shows-bytes : (P : Paper) (s : Station) (seat : List ℕ) (w : Walk) (a : Ask) (x : ShownAnswer) → x ≡ shownAnswer P s seat w a
+    → shownBytes x (a .registers) (a .stack) ≡ showPart P s seat w a
+unfolding showPart
+shows-bytes P s seat w a x e = ap (λ (y : ShownAnswer). shownBytes y (a .registers) (a .stack)) e
 
-  pub shows-registers : (p : Part) → x ≡ Registers p → take (p .offset .0 + p .length .0 - p .offset .0) (drop (p .offset .0) (a .registers)) ≡ showPart P s seat w a
-  shows-registers p e =
-      ap (λ (k : ℕ). take k (drop (p .offset .0) (a .registers))) (add-sub-cancel-left (p .offset .0) (p .length .0))
-      ∙ ap (λ (y : ShownAnswer). cut y a) (sym e) ∙ shows-cut
+-- the part that is taken of an image has the bytes that the answer names
+module _ (registers stack : List ℕ) (x : ShownAnswer) where
+  pub bytes-registers : (p : Part) → x ≡ Registers p → take (p .offset .0 + p .length .0 - p .offset .0) (drop (p .offset .0) registers) ≡ shownBytes x registers stack
+  bytes-registers p e =
+      ap (λ (k : ℕ). take k (drop (p .offset .0) registers)) (add-sub-cancel-left (p .offset .0) (p .length .0)) ∙ sym (ap (λ (y : ShownAnswer). shownBytes y registers stack) e)
 
-  pub shows-stack : (p : Part) → x ≡ Stack p → take (p .offset .0 + p .length .0 - p .offset .0) (drop (p .offset .0) (a .stack)) ≡ showPart P s seat w a
-  shows-stack p e =
-      ap (λ (k : ℕ). take k (drop (p .offset .0) (a .stack))) (add-sub-cancel-left (p .offset .0) (p .length .0))
-      ∙ ap (λ (y : ShownAnswer). cut y a) (sym e) ∙ shows-cut
-
-  pub shows-apart : x ≡ Apart → [] ≡ showPart P s seat w a
-  shows-apart e = ap (λ (y : ShownAnswer). cut y a) (sym e) ∙ shows-cut
-
-  pub shows-refused : (r : Refusal) → x ≡ Refused r → [] ≡ showPart P s seat w a
-  shows-refused r e = ap (λ (y : ShownAnswer). cut y a) (sym e) ∙ shows-cut
+  pub bytes-stack : (p : Part) → x ≡ Stack p → take (p .offset .0 + p .length .0 - p .offset .0) (drop (p .offset .0) stack) ≡ shownBytes x registers stack
+  bytes-stack p e =
+      ap (λ (k : ℕ). take k (drop (p .offset .0) stack)) (add-sub-cancel-left (p .offset .0) (p .length .0)) ∙ sym (ap (λ (y : ShownAnswer). shownBytes y registers stack) e)

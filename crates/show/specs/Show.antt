@@ -52,12 +52,12 @@ partIn (fromRegisters os) s =
     cond (onePiece (s .kinds)) (Registers (record { offset = record { 0 = headOf os }; length = record { 0 = s .size } })) Apart
 partIn (fromStack o) s = Stack (record { offset = record { 0 = o }; length = record { 0 = s .size } })
 
--- the bytes that an answer names: "the empty part for a refusal, for two vector registers and for mixed ones"
-abbrev pub cut : ShownAnswer → Ask → List ℕ
-cut (Registers p) a = take (p .length .0) (drop (p .offset .0) (a .registers))
-cut (Stack p) a = take (p .length .0) (drop (p .offset .0) (a .stack))
-cut Apart a = []
-cut (Refused r) a = []
+-- the bytes that an answer names in a register image and a stack image: "the empty part for a refusal, for two vector registers and for mixed ones"
+abbrev pub shownBytes : ShownAnswer → List ℕ → List ℕ → List ℕ
+shownBytes (Registers p) registers stack = take (p .length .0) (drop (p .offset .0) registers)
+shownBytes (Stack p) registers stack = take (p .length .0) (drop (p .offset .0) stack)
+shownBytes Apart registers stack = []
+shownBytes (Refused r) registers stack = []
 
 -- the part lies within images of these lengths
 abbrev pub Lies : ShownAnswer → ℕ → ℕ → Type 0
@@ -77,4 +77,4 @@ module _ (P : Paper) where
 
   -- what show answers; the out buffer of the ask is not looked at
   unfoldable pub showPart : Station → List ℕ → Walk → Ask → List ℕ
-  showPart s seat w a = cut (shownAnswer s seat w a) a
+  showPart s seat w a = shownBytes (shownAnswer s seat w a) (a .registers) (a .stack)

@@ -1,5 +1,4 @@
-// An argument shown where it lies, and the number of `show` (document 01, "Station and walk", "A second call", "A third call").
-use form::Refusal;
+// An argument shown where it lies (document 01, "Station and walk", "A second call").
 use show::ShownAnswer;
 use station::Station;
 use walk::Standing;
@@ -7,9 +6,8 @@ use walk::Walk;
 ghost use mathlib.Core.Path.{_≡_};
 ghost use mathlib.Core.List.{[]};
 ghost use lib.ListN.{length};
-ghost use Rattle.station.specs.Paper.{kcb, refusalUnder};
-ghost use Rattle.station.specs.Attachment.{described};
-ghost use Rattle.walk.specs.Orders.{asking, showRefusal};
+ghost use Rattle.station.specs.Paper.{kcb};
+ghost use Rattle.walk.specs.Orders.{asking};
 ghost use Rattle.show.specs.Show.{Lies, shownAnswer, showPart};
 
 // Where the argument that the walk stands before lies.
@@ -44,33 +42,5 @@ pub fn show<'a>(
     ensures { λ r. ⌜ now r ≡ showPart kcb station (now (seat .entry)) walk (asking (now (registers .entry)) (now (stack .entry)) asked []) ⌝ }
 {
     let answer = shown_at(station, seat, walk, registers, stack, asked);
-    match answer {
-        ShownAnswer::Registers(part) => {
-            let from = part.offset.0;
-            let end = from + part.length.0;
-            &registers[from..end]
-        }
-        ShownAnswer::Stack(part) => {
-            let from = part.offset.0;
-            let end = from + part.length.0;
-            &stack[from..end]
-        }
-        ShownAnswer::Apart => &registers[..0],
-        ShownAnswer::Refused(_) => &registers[..0],
-    }
-}
-
-// The refusal of `show`, number 0 for none.
-pub fn show_number(
-    station: Station,
-    seat: &[u8],
-    walk: Walk,
-    registers: &[u8],
-    stack: &[u8],
-    asked: u8,
-) -> Refusal
-    ensures { λ r. ⌜ r ≡ refusalUnder kcb (described station (now (seat .entry))) (showRefusal kcb station (now (seat .entry)) walk (asking (now (registers .entry)) (now (stack .entry)) asked [])) ⌝ }
-{
-    let standing = standing::checked(station, seat, walk, registers, stack, asked);
-    standing::refusal_in(standing)
+    shown_parts::part_in(answer, registers, stack)
 }

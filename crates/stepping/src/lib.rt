@@ -2,48 +2,18 @@
 use form::Refusal;
 use station::Station;
 use units::Bytes;
-use walk::Fetch;
 use walk::Standing;
 use walk::Walk;
 ghost use mathlib.Core.Path.{_≡_};
-ghost use mathlib.Core.List.{_++_};
-ghost use lib.ListN.{length};
-ghost use Rattle.addresses.specs.Addresses.{gather};
 ghost use Rattle.station.specs.Paper.{kcb, refusalUnder};
 ghost use Rattle.station.specs.Attachment.{described};
-ghost use Rattle.walk.specs.Offsets.{bytesFrom, sourceOf};
 ghost use Rattle.walk.specs.Orders.{asking, stepRefusal};
 ghost use Rattle.walk.specs.Steps.{stepWalk, stepOut};
-ghost use Rattle.walk.specs.Asks.{Within};
 
 // The walk after a step, and the refusal, number 0 for none.
 pub struct Stepped {
     pub walk: Walk,
     pub refusal: Refusal,
-}
-
-// Copies the argument's bytes into the out buffer, eightbyte after eightbyte or in one piece.
-fn copy_out(fetch: Fetch, size: Bytes, registers: &[u8], stack: &[u8], out: &mut [u8])
-    requires { ⌜ (length (now registers) ≡ 176) × (length (now out) ≡ size .0) × Within fetch (size .0) 176 (length (now stack)) ⌝ }
-    ensures { λ _. ⌜ now (out .exit) ≡ gather (now (registers .entry) ++ now (stack .entry)) (bytesFrom (sourceOf fetch) (size .0)) ⌝ }
-{
-    let count = size.0;
-    match fetch {
-        Fetch::One(offset) => {
-            let from = offset.0;
-            addresses::copy(out, 0, registers, from, count);
-        }
-        Fetch::Two(low, high) => {
-            let first = low.0;
-            let second = high.0;
-            addresses::copy(out, 0, registers, first, 8);
-            addresses::copy(out, 8, registers, second, count - 8);
-        }
-        Fetch::Stack(offset) => {
-            let from = offset.0;
-            addresses::copy(out, 0, stack, from, count);
-        }
-    }
 }
 
 // One step, by value: the bytes are copied and the walk moves on, or the out buffer and the walk stay.
@@ -75,7 +45,7 @@ pub fn stepping(
         };
     }
     let fetch = fetching::fetch_at(walk, shape);
-    copy_out(fetch, size, registers, stack, out);
+    fetched_bytes::copy_out(fetch, size, registers, stack, out);
     let next = fetching::moved_on(walk, shape);
     Stepped {
         walk: next,

@@ -5,7 +5,7 @@ use Rattle.form_reading.proofs.read_form
 use Rattle.form_reading.proofs.form_refusal
 use Rattle.form.proofs.refusal_of
 use Rattle.sizes.proofs.types_refusal
-use Rattle.questions.proofs.question_refusal
+use Rattle.question_refusals.proofs.question_refusal
 use Rattle.extent_questions.proofs.type_size
 use Rattle.extent_questions.proofs.type_align
 use Rattle.extent_questions.proofs.type_extent
@@ -33,7 +33,7 @@ use Rattle.step.proofs.step
 use Rattle.stepping.proofs.stepping
 use Rattle.showing.proofs.shown_at
 use Rattle.showing.proofs.show
-use Rattle.showing.proofs.show_number
+use Rattle.show_number.proofs.show_number
 use Rattle.listing.proofs.write_listing
 use Rattle.shapes.proofs.fresh
 use Rattle.return_places.proofs.return_place
@@ -70,8 +70,8 @@ total-form-refusal-of c g = refl
 pub total-sizes-types-refusal : Total types_refusal.ended (λ M. types_refusal.clauses {M = M})
 total-sizes-types-refusal c g = refl
 
-pub total-questions-question-refusal : Total question_refusal.ended (λ M. question_refusal.clauses {M = M})
-total-questions-question-refusal c g = refl
+pub total-question-refusals-question-refusal : Total question_refusal.ended (λ M. question_refusal.clauses {M = M})
+total-question-refusals-question-refusal c g = refl
 
 pub total-extent-questions-type-size : Total type_size.ended (λ M. type_size.clauses {M = M})
 total-extent-questions-type-size c g = refl
@@ -154,8 +154,8 @@ total-showing-shown-at c g = refl
 pub total-showing-show : Total show.ended (λ M. show.clauses {M = M})
 total-showing-show c g = refl
 
-pub total-showing-show-number : Total show_number.ended (λ M. show_number.clauses {M = M})
-total-showing-show-number c g = refl
+pub total-show-number-show-number : Total show_number.ended (λ M. show_number.clauses {M = M})
+total-show-number-show-number c g = refl
 
 pub total-listing-write-listing : Total write_listing.ended (λ M. write_listing.clauses {M = M})
 total-listing-write-listing c g = refl

@@ -1,13 +1,10 @@
 -- Each public function of `return_values` meets its contract, and the contract is tight. Assumes nothing.
-use mathlib.Core.Path.{_≡_, refl, sym, _∙_}
+use mathlib.Core.Path.{_≡_, refl}
 use Rattle.tightness.specs.Tight.{Meets, Tight}
-use Rattle.tightness.proofs.Laws.{bytes, equal, result, settle}
+use Rattle.tightness.proofs.Laws.{bytes, equal, result}
 use Rattle.return_values.proofs.parts_of
 use Rattle.return_values.proofs.parts_of.Met as parts-of-met
 use Rattle.return_values.proofs.parts_of.Symbol as parts-of-symbol
-use Rattle.return_values.proofs.length_for
-use Rattle.return_values.proofs.length_for.Met as length-for-met
-use Rattle.return_values.proofs.length_for.Symbol as length-for-symbol
 use Rattle.return_values.proofs.put_value
 use Rattle.return_values.proofs.put_value.Met as put-value-met
 use Rattle.return_values.proofs.put_value.Symbol as put-value-symbol
@@ -23,12 +20,6 @@ meets-return-values-parts-of M = parts-of-met.met
 
 pub tight-return-values-parts-of : Tight parts_of.ended (λ M. parts_of.clauses {M = M})
 tight-return-values-parts-of c r q w v a b = (equal (result parts_of.ended c) (a .ensured) (b .ensured), refl)
-
-pub meets-return-values-length-for : Meets length_for.ended (λ M. length_for.clauses {M = M}) length-for-symbol.routine
-meets-return-values-length-for M = length-for-met.met
-
-pub tight-return-values-length-for : Tight length_for.ended (λ M. length_for.clauses {M = M})
-tight-return-values-length-for c r q w v a b = (settle (result length_for.ended c) (a .ensured) (b .ensured) (λ e f i. record { 0 = (e ∙ sym f) i }), refl)
 
 pub meets-return-values-put-value : Meets put_value.ended (λ M. put_value.clauses {M = M}) put-value-symbol.routine
 meets-return-values-put-value M = put-value-met.met

@@ -9,9 +9,6 @@ use Rattle.showing.proofs.show.Symbol as show-symbol
 use Rattle.showing.proofs.shown_at
 use Rattle.showing.proofs.shown_at.Met as shown-at-met
 use Rattle.showing.proofs.shown_at.Symbol as shown-at-symbol
-use Rattle.showing.proofs.show_number
-use Rattle.showing.proofs.show_number.Met as show-number-met
-use Rattle.showing.proofs.show_number.Symbol as show-number-symbol
 
 pub meets-showing-shown-at : Meets shown_at.ended (λ M. shown_at.clauses {M = M}) shown-at-symbol.routine
 meets-showing-shown-at M = shown-at-met.met
@@ -24,9 +21,3 @@ meets-showing-show M = show-met.met
 
 pub tight-showing-show : TightPart show.ended (λ c r. now r) (λ M. show.clauses {M = M})
 tight-showing-show c r q w v a b = (equal bytes (a .ensured) (b .ensured), refl)
-
-pub meets-showing-show-number : Meets show_number.ended (λ M. show_number.clauses {M = M}) show-number-symbol.routine
-meets-showing-show-number M = show-number-met.met
-
-pub tight-showing-show-number : Tight show_number.ended (λ M. show_number.clauses {M = M})
-tight-showing-show-number c r q w v a b = (equal (result show_number.ended c) (a .ensured) (b .ensured), refl)

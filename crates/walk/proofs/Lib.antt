@@ -3,3 +3,4 @@ pub mod Fetches
 pub mod Checks
 pub mod Opens
 pub mod Passes
+pub mod Steps

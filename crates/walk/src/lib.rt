@@ -1,4 +1,4 @@
-// The walk over unnamed arguments (document 01, "Station and walk"; 000, section 3.5.7): where it stands, where the next argument is fetched and where the walk stands after it. What that is is defined here; `fetching` finds it.
+// The walk over unnamed arguments (document 01, "Station and walk"; 000, section 3.5.7): where it stands, where the next argument is fetched and where the walk stands after it, as definitions and laws; `fetching` works it out.
 use form::Refusal;
 use places::Shape;
 use units::Bytes;

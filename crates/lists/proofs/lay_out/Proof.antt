@@ -77,14 +77,14 @@ use Rattle.begun.proofs.Opened as B
 use Rattle.begun.proofs.Opened.Laws as B′
 use Rattle.arguments.proofs.Step as U
 use Rattle.arguments.proofs.Step.Laws as U′
-use Rattle.begun.proofs.open_list as begin
-use Rattle.begun.proofs.open_list.Symbol as begin-def
-use Rattle.begun.proofs.open_list.Symbol.{name as #begun·open-list}
-use Rattle.begun.proofs.open_list.Met as begin-thm
-use Rattle.begun.proofs.place_by as one
-use Rattle.begun.proofs.place_by.Symbol as one-def
-use Rattle.begun.proofs.place_by.Symbol.{name as #begun·place-by}
-use Rattle.begun.proofs.place_by.Met as one-thm
+use Rattle.beginning.proofs.open_list as begin
+use Rattle.beginning.proofs.open_list.Symbol as begin-def
+use Rattle.beginning.proofs.open_list.Symbol.{name as #beginning·open-list}
+use Rattle.beginning.proofs.open_list.Met as begin-thm
+use Rattle.beginning.proofs.place_by as one
+use Rattle.beginning.proofs.place_by.Symbol as one-def
+use Rattle.beginning.proofs.place_by.Symbol.{name as #beginning·place-by}
+use Rattle.beginning.proofs.place_by.Met as one-thm
 use Rattle.lists.proofs.lay_out.Key.{name as #lists·lay-out}
 use Rattle.lists.proofs.lay_out as f
 use Rattle.lists.proofs.lay_out.Statement as stated
@@ -234,7 +234,7 @@ module _ {M : Type 1} (𝓤 : URA M) (H : Heap 𝓤) (A : Atoms 𝓤) (W : Given
   Nearer-wf : WellFounded Nearer
   Nearer-wf = InvImage·wf (λ (i : Upto). n - i .0) (Nat·lt-wfRel .wf)
 
-  module _ (𝓣 : Tables 𝓤 H) (fm : FmC 𝓤 H (W .laws) (𝓣 .C)) (known-one : Triple 𝓤 (𝓣 .C #begun·place-by) (One 𝓤 H A mem run)) (l₀ l₁ l₂ l₃ l₄ l₅ l₆ l₇ l₈ l₉ l₁₀ l₁₁ : ℕ) where
+  module _ (𝓣 : Tables 𝓤 H) (fm : FmC 𝓤 H (W .laws) (𝓣 .C)) (known-one : Triple 𝓤 (𝓣 .C #beginning·place-by) (One 𝓤 H A mem run)) (l₀ l₁ l₂ l₃ l₄ l₅ l₆ l₇ l₈ l₉ l₁₀ l₁₁ : ℕ) where
     abbrev C : Calls 𝓤 H
     C = 𝓣 .C
 
@@ -325,7 +325,7 @@ module _ {M : Type 1} (𝓤 : URA M) (H : Heap 𝓤) (A : Atoms 𝓤) (W : Given
         keep ! (3 ∷ 4 ∷ 5 ∷ 6 ∷ 1 ∷ 2 ∷ 0 ∷ 7 ∷ 8 ∷ 9 ∷ 10 ∷ 11 ∷ 12 ∷ 13 ∷ 14 ∷ 15 ∷ 16 ∷ 17 ∷ 18 ∷ 19 ∷ 20 ∷ 21 ∷ 22 ∷ 23 ∷ 24 ∷ 25 ∷ 26 ∷ 27 ∷ 28 ∷ 29 ∷ 30 ∷ []) $ looped within known goodB
 
   -- the MIR up to the loop: the borrow is opened once, before it
-  walk : (𝓣 : Tables 𝓤 H) → FmC 𝓤 H (W .laws) (𝓣 .C) → Triple 𝓤 (𝓣 .C #begun·open-list) (Begin 𝓤 H A mem run) → Triple 𝓤 (𝓣 .C #begun·place-by) (One 𝓤 H A mem run)
+  walk : (𝓣 : Tables 𝓤 H) → FmC 𝓤 H (W .laws) (𝓣 .C) → Triple 𝓤 (𝓣 .C #beginning·open-list) (Begin 𝓤 H A mem run) → Triple 𝓤 (𝓣 .C #beginning·place-by) (One 𝓤 H A mem run)
       → ent 𝓤 (onEntry 𝓤 H A f.signature (κ₁, (κ, tt)) (q₁, (q, tt)) a vals) (WpFn 𝓤 H (𝓣 .C) (𝓣 .Λ) code.function (vz ∷ s ∷ []) Post)
   walk 𝓣 fm known-begin known-one =
       qed W ((‵ (flft κ₁ q₁) ⊛ (‵ (flft κ q) ⊛ ‵ ftrue)) ∷ ‵ (owns (ShrSlice (named 0) κ₁ u8 ∷ MutSlice (named 1) κ T.the-row ∷ []) a vals) ∷ []) ∵ enter ! (𝓣 .C) (𝓣 .Λ) code.function (vz ∷ s ∷ []) _ $
@@ -351,7 +351,7 @@ module _ {M : Type 1} (𝓤 : URA M) (H : Heap 𝓤) (A : Atoms 𝓤) (W : Given
       begun 𝓣 fm known-one l₀ l₁ l₂ l₃ l₄ l₅ l₆ l₇ l₈ l₉ l₁₀ l₁₁ (subst (λ (h : Opened). h .count ≤ length ys) (e .0) (e .1)) (subst (λ (h : Opened). verdict (z .now) ≡ 0 → Tabled (z .now) (h .table)) (e .0) (e .2)) (LL.owes B.the-type B′.the-laws dec (LL.owed B.the-type B′.the-laws dec (w ∷ []) is)) (LL.owed B.the-type B′.the-laws dec (w ∷ []) is .1 .1 .0) (LL.owed B.the-type B′.the-laws dec (w ∷ []) is .1 .0 .1)))))))))))))))))
 
 module _ {M : Type 1} (𝓤 : URA M) (H : Heap 𝓤) (A : Atoms 𝓤) (W : Given 𝓤 H A) (mem : Memory → SProp 𝓤) (run : Routine → Fun 𝓤) where
-  lay-out-walks : (𝓣 : Tables 𝓤 H) → FmC 𝓤 H (W .laws) (𝓣 .C) → Triple 𝓤 (𝓣 .C #begun·open-list) (Begin 𝓤 H A mem run) → Triple 𝓤 (𝓣 .C #begun·place-by) (One 𝓤 H A mem run)
+  lay-out-walks : (𝓣 : Tables 𝓤 H) → FmC 𝓤 H (W .laws) (𝓣 .C) → Triple 𝓤 (𝓣 .C #beginning·open-list) (Begin 𝓤 H A mem run) → Triple 𝓤 (𝓣 .C #beginning·place-by) (One 𝓤 H A mem run)
       → Walks 𝓤 H A f.ended stayed (WpFn 𝓤 H (𝓣 .C) (𝓣 .Λ) code.function) (f.clauses 𝓤 H A mem run)
   lay-out-walks 𝓣 fm known-begin known-one = walked 𝓤 H A f.ended stayed (f.clauses 𝓤 H A mem run) (WpFn 𝓤 H (𝓣 .C) (𝓣 .Λ) code.function)
       (λ κs. (slice-vals, (slice-vals, tt))) (λ κs. (shr-slice-tells (named 0) (κs .0) u8, (mut-slice-tells (named 1) (κs .1 .0) T.the-row, tt)))
@@ -361,7 +361,7 @@ module _ {M : Type 1} (𝓤 : URA M) (H : Heap 𝓤) (A : Atoms 𝓤) (W : Given
   goes : AllGo 𝓤 H A W 2 (f.signature .params) (f.ended .kept) stayed
   goes = (goes-none-slice 𝓤 H A W 2 (0 ∷ []) tt (plain (λ _. u8)) yes, (goes-slice 𝓤 H A W 2 1 tt (plain (λ _. T.the-row)), tt))
 
-lay-out-meets : {M : Type 1} (𝓤 : URA M) (H : Heap 𝓤) (A : Atoms 𝓤) → Given 𝓤 H A → (mem : Memory → SProp 𝓤) (run : Routine → Fun 𝓤) (𝓣 : Tables 𝓤 H) → Triple 𝓤 (𝓣 .C #begun·open-list) (Begin 𝓤 H A mem run) → Triple 𝓤 (𝓣 .C #begun·place-by) (One 𝓤 H A mem run)
+lay-out-meets : {M : Type 1} (𝓤 : URA M) (H : Heap 𝓤) (A : Atoms 𝓤) → Given 𝓤 H A → (mem : Memory → SProp 𝓤) (run : Routine → Fun 𝓤) (𝓣 : Tables 𝓤 H) → Triple 𝓤 (𝓣 .C #beginning·open-list) (Begin 𝓤 H A mem run) → Triple 𝓤 (𝓣 .C #beginning·place-by) (One 𝓤 H A mem run)
     → Meets 𝓤 H A f.signature (WpFn 𝓤 H (𝓣 .C) (𝓣 .Λ) code.function) (f.spec 𝓤 H A mem run)
 lay-out-meets 𝓤 H A W mem run 𝓣 known-begin known-one = walk-meets 𝓤 H A f.ended stayed W (goes 𝓤 H A W mem run) (f.clauses 𝓤 H A mem run) (WpFn 𝓤 H (𝓣 .C) (𝓣 .Λ) code.function) (WpFn-mono 𝓤 H (W .laws) 𝓣 code.function) (lay-out-walks 𝓤 H A W mem run 𝓣 (fmOf 𝓤 H (W .laws) 𝓣) known-begin known-one)
 
@@ -371,5 +371,5 @@ lay-out-spec 𝓤 H 𝓜 𝓖 𝓡 =
     entered 𝓤 H (tripleOf 𝓤 H (𝓖 .A) f.signature (f.spec 𝓤 H (𝓖 .A) (𝓜 .mem) (𝓡 .run)))
     (tables 𝓤 H 𝓜 𝓡 code.env .C) (tables 𝓤 H 𝓜 𝓡 code.env .Λ) #lists·lay-out code.function (code.unfolded 𝓤 H 𝓜 𝓡)
     (lay-out-meets 𝓤 H (𝓖 .A) (givenOf 𝓤 H 𝓜 𝓖) (𝓜 .mem) (𝓡 .run) (tablesOf 𝓤 H 𝓜 (tables 𝓤 H 𝓜 𝓡 code.env))
-    (cited 𝓤 H (Begin 𝓤 H (𝓖 .A) (𝓜 .mem) (𝓡 .run)) 𝓜 𝓡 code.env #begun·open-list begin-def.routine code.calls-begun·open-list (begin-thm.met 𝓤 H 𝓜 𝓖 𝓡))
-    (cited 𝓤 H (One 𝓤 H (𝓖 .A) (𝓜 .mem) (𝓡 .run)) 𝓜 𝓡 code.env #begun·place-by one-def.routine code.calls-begun·place-by (one-thm.met 𝓤 H 𝓜 𝓖 𝓡)))
+    (cited 𝓤 H (Begin 𝓤 H (𝓖 .A) (𝓜 .mem) (𝓡 .run)) 𝓜 𝓡 code.env #beginning·open-list begin-def.routine code.calls-beginning·open-list (begin-thm.met 𝓤 H 𝓜 𝓖 𝓡))
+    (cited 𝓤 H (One 𝓤 H (𝓖 .A) (𝓜 .mem) (𝓡 .run)) 𝓜 𝓡 code.env #beginning·place-by one-def.routine code.calls-beginning·place-by (one-thm.met 𝓤 H 𝓜 𝓖 𝓡)))

@@ -2,7 +2,7 @@
 -- Assumes nothing.
 use borrow.Author.Needs.{needs}
 use denote.Ref.{now}
-use Rattle.stepping.proofs.Steps.{leaves-refused, leaves-out, reached-here, small-here, copies-here, leaves-moved}
+use Rattle.walk.proofs.Steps.{leaves-refused, leaves-out, reached-here, small-here, copies-here, leaves-moved}
 use Rattle.stepping.proofs.stepping.Statement.{statement}
 use Rattle.stepping.proofs.stepping.Tie as tie
 
