@@ -1,82 +1,8 @@
 // Which of the refusals 1 to 9 any bytes get (document 01, "Refusals"): 8 and 9, what a call may use of a description's types, behind 1 to 7.
 ghost use mathlib.Core.Path.{_≡_};
-ghost use Prim.Native.Nat.{_<_};
-ghost use Rattle.description.specs.Description.{typesIn, Whole};
+ghost use Rattle.description.specs.Description.{typesIn};
 ghost use Rattle.types.specs.Table.{sizesAfter, Sizes};
-ghost use Rattle.uses.specs.Uses.{wrongNumber, wrongReturn, firstWrong, narrow, firstNarrow, usesRefusal, Typed};
-
-// Whether number t is no type to pass or return by itself: not below T, or an array.
-fn wrong_number(d: &[u8], t: usize) -> bool
-    requires { ⌜ Whole (now d) ⌝ }
-    ensures { λ r. ⌜ r ≡ wrongNumber (now (d .entry)) t ⌝ }
-{
-    let types = reading::byte_at(d, 5);
-    if types <= t {
-        return true;
-    }
-    records::kind_at(d, t) == 1
-}
-
-fn wrong_return(d: &[u8]) -> bool
-    requires { ⌜ Whole (now d) ⌝ }
-    ensures { λ r. ⌜ r ≡ wrongReturn (now (d .entry)) ⌝ }
-{
-    let returns = reading::byte_at(d, 9);
-    if returns == 255 {
-        return false;
-    }
-    wrong_number(d, returns)
-}
-
-// The first argument whose number is wrong, or the number of arguments.
-fn first_wrong(d: &[u8]) -> usize
-    requires { ⌜ Whole (now d) ⌝ }
-    ensures { λ r. ⌜ r ≡ firstWrong (now (d .entry)) ⌝ }
-{
-    let arguments = reading::byte_at(d, 8);
-    let mut i = 0;
-    while i < arguments {
-        let t = records::argument_at(d, i);
-        if wrong_number(d, t) {
-            return i;
-        }
-        i += 1;
-    }
-    i
-}
-
-// Whether type k is one that C widens where it is passed unnamed: _Bool, char, short or float.
-fn is_narrow(d: &[u8], k: usize) -> bool
-    requires { ⌜ Whole (now d) × (k < typesIn (now d)) ⌝ }
-    ensures { λ r. ⌜ r ≡ narrow (now (d .entry)) k ⌝ }
-{
-    if records::kind_at(d, k) != 0 {
-        return false;
-    }
-    let code = records::a_at(d, k);
-    if code <= 2 {
-        return true;
-    }
-    code == 6
-}
-
-// The first unnamed argument of such a type, or the number of arguments.
-fn first_narrow(d: &[u8]) -> usize
-    requires { ⌜ Typed (now d) ⌝ }
-    ensures { λ r. ⌜ r ≡ firstNarrow (now (d .entry)) ⌝ }
-{
-    let named = reading::byte_at(d, 7);
-    let arguments = reading::byte_at(d, 8);
-    let mut i = named;
-    while i < arguments {
-        let t = records::argument_at(d, i);
-        if is_narrow(d, t) {
-            return i;
-        }
-        i += 1;
-    }
-    i
-}
+ghost use Rattle.uses.specs.Uses.{usesRefusal};
 
 // Which of the refusals 1 to 9 the description gets, or 0: then the table has an entry for each type.
 pub fn uses_refusal_with(d: &[u8], table: &mut [u32; 64]) -> u8
@@ -88,14 +14,14 @@ pub fn uses_refusal_with(d: &[u8], table: &mut [u32; 64]) -> u8
     if number != 0 {
         return number;
     }
-    if wrong_return(d) {
+    if passed_types::wrong_return(d) {
         return 8;
     }
     let arguments = reading::byte_at(d, 8);
-    if first_wrong(d) < arguments {
+    if passed_types::first_wrong(d) < arguments {
         return 8;
     }
-    if first_narrow(d) < arguments {
+    if unnamed_types::first_narrow(d) < arguments {
         return 9;
     }
     0

@@ -18,6 +18,8 @@ pub mod OfQuestionRefusals
 pub mod OfExtentQuestions
 pub mod OfClassQuestion
 pub mod OfRunQuestions
+pub mod OfPassedTypes
+pub mod OfUnnamedTypes
 pub mod OfJudging
 pub mod OfShapes
 pub mod OfStackPlaces

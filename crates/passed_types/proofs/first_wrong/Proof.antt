@@ -9,8 +9,8 @@ use Rattle.uses.specs.Uses.{wrongArgument, firstWrong}
 use Rattle.description.specs.Description.{argumentsIn}
 use Rattle.form.specs.Search.{firstFrom}
 use Rattle.form.proofs.Search.{search-stop, search-on, search-end}
-use Rattle.judging.proofs.first_wrong.Statement.{statement}
-use Rattle.judging.proofs.first_wrong.Tie as tie
+use Rattle.passed_types.proofs.first_wrong.Statement.{statement}
+use Rattle.passed_types.proofs.first_wrong.Tie as tie
 
 abbrev Inv-loop : tie.InvT-loop
 Inv-loop d arguments i₀ i = (firstFrom (wrongArgument d) i (arguments - i) ≡ firstWrong d) × (i ≤ arguments) × (arguments ≡ argumentsIn d)

@@ -6,8 +6,8 @@ use borrow.Author.Tests.{le-leb, lt-leb}
 use denote.Ref.{now}
 use Rattle.uses.specs.Uses.{wrongNumber}
 use Rattle.description.specs.Description.{typesIn}
-use Rattle.judging.proofs.wrong_number.Statement.{statement}
-use Rattle.judging.proofs.wrong_number.Tie as tie
+use Rattle.passed_types.proofs.wrong_number.Statement.{statement}
+use Rattle.passed_types.proofs.wrong_number.Tie as tie
 
 byte-at-requires : tie.Need-byte-at-requires
 byte-at-requires c κs = search needs

@@ -3,8 +3,8 @@
 use borrow.Author.Needs.{needs}
 use borrow.Author.Tests.{eq-eqb, ne-eqb, le-leb, lt-leb}
 use Rattle.uses.specs.Uses.{narrow}
-use Rattle.judging.proofs.is_narrow.Statement.{statement}
-use Rattle.judging.proofs.is_narrow.Tie as tie
+use Rattle.unnamed_types.proofs.is_narrow.Statement.{statement}
+use Rattle.unnamed_types.proofs.is_narrow.Tie as tie
 
 kind-at-requires : tie.Need-kind-at-requires
 kind-at-requires c κs = search needs

@@ -9,8 +9,8 @@ use Rattle.uses.specs.Uses.{narrowArgument, firstNarrow}
 use Rattle.description.specs.Description.{argumentsIn}
 use Rattle.form.specs.Search.{firstFrom}
 use Rattle.form.proofs.Search.{search-stop, search-on, search-end}
-use Rattle.judging.proofs.first_narrow.Statement.{statement}
-use Rattle.judging.proofs.first_narrow.Tie as tie
+use Rattle.unnamed_types.proofs.first_narrow.Statement.{statement}
+use Rattle.unnamed_types.proofs.first_narrow.Tie as tie
 
 abbrev Inv-loop : tie.InvT-loop
 Inv-loop d named arguments i₀ i = (firstFrom (narrowArgument d) i (arguments - i) ≡ firstNarrow d) × (i ≤ arguments) × (arguments ≡ argumentsIn d)

@@ -3,8 +3,8 @@
 use borrow.Author.Needs.{needs}
 use borrow.Author.Tests.{eq-eqb, ne-eqb}
 use Rattle.uses.specs.Uses.{wrongReturn}
-use Rattle.judging.proofs.wrong_return.Statement.{statement}
-use Rattle.judging.proofs.wrong_return.Tie as tie
+use Rattle.passed_types.proofs.wrong_return.Statement.{statement}
+use Rattle.passed_types.proofs.wrong_return.Tie as tie
 
 byte-at-requires : tie.Need-byte-at-requires
 byte-at-requires c κs = search needs
