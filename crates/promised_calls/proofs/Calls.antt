@@ -34,8 +34,8 @@ use Rattle.arguments.proofs.Placement as placement
 use Rattle.station.proofs.Station as station
 use Rattle.walk.proofs.Walk as walk
 use Rattle.form_reading.proofs.read_form
-use Rattle.extent_questions.proofs.type_size
-use Rattle.extent_questions.proofs.type_align
+use Rattle.size_questions.proofs.type_size
+use Rattle.size_questions.proofs.type_align
 use Rattle.class_question.proofs.type_classes
 use Rattle.run_questions.proofs.run_at
 use Rattle.checking.proofs.check

@@ -35,8 +35,8 @@ use Rattle.walk.specs.Orders.{Ask, asking, standing}
 use Rattle.walk.specs.Steps.{movedOn, bytesAt}
 use Rattle.show.specs.declared.ShownAnswer.{ShownAnswer}
 use Rattle.form_reading.proofs.read_form
-use Rattle.extent_questions.proofs.type_size
-use Rattle.extent_questions.proofs.type_align
+use Rattle.size_questions.proofs.type_size
+use Rattle.size_questions.proofs.type_align
 use Rattle.class_question.proofs.type_classes
 use Rattle.run_questions.proofs.run_at
 use Rattle.checking.proofs.check

@@ -51,7 +51,7 @@ fn print_class(class: Class) {
 }
 
 fn print_align(d: &[u8], t: u8) {
-    match extent_questions::type_align(d, t) {
+    match size_questions::type_align(d, t) {
         AlignAnswer::Align(align) => print_number(b" align ", align.0 as u64),
         AlignAnswer::Refused(refusal) => print_refusal(refusal),
     }
@@ -95,7 +95,7 @@ fn print_known(d: &[u8], t: u8, size: Bytes) {
 }
 
 fn answer(d: &[u8], t: u8) {
-    match extent_questions::type_size(d, t) {
+    match size_questions::type_size(d, t) {
         SizeAnswer::Size(size) => print_known(d, t, size),
         SizeAnswer::Refused(refusal) => print_refusal(refusal),
     }

@@ -6,8 +6,8 @@ use Rattle.form_reading.proofs.form_refusal
 use Rattle.form.proofs.refusal_of
 use Rattle.sizes.proofs.types_refusal
 use Rattle.question_refusals.proofs.question_refusal
-use Rattle.extent_questions.proofs.type_size
-use Rattle.extent_questions.proofs.type_align
+use Rattle.size_questions.proofs.type_size
+use Rattle.size_questions.proofs.type_align
 use Rattle.extent_questions.proofs.type_extent
 use Rattle.class_question.proofs.type_classes
 use Rattle.run_questions.proofs.run_at
@@ -73,11 +73,11 @@ total-sizes-types-refusal c g = refl
 pub total-question-refusals-question-refusal : Total question_refusal.ended (λ M. question_refusal.clauses {M = M})
 total-question-refusals-question-refusal c g = refl
 
-pub total-extent-questions-type-size : Total type_size.ended (λ M. type_size.clauses {M = M})
-total-extent-questions-type-size c g = refl
+pub total-size-questions-type-size : Total type_size.ended (λ M. type_size.clauses {M = M})
+total-size-questions-type-size c g = refl
 
-pub total-extent-questions-type-align : Total type_align.ended (λ M. type_align.clauses {M = M})
-total-extent-questions-type-align c g = refl
+pub total-size-questions-type-align : Total type_align.ended (λ M. type_align.clauses {M = M})
+total-size-questions-type-align c g = refl
 
 pub total-extent-questions-type-extent : Total type_extent.ended (λ M. type_extent.clauses {M = M})
 total-extent-questions-type-extent c g = refl

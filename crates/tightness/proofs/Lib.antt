@@ -15,7 +15,10 @@ pub mod OfMemberSteps
 pub mod OfAggregates
 pub mod OfClassTable
 pub mod OfQuestionRefusals
+pub mod OfQuestions
+pub mod OfExtentParts
 pub mod OfExtentQuestions
+pub mod OfSizeQuestions
 pub mod OfClassQuestion
 pub mod OfRunQuestions
 pub mod OfPassedTypes
