@@ -51,5 +51,5 @@ pub fn wrong_bool(d: &[u8], value: &[u8]) -> bool
     }
     let k = reading::byte_at(d, 9);
     let byte = reading::byte_at(value, 0);
-    lent::broken_byte(d, k, byte)
+    bool_bytes::broken_byte(d, k, byte)
 }

@@ -42,7 +42,9 @@ pub mod OfArgumentBytes
 pub mod OfQuickPlaces
 pub mod OfBlankImages
 pub mod OfImageFilling
-pub mod OfLent
+pub mod OfLentLengths
+pub mod OfBoolBytes
+pub mod OfBrokenBools
 pub mod OfValuePlacing
 pub mod OfValueGathering
 pub mod OfReturnImage

@@ -16,7 +16,7 @@ pub fn gather_values(d: &[u8], registers: &[u8], stack: &[u8], values: &mut [u8]
     let LayoutAnswer::Laid(layout) = answer else {
         return GatherAnswer::Refused(layout_answers::refusal_in(answer));
     };
-    if lent::wrong_length(
+    if lent_lengths::wrong_length(
         layout,
         Bytes(values.len()),
         Bytes(registers.len()),

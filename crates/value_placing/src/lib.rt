@@ -23,7 +23,7 @@ pub fn place_values(
     let LayoutAnswer::Laid(layout) = answer else {
         return PlaceAnswer::Refused(layout_answers::refusal_in(answer));
     };
-    if lent::wrong_length(
+    if lent_lengths::wrong_length(
         layout,
         Bytes(values.len()),
         Bytes(registers.len()),
@@ -31,7 +31,7 @@ pub fn place_values(
     ) {
         return PlaceAnswer::Refused(form::refusal_of(11));
     }
-    if lent::first_broken(d, values, &table) < reading::byte_at(d, 8) {
+    if broken_bools::first_broken(d, values, &table) < reading::byte_at(d, 8) {
         return PlaceAnswer::Refused(form::refusal_of(12));
     }
     let count = layout.used.vector;

@@ -3,9 +3,9 @@
 use mathlib.Core.Path.{sym, _∙_}
 use borrow.Author.Needs.{needs}
 use borrow.Author.Tests.{eq-eqb, ne-eqb}
 use Rattle.lent.specs.Orders.{isBool}
-use Rattle.lent.proofs.is_bool.Statement.{statement}
-use Rattle.lent.proofs.is_bool.Tie as tie
+use Rattle.bool_bytes.proofs.is_bool.Statement.{statement}
+use Rattle.bool_bytes.proofs.is_bool.Tie as tie
 
 kind-at-requires : tie.Need-kind-at-requires
 kind-at-requires c κs = search needs

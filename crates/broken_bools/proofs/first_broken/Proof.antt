@@ -3,9 +3,9 @@
 use native.Mathlib.Omega.{arith}
 use borrow.Author.Needs.{needs}
 use Rattle.filling.proofs.Turns.{whole}
-use Rattle.lent.proofs.Searching.{none-broken}
-use Rattle.lent.proofs.first_broken.Statement.{statement}
-use Rattle.lent.proofs.first_broken.Tie as tie
+use Rattle.broken_bools.proofs.Searching.{none-broken}
+use Rattle.broken_bools.proofs.first_broken.Statement.{statement}
+use Rattle.broken_bools.proofs.first_broken.Tie as tie
 
 first-bool-requires : tie.Need-first-bool-requires
 first-bool-requires c κs = whole _ (c .before .before .pre .0)

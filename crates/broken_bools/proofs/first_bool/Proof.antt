@@ -7,9 +7,9 @@ use native.Mathlib.Omega.{arith}
 use Rattle.description.specs.Description.{typesIn, Whole}
 use Rattle.form.specs.Search.{firstFrom}
 use Rattle.form.proofs.Search.{search-stop, search-on, search-end}
 use Rattle.lent.specs.Orders.{isBool}
-use Rattle.lent.proofs.first_bool.Statement.{statement}
-use Rattle.lent.proofs.first_bool.Tie as tie
+use Rattle.broken_bools.proofs.first_bool.Statement.{statement}
+use Rattle.broken_bools.proofs.first_bool.Tie as tie
 
 abbrev Inv-loop : tie.InvT-loop
 Inv-loop d types k₀ k = (firstFrom (isBool d) k (types - k) ≡ firstFrom (isBool d) 0 (typesIn d)) × (types ≡ typesIn d) × Whole d × (k ≤ types)

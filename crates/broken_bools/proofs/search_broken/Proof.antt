@@ -4,12 +4,12 @@ use Rattle.types.proofs.Table.{known-low, known-extent}
 use mathlib.Core.Path.{_≡_, sym, _∙_}
 use Prim.Native.Nat.{_-_}
 use native.Mathlib.Omega.{arith}
-use Rattle.lent.proofs.Searching.{Searching, searching-first, searching-byte, searching-stop, searching-room, searching-next, searching-end}
+use Rattle.broken_bools.proofs.Searching.{Searching, searching-first, searching-byte, searching-stop, searching-room, searching-next, searching-end}
 use Rattle.filling.proofs.Turns.{whole, known, sized}
 use Rattle.description.specs.Description.{argumentsIn}
 use Rattle.places.specs.Places.{start}
-use Rattle.lent.proofs.search_broken.Statement.{statement}
-use Rattle.lent.proofs.search_broken.Tie as tie
+use Rattle.broken_bools.proofs.search_broken.Statement.{statement}
+use Rattle.broken_bools.proofs.search_broken.Tie as tie
 
 abbrev Inv-loop : tie.InvT-loop
 Inv-loop d values table arguments start₀ i₀ start i = Searching d values (start .0) i × (arguments ≡ argumentsIn d)

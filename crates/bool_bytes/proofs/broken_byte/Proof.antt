@@ -3,9 +3,9 @@
 use mathlib.Core.Path.{sym, _∙_}
 use borrow.Author.Needs.{needs}
 use borrow.Author.Tests.{not-true, not-false}
 use Rattle.lent.specs.Orders.{brokenByte}
-use Rattle.lent.proofs.broken_byte.Statement.{statement}
-use Rattle.lent.proofs.broken_byte.Tie as tie
+use Rattle.bool_bytes.proofs.broken_byte.Statement.{statement}
+use Rattle.bool_bytes.proofs.broken_byte.Tie as tie
 
 is-bool-requires : tie.Need-is-bool-requires
 is-bool-requires c κs = search needs
