@@ -4,6 +4,7 @@ pub mod OfAddresses
 pub mod OfRecords
 pub mod OfReading
 pub mod OfForm
+pub mod OfHeaderChecks
 pub mod OfFormRecords
 pub mod OfFormReading
 pub mod OfExtents

@@ -1,8 +1,10 @@
+-- `wrong_counts` meets its contract.
+-- Assumes nothing.
 use borrow.Author.Tests.{eq-eqb, ne-eqb, lt-ltb, le-ltb}
 use borrow.Author.Needs.{needs}
 use Rattle.form.specs.Conditions.{wrongCounts}
-use Rattle.form_reading.proofs.wrong_counts.Statement.{statement}
-use Rattle.form_reading.proofs.wrong_counts.Tie as tie
+use Rattle.header_checks.proofs.wrong_counts.Statement.{statement}
+use Rattle.header_checks.proofs.wrong_counts.Tie as tie
 
 shared-slice-read-types : tie.Need-shared-slice-read-types
 shared-slice-read-types c = search needs
