@@ -25,7 +25,7 @@ pub fn begin_with(d: &[u8], room: usize, table: &mut [u32; 64]) -> Begun
         return Begun {
             answer: answer,
             count: 0,
-            used: shapes::fresh(false),
+            used: first_used::fresh(false),
         };
     };
     let arguments = reading::byte_at(d, 8);
@@ -33,13 +33,13 @@ pub fn begin_with(d: &[u8], room: usize, table: &mut [u32; 64]) -> Begun
         return Begun {
             answer: LayoutAnswer::Refused(form::refusal_of(11)),
             count: 0,
-            used: shapes::fresh(false),
+            used: first_used::fresh(false),
         };
     }
     Begun {
         answer: answer,
         count: arguments,
-        used: shapes::fresh(layout.hidden),
+        used: first_used::fresh(layout.hidden),
     }
 }
 

@@ -56,7 +56,7 @@ pub fn fill_images(
     ensures { λ _. ⌜ now (registers .exit) ++ now (stack .exit) ≡ placed (now (d .entry)) address (now (values .entry)) ⌝ }
 {
     blank_images::blank_images(used, address, registers, stack);
-    place_all(d, shapes::fresh(used), values, registers, stack, table);
+    place_all(d, first_used::fresh(used), values, registers, stack, table);
 }
 
 // Gathers every argument out of the images.

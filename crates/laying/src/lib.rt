@@ -18,7 +18,7 @@ pub fn used_after(d: &[u8], n: usize, table: &[u32; 64]) -> Used
 {
     let hidden = argument_places::hidden_of(d, table);
     let before = Laying {
-        used: shapes::fresh(hidden),
+        used: first_used::fresh(hidden),
         values: Bytes(0),
     };
     argument_places::lay_more(d, before, 0, n, table).used
@@ -33,7 +33,7 @@ pub fn lay(d: &[u8], table: &[u32; 64]) -> Layout
     let arguments = reading::byte_at(d, 8);
     let hidden = argument_places::hidden_of(d, table);
     let before = Laying {
-        used: shapes::fresh(hidden),
+        used: first_used::fresh(hidden),
         values: Bytes(0),
     };
     let first = argument_places::lay_more(d, before, 0, named, table);

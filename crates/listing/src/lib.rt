@@ -24,7 +24,7 @@ fn put_records(
     ensures { λ r. ⌜ Wrote 3328 (now (out .entry)) at (recordLines (now (d .entry)) 0 (argumentsIn (now (d .entry)))) (now (out .exit)) r ⌝ }
 {
     let count = reading::byte_at(d, 8);
-    let mut used = shapes::fresh(layout.hidden);
+    let mut used = first_used::fresh(layout.hidden);
     let mut next = at;
     let mut i = 0;
     while i < count {

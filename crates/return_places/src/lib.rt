@@ -29,8 +29,8 @@ fn outside_registers(class: Class) -> ReturnPlace
 fn by_kinds(first: Class, second: Class) -> ReturnPlace
     ensures { λ r. ⌜ r ≡ returnOf (first ∷ second ∷ []) ⌝ }
 {
-    let kinds = shapes::kinds_of(first, second);
-    let answer = placing::in_registers(shapes::fresh(false), kinds);
+    let kinds = class_kinds::kinds_of(first, second);
+    let answer = placing::in_registers(first_used::fresh(false), kinds);
     let Found::Here(placed) = answer else {
         return outside_registers(first);
     };

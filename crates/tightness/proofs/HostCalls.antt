@@ -35,7 +35,7 @@ use Rattle.showing.proofs.shown_at
 use Rattle.showing.proofs.show
 use Rattle.show_number.proofs.show_number
 use Rattle.listing.proofs.write_listing
-use Rattle.shapes.proofs.fresh
+use Rattle.first_used.proofs.fresh
 use Rattle.return_places.proofs.return_place
 use Rattle.return_places.proofs.hidden_for
 use Rattle.addresses.proofs.clear
@@ -160,8 +160,8 @@ total-show-number-show-number c g = refl
 pub total-listing-write-listing : Total write_listing.ended (λ M. write_listing.clauses {M = M})
 total-listing-write-listing c g = refl
 
-pub total-shapes-fresh : Total fresh.ended (λ M. fresh.clauses {M = M})
-total-shapes-fresh c g = refl
+pub total-first-used-fresh : Total fresh.ended (λ M. fresh.clauses {M = M})
+total-first-used-fresh c g = refl
 
 pub total-return-places-return-place : Total return_place.ended (λ M. return_place.clauses {M = M})
 total-return-places-return-place c g = refl

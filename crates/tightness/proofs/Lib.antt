@@ -25,6 +25,8 @@ pub mod OfRunQuestions
 pub mod OfPassedTypes
 pub mod OfUnnamedTypes
 pub mod OfJudging
+pub mod OfFirstUsed
+pub mod OfClassKinds
 pub mod OfShapes
 pub mod OfStackPlaces
 pub mod OfPlacing

@@ -25,7 +25,14 @@ pub fn gather_values(d: &[u8], registers: &[u8], stack: &[u8], values: &mut [u8]
         return GatherAnswer::Refused(form::refusal_of(11));
     }
     let passed = layout.hidden;
-    image_filling::gather_all(d, shapes::fresh(passed), registers, stack, values, &table);
+    image_filling::gather_all(
+        d,
+        first_used::fresh(passed),
+        registers,
+        stack,
+        values,
+        &table,
+    );
     if !passed {
         return GatherAnswer::Gathered(0);
     }

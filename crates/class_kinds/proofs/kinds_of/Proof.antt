@@ -4,8 +4,8 @@ use Rattle.places.specs.declared.Eightbyte.the-variants.{Empty, OnStack}
 use mathlib.Core.Path.{sym, _∙_}
 use borrow.Author.Needs.{needs}
 use Rattle.places.proofs.Records.{pair-kinds}
-use Rattle.shapes.proofs.kinds_of.Statement.{statement}
-use Rattle.shapes.proofs.kinds_of.Tie as tie
+use Rattle.class_kinds.proofs.kinds_of.Statement.{statement}
+use Rattle.class_kinds.proofs.kinds_of.Tie as tie
 
 eightbyte-of-requires : tie.Need-eightbyte-of-requires
 eightbyte-of-requires c κs = search needs

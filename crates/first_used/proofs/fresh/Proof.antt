@@ -1,7 +1,7 @@
 -- `fresh` meets its contract.
 -- Assumes nothing.
-use Rattle.shapes.proofs.fresh.Statement.{statement}
-use Rattle.shapes.proofs.fresh.Tie as tie
+use Rattle.first_used.proofs.fresh.Statement.{statement}
+use Rattle.first_used.proofs.fresh.Tie as tie
 
 returns : tie.Need-returns
 returns c = rw (c .if1 .taken)
