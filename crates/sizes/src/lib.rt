@@ -1,34 +1,10 @@
-// Sizes and alignments of all types of a description, put into a table, and condition 7 (document 01, "Size/align").
+// Which of the refusals 1 to 7 any bytes get, 7 by the sizes of all types, and which type 6 and 7 name (document 01, "Refusal numbers").
 use form::Refusal;
-use units::Bytes;
 ghost use mathlib.Core.Path.{_≡_};
 ghost use Rattle.description.specs.Description.{typesIn};
-ghost use Rattle.form.specs.Order.{formRefusal};
-ghost use Rattle.types.specs.Large.{firstLarge, typesRefusal};
+ghost use Rattle.types.specs.Large.{typesRefusal};
 ghost use Rattle.types.specs.Wrong.{refusalFor, Judged};
-ghost use Rattle.types.specs.Table.{entryAt, filled, sizesAfter, Sizes};
-
-// Works the table out from number 0 upward, up to the first type of more than 4,096 bytes; the answer is that type, or the
-// number of types. Each size that a later type is made of is at most 4,096, so that no sum and no product overflows.
-fn fill_sizes(d: &[u8], table: &mut [u32; 64]) -> usize
-    requires { ⌜ formRefusal (now d) ≡ 0 ⌝ }
-    ensures { λ r. ⌜ (r ≡ firstLarge (now (d .entry)))
-        × (now (table .exit) ≡ filled (entryAt (now (d .entry))) (firstLarge (now (d .entry))) (now (table .entry)))
-        × Sizes (now (d .entry)) (firstLarge (now (d .entry))) (now (table .exit)) ⌝ }
-{
-    extents::entries(table);
-    let types = reading::byte_at(d, 5);
-    let mut k = 0;
-    while k < types {
-        let extent = extents::extent_of(d, k, table);
-        if units::over(extent.size, Bytes(4096)) {
-            return k;
-        }
-        table[k] = extents::entry_of(extent);
-        k += 1;
-    }
-    k
-}
+ghost use Rattle.types.specs.Table.{sizesAfter, Sizes};
 
 // Which of the refusals 1 to 7 the description gets, or 0: then the table has an entry for each type.
 pub fn types_refusal_with(d: &[u8], table: &mut [u32; 64]) -> u8
@@ -41,7 +17,7 @@ pub fn types_refusal_with(d: &[u8], table: &mut [u32; 64]) -> u8
         return number;
     }
     let types = reading::byte_at(d, 5);
-    if fill_sizes(d, table) < types {
+    if size_table::fill_sizes(d, table) < types {
         return 7;
     }
     0
@@ -65,7 +41,7 @@ pub fn refusal_for(d: &[u8], number: u8) -> Refusal
     }
     if number == 7 {
         let mut table = [0u32; 64];
-        return form::refusal_at(7, fill_sizes(d, &mut table));
+        return form::refusal_at(7, size_table::fill_sizes(d, &mut table));
     }
     form::refusal_of(number)
 }

@@ -8,6 +8,7 @@ pub mod OfHeaderChecks
 pub mod OfFormRecords
 pub mod OfFormReading
 pub mod OfExtents
+pub mod OfSizeTable
 pub mod OfSizes
 pub mod OfClasses
 pub mod OfClassPairs

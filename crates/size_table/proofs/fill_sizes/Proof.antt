@@ -20,8 +20,8 @@ use Rattle.description.specs.Description.{typesIn}
 use Rattle.form.specs.Search.{firstFrom}
 use Rattle.form.proofs.Form.{accepted-headed, accepted-counts}
 use Rattle.form.proofs.Search.{search-stop, search-on, search-end}
-use Rattle.sizes.proofs.fill_sizes.Statement.{statement}
-use Rattle.sizes.proofs.fill_sizes.Tie as tie
+use Rattle.size_table.proofs.fill_sizes.Statement.{statement}
+use Rattle.size_table.proofs.fill_sizes.Tie as tie
 
 abbrev Inv-loop : tie.InvT-loop
 Inv-loop d table₀ types k₀ table k = (firstFrom (large d) k (types - k) ≡ firstLarge d) × (k ≤ types) × (types ≡ typesIn d) × ((j : ℕ) → j < k → sizeTy lp64 (tyAt d j) ≤ 4096) × (table ≡ filled (entryAt d) k table₀)
