@@ -18,11 +18,11 @@ pub fn put_returned(d: &[u8], hidden: u64, value: &[u8], image: &mut [u8]) -> Pu
         return PutAnswer::Refused(layout_answers::refusal_in(answer));
     };
     let place = layout.returns;
-    let right = memory_returns::length_for(place, returning::returned_size(d, &table));
-    if returning::wrong_length(right, Bytes(value.len()), Bytes(image.len())) {
+    let right = memory_returns::length_for(place, returned_lengths::returned_size(d, &table));
+    if returned_lengths::wrong_length(right, Bytes(value.len()), Bytes(image.len())) {
         return PutAnswer::Refused(form::refusal_of(11));
     }
-    if returning::wrong_bool(d, value) {
+    if returned_bools::wrong_bool(d, value) {
         return PutAnswer::Refused(form::refusal_of(12));
     }
     return_values::put_value(place, hidden, value, image);

@@ -1,12 +1,5 @@
-// Bringing the result back (document 02, request 2026-02): what putting and taking a returned value answer, and when they are refused.
+// Bringing the result back (document 02, request 2026-02): what putting and taking a returned value answer and leave, and when they are refused, as definitions and laws. There is no code here: `returned_lengths` and `returned_bools` find out 11 and 12, `putting` and `taking` have the calls.
 use form::Refusal;
-use units::Bytes;
-ghost use mathlib.Core.Path.{_≡_};
-ghost use lib.ListN.{length};
-ghost use Rattle.classify.specs.Table.{Tabled};
-ghost use Rattle.layout.specs.Verdict.{verdict};
-ghost use Rattle.returning.specs.Returned.{returnedSize, returnLength};
-ghost use Rattle.returning.specs.Orders.{wrongLength, wrongBool};
 
 pub enum PutAnswer {
     Put,
@@ -17,39 +10,4 @@ pub enum TakeAnswer {
     // The hidden address, 0 where none is carried.
     Taken(u64),
     Refused(Refusal),
-}
-
-// The size of the returned type, by the table. Void has none.
-pub fn returned_size(d: &[u8], table: &[u32; 64]) -> Bytes
-    requires { ⌜ (verdict (now d) ≡ 0) × Tabled (now d) (now table) ⌝ }
-    ensures { λ r. ⌜ r .0 ≡ returnedSize (now (d .entry)) ⌝ }
-{
-    let k = reading::byte_at(d, 9);
-    if k == 255 {
-        return Bytes(0);
-    }
-    extents::extent_in(table, k).size
-}
-
-// 11: whether the value has not exactly so many bytes, or the image not exactly 80.
-pub fn wrong_length(right: Bytes, value: Bytes, image: Bytes) -> bool
-    ensures { λ r. ⌜ r ≡ wrongLength (right .0) (value .0) (image .0) ⌝ }
-{
-    if !units::same(value, right) {
-        return true;
-    }
-    !units::same(image, Bytes(80))
-}
-
-// 12: whether a _Bool is returned whose byte is not 0 or 1. Void and a value in memory have no byte.
-pub fn wrong_bool(d: &[u8], value: &[u8]) -> bool
-    requires { ⌜ (verdict (now d) ≡ 0) × (length (now value) ≡ returnLength (now d)) ⌝ }
-    ensures { λ r. ⌜ r ≡ wrongBool (now (d .entry)) (now (value .entry)) ⌝ }
-{
-    if value.len() == 0 {
-        return false;
-    }
-    let k = reading::byte_at(d, 9);
-    let byte = reading::byte_at(value, 0);
-    bool_bytes::broken_byte(d, k, byte)
 }

@@ -17,8 +17,8 @@ pub fn take_returned(d: &[u8], image: &[u8], value: &mut [u8]) -> TakeAnswer
         return TakeAnswer::Refused(layout_answers::refusal_in(answer));
     };
     let place = layout.returns;
-    let right = memory_returns::length_for(place, returning::returned_size(d, &table));
-    if returning::wrong_length(right, Bytes(value.len()), Bytes(image.len())) {
+    let right = memory_returns::length_for(place, returned_lengths::returned_size(d, &table));
+    if returned_lengths::wrong_length(right, Bytes(value.len()), Bytes(image.len())) {
         return TakeAnswer::Refused(form::refusal_of(11));
     }
     return_values::take_value(place, image, value);

@@ -55,6 +55,8 @@ pub mod OfReturnImage
 pub mod OfReturnValues
 pub mod OfMemoryReturns
 pub mod OfReturning
+pub mod OfReturnedLengths
+pub mod OfReturnedBools
 pub mod OfPutting
 pub mod OfTaking
 pub mod OfStation

@@ -1,9 +1,9 @@
 -- `returned_size` meets its contract: none for void, else what the entry says.
 -- Assumes nothing.
 use native.Mathlib.Omega.{arith}
 use Rattle.returning.proofs.Values.{whole, size-void, entry-there, size-known}
-use Rattle.returning.proofs.returned_size.Statement.{statement}
-use Rattle.returning.proofs.returned_size.Tie as tie
+use Rattle.returned_lengths.proofs.returned_size.Statement.{statement}
+use Rattle.returned_lengths.proofs.returned_size.Tie as tie
 
 byte-at-requires : tie.Need-byte-at-requires
 byte-at-requires c κs = omega (arith, whole _ (c .before .pre .0) .headed)

@@ -3,9 +3,9 @@
 use mathlib.Core.Path.{sym, _∙_}
 use borrow.Author.Needs.{needs}
 use borrow.Author.Tests.{not-true, not-false}
 use Rattle.returning.specs.Orders.{wrongLength}
-use Rattle.returning.proofs.wrong_length.Statement.{statement}
-use Rattle.returning.proofs.wrong_length.Tie as tie
+use Rattle.returned_lengths.proofs.wrong_length.Statement.{statement}
+use Rattle.returned_lengths.proofs.wrong_length.Tie as tie
 
 same-requires : tie.Need-same-requires
 same-requires c κs = search needs

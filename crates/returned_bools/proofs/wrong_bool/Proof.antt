@@ -3,11 +3,11 @@
 use mathlib.Core.Path.{sym}
 use native.Mathlib.Omega.{arith}
 use borrow.Author.Needs.{needs}
 use Rattle.returning.proofs.Answers.{bool-known, bool-test}
 use Rattle.returning.proofs.Orders.{none-right}
 use Rattle.returning.proofs.Values.{whole}
-use Rattle.returning.proofs.wrong_bool.Statement.{statement}
-use Rattle.returning.proofs.wrong_bool.Tie as tie
+use Rattle.returned_bools.proofs.wrong_bool.Statement.{statement}
+use Rattle.returned_bools.proofs.wrong_bool.Tie as tie
 
 returns : tie.Need-returns
 returns c = sym (none-right _ _ (c .if1 .taken))
