@@ -6,7 +6,7 @@ use Rattle.returning.specs.declared.PutAnswer.{PutAnswer}
 use Rattle.returning.specs.declared.PutAnswer.the-variants.{Put as PutIn, Refused as NotPutIn}
 use Rattle.returning.specs.declared.TakeAnswer.{TakeAnswer}
 use Rattle.returning.specs.declared.TakeAnswer.the-variants.{Taken, Refused as NotTaken}
-use Rattle.given.specs.Outcome.{Outcome, gives, refuses}
+use Rattle.outcomes.specs.Outcome.{Outcome, gives, refuses}
 use Rattle.handed.specs.declared.Gathered.{Gathered}
 
 -- cb_put_returned

@@ -8,7 +8,7 @@ use returning::TakeAnswer;
 ghost use mathlib.Core.Path.{_≡_};
 ghost use lib.ListN.{length};
 ghost use Rattle.returning.specs.Answers.{putAnswer, imageAfter, takeAnswer, valueAfter};
-ghost use Rattle.given.specs.Outcome.{refusalIn, leftIn};
+ghost use Rattle.outcomes.specs.Outcome.{refusalIn, leftIn};
 ghost use Rattle.brought.specs.Brought.{putGiven, takenGiven};
 
 // Putting a returned value, with the return image at exit.

@@ -30,7 +30,7 @@ ghost use Rattle.walk.specs.Orders.{asking, stepRefusal};
 ghost use Rattle.walk.specs.Steps.{openAnswer, stepWalk, stepOut};
 ghost use Rattle.show.specs.Show.{shownAnswer};
 ghost use Rattle.lines.specs.Listing.{listing};
-ghost use Rattle.given.specs.Outcome.{refusalIn, leftIn};
+ghost use Rattle.outcomes.specs.Outcome.{refusalIn, leftIn};
 ghost use Rattle.given.specs.Given.{extentGiven, classesGiven, runGiven, layoutGiven};
 ghost use Rattle.handed.specs.Handed.{placedGiven, gatheredGiven};
 ghost use Rattle.brought.specs.Brought.{putGiven, takenGiven};
@@ -59,7 +59,7 @@ pub extern "C" fn cb_type_extent(d: &[u8], asked: u8, extent: &mut Extent) -> Re
     ensures { λ r. ⌜ (r ≡ refusalIn (extentGiven (extentAnswer (now (d .entry)) asked)))
         × (now (extent .exit) ≡ leftIn (extentGiven (extentAnswer (now (d .entry)) asked)) (now (extent .entry))) ⌝ }
 {
-    let given = given::give_extent(d, asked, *extent);
+    let given = giving::give_extent(d, asked, *extent);
     *extent = given.extent;
     given.refusal
 }
@@ -70,7 +70,7 @@ pub extern "C" fn cb_type_classes(d: &[u8], asked: u8, classes: &mut Classes) ->
     ensures { λ r. ⌜ (r ≡ refusalIn (classesGiven (classesAnswer (now (d .entry)) asked)))
         × (now (classes .exit) ≡ leftIn (classesGiven (classesAnswer (now (d .entry)) asked)) (now (classes .entry))) ⌝ }
 {
-    let given = given_classes::give_classes(d, asked, *classes);
+    let given = giving::give_classes(d, asked, *classes);
     *classes = given.classes;
     given.refusal
 }
@@ -81,7 +81,7 @@ pub extern "C" fn cb_member_run(d: &[u8], asked: u8, part: &mut Part) -> Refusal
     ensures { λ r. ⌜ (r ≡ refusalIn (runGiven (runAnswer (now (d .entry)) asked)))
         × (now (part .exit) ≡ leftIn (runGiven (runAnswer (now (d .entry)) asked)) (now (part .entry))) ⌝ }
 {
-    let given = given::give_run(d, asked, *part);
+    let given = giving::give_run(d, asked, *part);
     *part = given.part;
     given.refusal
 }

@@ -1,6 +1,5 @@
 -- What the questions and the layout of the C interface give, by the library's answer: include/callbridge.h. Assumes nothing: these are definitions.
 use Prim.Native.Nat.{ℕ}
-use Rattle.units.specs.declared.Bytes.{Bytes}
 use Rattle.types.specs.declared.Extent.{Extent}
 use Rattle.classes.specs.Classes.{codeOf}
 use Rattle.questions.specs.declared.ExtentAnswer.{ExtentAnswer}
@@ -15,7 +14,8 @@ use Rattle.flat.specs.declared.Classes.{Classes}
 use Rattle.flat.specs.declared.Part.{Part}
 use Rattle.flat.specs.declared.Layout.{Layout}
 use Rattle.flat.specs.Records.{layoutOf}
-use Rattle.given.specs.Outcome.{Outcome, gives, refuses}
+use Rattle.flat.specs.Parts.{nowhere, ofDescription}
+use Rattle.outcomes.specs.Outcome.{Outcome, gives, refuses}
 
 -- cb_type_extent
 abbrev pub extentGiven : ExtentAnswer → Outcome Extent
@@ -26,13 +26,6 @@ extentGiven (NoExtent r) = refuses r
 abbrev pub classesGiven : ClassesAnswer → Outcome Classes
 classesGiven (Both a b) = gives (record { first = codeOf a; second = codeOf b })
 classesGiven (NoClasses r) = refuses r
-
--- enum cb_image
-abbrev pub nowhere : Part
-nowhere = record { offset = record { 0 = 0 }; length = record { 0 = 0 }; image = 0 }
-
-abbrev pub ofDescription : Bytes → Bytes → Part
-ofDescription o n = record { offset = o; length = n; image = 1 }
 
 -- cb_member_run: one byte for each member
 abbrev pub runGiven : RunAnswer → Outcome Part

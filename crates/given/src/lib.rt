@@ -1,5 +1,5 @@
-// What the questions of the C interface give, by value: the refusal, number 0 for none, and the lent record at exit,
-// which a refusal leaves as it was (document 01, "A refusal returns its number only and writes nothing"). The classes of a type are given by `given_classes`.
+// What the answers to questions give the C interface, by value: the refusal, number 0 for none, and the lent record at exit,
+// which a refusal leaves as it was (document 01, "A refusal returns its number only and writes nothing"). The classes of a type are given by `given_classes`; `giving` asks the questions.
 use flat::Classes;
 use flat::Part;
 use form::Refusal;
@@ -8,9 +8,7 @@ use questions::RunAnswer;
 use types::Extent;
 use units::Bytes;
 ghost use mathlib.Core.Path.{_≡_};
-ghost use Rattle.questions.specs.Questions.{extentAnswer};
-ghost use Rattle.questions.specs.Runs.{runAnswer};
-ghost use Rattle.given.specs.Outcome.{refusalIn, leftIn};
+ghost use Rattle.outcomes.specs.Outcome.{refusalIn, leftIn};
 ghost use Rattle.given.specs.Given.{extentGiven, runGiven};
 
 pub struct GivenExtent {
@@ -29,11 +27,9 @@ pub struct GivenPart {
 }
 
 // Size and alignment of a type.
-pub fn give_extent(d: &[u8], asked: u8, before: Extent) -> GivenExtent
-    ensures { λ r. ⌜ (r .refusal ≡ refusalIn (extentGiven (extentAnswer (now (d .entry)) asked)))
-        × (r .extent ≡ leftIn (extentGiven (extentAnswer (now (d .entry)) asked)) before) ⌝ }
+pub fn extent_given(answer: ExtentAnswer, before: Extent) -> GivenExtent
+    ensures { λ r. ⌜ (r .refusal ≡ refusalIn (extentGiven answer)) × (r .extent ≡ leftIn (extentGiven answer) before) ⌝ }
 {
-    let answer = extent_questions::type_extent(d, asked);
     match answer {
         ExtentAnswer::Known(extent) => GivenExtent {
             extent: extent,
@@ -47,11 +43,9 @@ pub fn give_extent(d: &[u8], asked: u8, before: Extent) -> GivenExtent
 }
 
 // The run of a type's members, as a part of the description; no part for a type without members.
-pub fn give_run(d: &[u8], asked: u8, before: Part) -> GivenPart
-    ensures { λ r. ⌜ (r .refusal ≡ refusalIn (runGiven (runAnswer (now (d .entry)) asked)))
-        × (r .part ≡ leftIn (runGiven (runAnswer (now (d .entry)) asked)) before) ⌝ }
+pub fn run_given(answer: RunAnswer, before: Part) -> GivenPart
+    ensures { λ r. ⌜ (r .refusal ≡ refusalIn (runGiven answer)) × (r .part ≡ leftIn (runGiven answer) before) ⌝ }
 {
-    let answer = run_questions::run_at(d, asked);
     match answer {
         RunAnswer::Run(offset, count) => GivenPart {
             part: Part {

@@ -1,18 +1,16 @@
-// What the question about the classes of a type gives the C interface, by value: the refusal, number 0 for none, and the lent record at exit.
+// What the answer to the question about the classes of a type gives the C interface, by value: the refusal, number 0 for none, and the lent record at exit
+// (document 01, "A refusal returns its number only and writes nothing"). `giving` asks the question.
 use flat::Classes;
 use given::GivenClasses;
 use questions::ClassesAnswer;
 ghost use mathlib.Core.Path.{_≡_};
-ghost use Rattle.questions.specs.Runs.{classesAnswer};
-ghost use Rattle.given.specs.Outcome.{refusalIn, leftIn};
+ghost use Rattle.outcomes.specs.Outcome.{refusalIn, leftIn};
 ghost use Rattle.given.specs.Given.{classesGiven};
 
 // The classes of a type.
-pub fn give_classes(d: &[u8], asked: u8, before: Classes) -> GivenClasses
-    ensures { λ r. ⌜ (r .refusal ≡ refusalIn (classesGiven (classesAnswer (now (d .entry)) asked)))
-        × (r .classes ≡ leftIn (classesGiven (classesAnswer (now (d .entry)) asked)) before) ⌝ }
+pub fn classes_given(answer: ClassesAnswer, before: Classes) -> GivenClasses
+    ensures { λ r. ⌜ (r .refusal ≡ refusalIn (classesGiven answer)) × (r .classes ≡ leftIn (classesGiven answer) before) ⌝ }
 {
-    let answer = class_question::type_classes(d, asked);
     match answer {
         ClassesAnswer::Classes(first, second) => GivenClasses {
             classes: Classes {

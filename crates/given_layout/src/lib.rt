@@ -6,7 +6,7 @@ use layout::LayoutAnswer;
 ghost use mathlib.Core.Path.{_≡_};
 ghost use Rattle.description.specs.Description.{argumentsIn};
 ghost use Rattle.layout.specs.Layout.{layoutAnswer};
-ghost use Rattle.given.specs.Outcome.{refusalIn, leftIn};
+ghost use Rattle.outcomes.specs.Outcome.{refusalIn, leftIn};
 ghost use Rattle.given.specs.Given.{layoutGiven};
 
 pub struct GivenLayout {

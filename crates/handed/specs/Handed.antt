@@ -6,7 +6,7 @@ use Rattle.moving.specs.declared.GatherAnswer.{GatherAnswer}
 use Rattle.moving.specs.declared.GatherAnswer.the-variants.{Gathered as Got, Refused as NotGot}
 use Rattle.handed.specs.declared.Placed.{Placed}
 use Rattle.handed.specs.declared.Gathered.{Gathered}
-use Rattle.given.specs.Outcome.{Outcome, gives, refuses}
+use Rattle.outcomes.specs.Outcome.{Outcome, gives, refuses}
 
 -- cb_place_values
 abbrev pub placedGiven : PlaceAnswer → Outcome Placed

@@ -30,7 +30,7 @@ use Rattle.station.specs.Paper.{shapeAt}
 use Rattle.walk.specs.Offsets.{Source, fromRegisters, fromStack, readAt}
 use Rattle.show.specs.Show.{onePiece, headOf, partIn, shownIn, shownAnswer}
 use Rattle.flat.specs.declared.Part.{Part}
-use Rattle.given.specs.Outcome.{Outcome, gives, refuses}
+use Rattle.outcomes.specs.Outcome.{Outcome, gives, refuses}
 use Rattle.given.specs.Given.{extentGiven, classesGiven, runGiven, layoutGiven}
 use Rattle.handed.specs.Handed.{placedGiven, gatheredGiven}
 use Rattle.walked.specs.Walked.{openGiven, shownGiven}

@@ -36,11 +36,12 @@ use Rattle.flat.specs.declared.Part.{Part}
 use Rattle.flat.specs.declared.Placement.{Placement}
 use Rattle.flat.specs.declared.Layout.{Layout}
 use Rattle.flat.specs.Records.{layoutOf}
+use Rattle.flat.specs.Parts.{nowhere, ofDescription, ofRegisters, ofStack}
 use Rattle.flat.specs.Meanings.{placementMeant, layoutMeant}
-use Rattle.given.specs.Outcome.{Outcome, refusalIn, leftIn}
-use Rattle.given.specs.Given.{extentGiven, classesGiven, nowhere, ofDescription, runGiven, layoutGiven}
+use Rattle.outcomes.specs.Outcome.{Outcome, refusalIn, leftIn}
+use Rattle.given.specs.Given.{extentGiven, classesGiven, runGiven, layoutGiven}
 use Rattle.handed.specs.Handed.{placedGiven, gatheredGiven}
-use Rattle.walked.specs.Walked.{ofRegisters, ofStack, openGiven, shownGiven}
+use Rattle.walked.specs.Walked.{openGiven, shownGiven}
 use Rattle.listed.specs.Lists.{flatAt, listGiven}
 
 -- a call about the description d answers the number n, with the type that it names; it leaves the new record where n is 0, and where it is not the record that was lent

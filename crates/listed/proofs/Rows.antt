@@ -24,7 +24,7 @@ use Rattle.flat.specs.declared.Layout.{Layout}
 use Rattle.flat.specs.Records.{placementOf, layoutOf}
 use Rattle.listed.specs.declared.ListBegun.{ListBegun}
 use Rattle.listed.specs.declared.FlatStep.{FlatStep}
-use Rattle.given.specs.Outcome.{refusalIn, leftIn}
+use Rattle.outcomes.specs.Outcome.{refusalIn, leftIn}
 use Rattle.given.specs.Given.{layoutGiven}
 use Rattle.listed.specs.Lists.{listGiven, flatAt, listBegun, flatStep}
 

@@ -12,7 +12,7 @@ use Rattle.flat.specs.declared.Placement.{Placement}
 use Rattle.flat.specs.Records.{placementOf}
 use Rattle.listed.specs.declared.ListBegun.{ListBegun}
 use Rattle.listed.specs.declared.FlatStep.{FlatStep}
-use Rattle.given.specs.Outcome.{Outcome, refusalIn, leftIn}
+use Rattle.outcomes.specs.Outcome.{Outcome, refusalIn, leftIn}
 use Rattle.given.specs.Given.{layoutGiven}
 
 -- the summary, for a list of so many records

@@ -82,6 +82,7 @@ pub mod OfFlat
 pub mod OfFlatLayout
 pub mod OfGiven
 pub mod OfGivenClasses
+pub mod OfGiving
 pub mod OfGivenLayout
 pub mod OfListed
 pub mod OfHanded

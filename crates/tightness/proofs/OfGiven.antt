@@ -2,21 +2,21 @@
 use mathlib.Core.Path.{refl, sym, _∙_}
 use Rattle.tightness.specs.Tight.{Meets, Tight}
 use Rattle.tightness.proofs.Laws.{result, settle}
-use Rattle.given.proofs.give_extent
-use Rattle.given.proofs.give_extent.Met as give-extent-met
-use Rattle.given.proofs.give_extent.Symbol as give-extent-symbol
-use Rattle.given.proofs.give_run
-use Rattle.given.proofs.give_run.Met as give-run-met
-use Rattle.given.proofs.give_run.Symbol as give-run-symbol
+use Rattle.given.proofs.extent_given
+use Rattle.given.proofs.extent_given.Met as extent-given-met
+use Rattle.given.proofs.extent_given.Symbol as extent-given-symbol
+use Rattle.given.proofs.run_given
+use Rattle.given.proofs.run_given.Met as run-given-met
+use Rattle.given.proofs.run_given.Symbol as run-given-symbol
 
-pub meets-given-give-extent : Meets give_extent.ended (λ M. give_extent.clauses {M = M}) give-extent-symbol.routine
-meets-given-give-extent M = give-extent-met.met
+pub meets-given-extent-given : Meets extent_given.ended (λ M. extent_given.clauses {M = M}) extent-given-symbol.routine
+meets-given-extent-given M = extent-given-met.met
 
-pub tight-given-give-extent : Tight give_extent.ended (λ M. give_extent.clauses {M = M})
-tight-given-give-extent c r q w v a b = (settle (result give_extent.ended c) (a .ensured) (b .ensured) (λ e f i. record { refusal = (e .0 ∙ sym (f .0)) i; extent = (e .1 ∙ sym (f .1)) i }), refl)
+pub tight-given-extent-given : Tight extent_given.ended (λ M. extent_given.clauses {M = M})
+tight-given-extent-given c r q w v a b = (settle (result extent_given.ended c) (a .ensured) (b .ensured) (λ e f i. record { refusal = (e .0 ∙ sym (f .0)) i; extent = (e .1 ∙ sym (f .1)) i }), refl)
 
-pub meets-given-give-run : Meets give_run.ended (λ M. give_run.clauses {M = M}) give-run-symbol.routine
-meets-given-give-run M = give-run-met.met
+pub meets-given-run-given : Meets run_given.ended (λ M. run_given.clauses {M = M}) run-given-symbol.routine
+meets-given-run-given M = run-given-met.met
 
-pub tight-given-give-run : Tight give_run.ended (λ M. give_run.clauses {M = M})
-tight-given-give-run c r q w v a b = (settle (result give_run.ended c) (a .ensured) (b .ensured) (λ e f i. record { refusal = (e .0 ∙ sym (f .0)) i; part = (e .1 ∙ sym (f .1)) i }), refl)
+pub tight-given-run-given : Tight run_given.ended (λ M. run_given.clauses {M = M})
+tight-given-run-given c r q w v a b = (settle (result run_given.ended c) (a .ensured) (b .ensured) (λ e f i. record { refusal = (e .0 ∙ sym (f .0)) i; part = (e .1 ∙ sym (f .1)) i }), refl)

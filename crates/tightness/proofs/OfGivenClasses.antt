@@ -2,12 +2,12 @@
 use mathlib.Core.Path.{refl, sym, _∙_}
 use Rattle.tightness.specs.Tight.{Meets, Tight}
 use Rattle.tightness.proofs.Laws.{result, settle}
-use Rattle.given_classes.proofs.give_classes
-use Rattle.given_classes.proofs.give_classes.Met as give-classes-met
-use Rattle.given_classes.proofs.give_classes.Symbol as give-classes-symbol
+use Rattle.given_classes.proofs.classes_given
+use Rattle.given_classes.proofs.classes_given.Met as classes-given-met
+use Rattle.given_classes.proofs.classes_given.Symbol as classes-given-symbol
 
-pub meets-given-classes-give-classes : Meets give_classes.ended (λ M. give_classes.clauses {M = M}) give-classes-symbol.routine
-meets-given-classes-give-classes M = give-classes-met.met
+pub meets-given-classes-classes-given : Meets classes_given.ended (λ M. classes_given.clauses {M = M}) classes-given-symbol.routine
+meets-given-classes-classes-given M = classes-given-met.met
 
-pub tight-given-classes-give-classes : Tight give_classes.ended (λ M. give_classes.clauses {M = M})
-tight-given-classes-give-classes c r q w v a b = (settle (result give_classes.ended c) (a .ensured) (b .ensured) (λ e f i. record { refusal = (e .0 ∙ sym (f .0)) i; classes = (e .1 ∙ sym (f .1)) i }), refl)
+pub tight-given-classes-classes-given : Tight classes_given.ended (λ M. classes_given.clauses {M = M})
+tight-given-classes-classes-given c r q w v a b = (settle (result classes_given.ended c) (a .ensured) (b .ensured) (λ e f i. record { refusal = (e .0 ∙ sym (f .0)) i; classes = (e .1 ∙ sym (f .1)) i }), refl)

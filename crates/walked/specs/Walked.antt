@@ -1,26 +1,18 @@
 -- What the calls of the C interface that open a walk and show an argument give, by the library's answer: include/callbridge.h. Assumes
 -- nothing: these are definitions.
-use Rattle.units.specs.declared.Bytes.{Bytes}
 use Rattle.walk.specs.declared.Walk.{Walk}
 use Rattle.walk.specs.declared.OpenAnswer.{OpenAnswer}
 use Rattle.walk.specs.declared.OpenAnswer.the-variants.{Opened, Refused as NotOpened}
 use Rattle.show.specs.declared.ShownAnswer.{ShownAnswer}
 use Rattle.show.specs.declared.ShownAnswer.the-variants.{Registers, Stack, Apart, Refused as NotShown}
 use Rattle.flat.specs.declared.Part.{Part}
-use Rattle.given.specs.Outcome.{Outcome, gives, refuses}
-use Rattle.given.specs.Given.{nowhere}
+use Rattle.flat.specs.Parts.{nowhere, ofRegisters, ofStack}
+use Rattle.outcomes.specs.Outcome.{Outcome, gives, refuses}
 
 -- cb_open_walk
 abbrev pub openGiven : OpenAnswer → Outcome Walk
 openGiven (Opened w) = gives w
 openGiven (NotOpened r) = refuses r
-
--- enum cb_image
-abbrev pub ofRegisters : Bytes → Bytes → Part
-ofRegisters o n = record { offset = o; length = n; image = 2 }
-
-abbrev pub ofStack : Bytes → Bytes → Part
-ofStack o n = record { offset = o; length = n; image = 3 }
 
 -- cb_show: "CB_NOWHERE where it lies in two vector registers, or in a general and a vector one"
 abbrev pub shownGiven : ShownAnswer → Outcome Part

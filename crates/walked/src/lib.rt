@@ -13,7 +13,7 @@ ghost use Rattle.station.specs.Paper.{kcb};
 ghost use Rattle.walk.specs.Orders.{asking};
 ghost use Rattle.walk.specs.Steps.{openAnswer};
 ghost use Rattle.show.specs.Show.{shownAnswer};
-ghost use Rattle.given.specs.Outcome.{refusalIn, leftIn};
+ghost use Rattle.outcomes.specs.Outcome.{refusalIn, leftIn};
 ghost use Rattle.walked.specs.Walked.{openGiven, shownGiven};
 
 pub struct GivenWalk {

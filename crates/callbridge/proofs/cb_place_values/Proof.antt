@@ -41,7 +41,7 @@ use denote.Triple.Clauses.{ensured, lasts}
 use denote.Triple.Table.{entered, cited}
 use denote.Triple.Walked.{says, Stays, stay-ref, stay-none, gave-slice, stay-none-slice, walkOf, AllGo, goes-ref, goes-none, goes-gave-slice, goes-none-slice, Walks, ends-at, walked, walk-meets}
 use denote.Exit.{yes}
-use Rattle.given.specs.Outcome.{refusalIn, leftIn}
+use Rattle.outcomes.specs.Outcome.{refusalIn, leftIn}
 use Rattle.handed.specs.Handed.{placedGiven}
 use Rattle.moving.specs.Answers.{placeAnswer, registersAfter, stackAfter}
 use Rattle.handed.specs.declared.Placed.{Placed}

@@ -1,12 +1,9 @@
 -- By the answer.
 -- Assumes nothing.
-use mathlib.Core.Path.{refl, sym, _∙_}
+use mathlib.Core.Path.{refl}
 use borrow.Author.Needs.{needs}
-use Rattle.given.proofs.give_run.Statement.{statement}
-use Rattle.given.proofs.give_run.Tie as tie
-
-run-at-requires : tie.Need-run-at-requires
-run-at-requires c κs = search needs
+use Rattle.given.proofs.run_given.Statement.{statement}
+use Rattle.given.proofs.run_given.Tie as tie
 
 enum-known-answer : tie.Need-enum-known-answer
 enum-known-answer c = search needs
@@ -24,19 +21,18 @@ enum-known-answer-2 : tie.Need-enum-known-answer-2
 enum-known-answer-2 c = search needs
 
 returns : tie.Need-returns
-returns c = rw (sym (c .before .before .before .before .run-at .ensures .0) ∙ c .before .before .answer .given .1) (c .refusal-of .ensures, refl)
+returns c = rw (c .before .before .answer .given .1) (c .refusal-of .ensures, refl)
 
 returns-2 : tie.Need-returns-2
-returns-2 c = rw (sym (c .before .before .before .run-at .ensures .0) ∙ c .before .enum-told .given .1) (c .refusal-of2 .ensures, refl)
+returns-2 c = rw (c .before .enum-told .given .1) (c .refusal-of2 .ensures, refl)
 
 returns-3 : tie.Need-returns-3
-returns-3 c = rw (sym (c .before .before .before .run-at .ensures .0) ∙ c .before .answer2 .given .1) (refl, refl)
+returns-3 c = rw (c .before .answer2 .given .1) (refl, refl)
 
-pub give-run-spec : {M : Type 1} → statement M
-give-run-spec =
+pub run-given-spec : {M : Type 1} → statement M
+run-given-spec =
     tie.close
     (tie.spec
-    run-at-requires
     enum-known-answer
     refusal-of-requires
     enum-told
