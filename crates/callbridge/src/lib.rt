@@ -142,7 +142,7 @@ pub extern "C" fn cb_place_values(
         × ((now (registers .exit) ≡ registersAfter (now (d .entry)) hidden (now (values .entry)) (now (registers .entry)) (now (stack .entry)))
         × (now (stack .exit) ≡ stackAfter (now (d .entry)) hidden (now (values .entry)) (now (registers .entry)) (now (stack .entry))))) ⌝ }
 {
-    let given = handed::give_placed(d, hidden, values, registers, stack, *placed);
+    let given = handing::give_placed(d, hidden, values, registers, stack, *placed);
     *placed = given.placed;
     given.refusal
 }
@@ -160,7 +160,7 @@ pub extern "C" fn cb_gather_values(
         × ((now (gathered .exit) ≡ leftIn (gatheredGiven (gatherAnswer (now (d .entry)) (now (registers .entry)) (now (stack .entry)) (length (now (values .entry))))) (now (gathered .entry)))
         × (now (values .exit) ≡ valuesAfter (now (d .entry)) (now (registers .entry)) (now (stack .entry)) (now (values .entry)))) ⌝ }
 {
-    let given = handed::give_gathered(d, registers, stack, values, *gathered);
+    let given = handing::give_gathered(d, registers, stack, values, *gathered);
     *gathered = given.gathered;
     given.refusal
 }

@@ -1,12 +1,10 @@
-// What the calls of the C interface that place and gather give, by value: the refusal, number 0 for none, and the lent record at
-// exit, which a refusal leaves as it was (document 01, "A refusal returns its number only and writes nothing").
+// What the answers of placing and gathering give the C interface, by value: the refusal, number 0 for none, and the lent record at
+// exit, which a refusal leaves as it was (document 01, "A refusal returns its number only and writes nothing"). `handing` has the calls.
 use form::Refusal;
 use moving::GatherAnswer;
 use moving::PlaceAnswer;
 use units::Registers;
 ghost use mathlib.Core.Path.{_≡_};
-ghost use lib.ListN.{length};
-ghost use Rattle.moving.specs.Answers.{placeAnswer, registersAfter, stackAfter, gatherAnswer, valuesAfter};
 ghost use Rattle.outcomes.specs.Outcome.{refusalIn, leftIn};
 ghost use Rattle.handed.specs.Handed.{placedGiven, gatheredGiven};
 
@@ -32,21 +30,10 @@ pub struct GivenGathered {
     pub refusal: Refusal,
 }
 
-// Placing, with the images at exit.
-pub fn give_placed(
-    d: &[u8],
-    hidden: u64,
-    values: &[u8],
-    registers: &mut [u8],
-    stack: &mut [u8],
-    before: Placed,
-) -> GivenPlaced
-    ensures { λ r. ⌜ (r .refusal ≡ refusalIn (placedGiven (placeAnswer (now (d .entry)) (now (values .entry)) (length (now (registers .entry))) (length (now (stack .entry))))))
-        × ((r .placed ≡ leftIn (placedGiven (placeAnswer (now (d .entry)) (now (values .entry)) (length (now (registers .entry))) (length (now (stack .entry))))) before)
-        × ((now (registers .exit) ≡ registersAfter (now (d .entry)) hidden (now (values .entry)) (now (registers .entry)) (now (stack .entry)))
-        × (now (stack .exit) ≡ stackAfter (now (d .entry)) hidden (now (values .entry)) (now (registers .entry)) (now (stack .entry))))) ⌝ }
+// What placing gives: the vector count.
+pub fn placed_given(answer: PlaceAnswer, before: Placed) -> GivenPlaced
+    ensures { λ r. ⌜ (r .refusal ≡ refusalIn (placedGiven answer)) × (r .placed ≡ leftIn (placedGiven answer) before) ⌝ }
 {
-    let answer = value_placing::place_values(d, hidden, values, registers, stack);
     match answer {
         PlaceAnswer::Placed(vector) => GivenPlaced {
             placed: Placed { vector: vector },
@@ -59,19 +46,10 @@ pub fn give_placed(
     }
 }
 
-// Gathering, with the values at exit.
-pub fn give_gathered(
-    d: &[u8],
-    registers: &[u8],
-    stack: &[u8],
-    values: &mut [u8],
-    before: Gathered,
-) -> GivenGathered
-    ensures { λ r. ⌜ (r .refusal ≡ refusalIn (gatheredGiven (gatherAnswer (now (d .entry)) (now (registers .entry)) (now (stack .entry)) (length (now (values .entry))))))
-        × ((r .gathered ≡ leftIn (gatheredGiven (gatherAnswer (now (d .entry)) (now (registers .entry)) (now (stack .entry)) (length (now (values .entry))))) before)
-        × (now (values .exit) ≡ valuesAfter (now (d .entry)) (now (registers .entry)) (now (stack .entry)) (now (values .entry)))) ⌝ }
+// What gathering gives: the hidden address.
+pub fn gathered_given(answer: GatherAnswer, before: Gathered) -> GivenGathered
+    ensures { λ r. ⌜ (r .refusal ≡ refusalIn (gatheredGiven answer)) × (r .gathered ≡ leftIn (gatheredGiven answer) before) ⌝ }
 {
-    let answer = value_gathering::gather_values(d, registers, stack, values);
     match answer {
         GatherAnswer::Gathered(hidden) => GivenGathered {
             gathered: Gathered { hidden: hidden },

@@ -86,6 +86,7 @@ pub mod OfGiving
 pub mod OfGivenLayout
 pub mod OfListed
 pub mod OfHanded
+pub mod OfHanding
 pub mod OfBrought
 pub mod OfWalked
 pub mod OfCallbridge

@@ -1,31 +1,22 @@
 -- Each public function of `handed` meets its contract, and the contract is tight. Assumes nothing.
-use mathlib.Core.Path.{_≡_, sym, _∙_}
+use mathlib.Core.Path.{refl, sym, _∙_}
 use Rattle.tightness.specs.Tight.{Meets, Tight}
-use Rattle.tightness.proofs.Laws.{bytes, result, settle}
-use Rattle.handed.proofs.give_gathered
-use Rattle.handed.proofs.give_gathered.Met as give-gathered-met
-use Rattle.handed.proofs.give_gathered.Symbol as give-gathered-symbol
-use Rattle.handed.proofs.give_placed
-use Rattle.handed.proofs.give_placed.Met as give-placed-met
-use Rattle.handed.proofs.give_placed.Symbol as give-placed-symbol
+use Rattle.tightness.proofs.Laws.{result, settle}
+use Rattle.handed.proofs.placed_given
+use Rattle.handed.proofs.placed_given.Met as placed-given-met
+use Rattle.handed.proofs.placed_given.Symbol as placed-given-symbol
+use Rattle.handed.proofs.gathered_given
+use Rattle.handed.proofs.gathered_given.Met as gathered-given-met
+use Rattle.handed.proofs.gathered_given.Symbol as gathered-given-symbol
 
-pub meets-handed-give-placed : Meets give_placed.ended (λ M. give_placed.clauses {M = M}) give-placed-symbol.routine
-meets-handed-give-placed M = give-placed-met.met
+pub meets-handed-placed-given : Meets placed_given.ended (λ M. placed_given.clauses {M = M}) placed-given-symbol.routine
+meets-handed-placed-given M = placed-given-met.met
 
-pub tight-handed-give-placed : Tight give_placed.ended (λ M. give_placed.clauses {M = M})
-tight-handed-give-placed c r q w v a b = (settle (result give_placed.ended c) (a .ensured) (b .ensured) (λ e f i. record { refusal = (e .0 ∙ sym (f .0)) i; placed = (e .1 .0 ∙ sym (f .1 .0)) i }), λ i. (tt, (tt, (tt, (registers i, (stack i, (tt, tt)))))))
-  where
-    registers : w .1 .1 .1 .0 ≡ v .1 .1 .1 .0
-    registers = settle bytes (a .ensured) (b .ensured) (λ e f. e .1 .1 .0 ∙ sym (f .1 .1 .0))
+pub tight-handed-placed-given : Tight placed_given.ended (λ M. placed_given.clauses {M = M})
+tight-handed-placed-given c r q w v a b = (settle (result placed_given.ended c) (a .ensured) (b .ensured) (λ e f i. record { refusal = (e .0 ∙ sym (f .0)) i; placed = (e .1 ∙ sym (f .1)) i }), refl)
 
-    stack : w .1 .1 .1 .1 .0 ≡ v .1 .1 .1 .1 .0
-    stack = settle bytes (a .ensured) (b .ensured) (λ e f. e .1 .1 .1 ∙ sym (f .1 .1 .1))
+pub meets-handed-gathered-given : Meets gathered_given.ended (λ M. gathered_given.clauses {M = M}) gathered-given-symbol.routine
+meets-handed-gathered-given M = gathered-given-met.met
 
-pub meets-handed-give-gathered : Meets give_gathered.ended (λ M. give_gathered.clauses {M = M}) give-gathered-symbol.routine
-meets-handed-give-gathered M = give-gathered-met.met
-
-pub tight-handed-give-gathered : Tight give_gathered.ended (λ M. give_gathered.clauses {M = M})
-tight-handed-give-gathered c r q w v a b = (settle (result give_gathered.ended c) (a .ensured) (b .ensured) (λ e f i. record { refusal = (e .0 ∙ sym (f .0)) i; gathered = (e .1 .0 ∙ sym (f .1 .0)) i }), λ i. (tt, (tt, (tt, (values i, (tt, tt))))))
-  where
-    values : w .1 .1 .1 .0 ≡ v .1 .1 .1 .0
-    values = settle bytes (a .ensured) (b .ensured) (λ e f. e .1 .1 ∙ sym (f .1 .1))
+pub tight-handed-gathered-given : Tight gathered_given.ended (λ M. gathered_given.clauses {M = M})
+tight-handed-gathered-given c r q w v a b = (settle (result gathered_given.ended c) (a .ensured) (b .ensured) (λ e f i. record { refusal = (e .0 ∙ sym (f .0)) i; gathered = (e .1 ∙ sym (f .1)) i }), refl)
