@@ -229,7 +229,7 @@ pub extern "C" fn cb_open_walk(station: &Station, seat: &[u8], walk: &mut Walk) 
     ensures { λ r. ⌜ (r ≡ refusalIn (openGiven (openAnswer kcb (now (station .entry)) (now (seat .entry)))))
         × (now (walk .exit) ≡ leftIn (openGiven (openAnswer kcb (now (station .entry)) (now (seat .entry)))) (now (walk .entry))) ⌝ }
 {
-    let given = walked::give_walk(*station, seat, *walk);
+    let given = walking::give_walk(*station, seat, *walk);
     *walk = given.walk;
     given.refusal
 }
@@ -268,7 +268,7 @@ pub extern "C" fn cb_show(
     ensures { λ r. ⌜ (r ≡ refusalIn (shownGiven (shownAnswer kcb (now (station .entry)) (now (seat .entry)) (now (walk .entry)) (asking (now (registers .entry)) (now (stack .entry)) asked []))))
         × (now (part .exit) ≡ leftIn (shownGiven (shownAnswer kcb (now (station .entry)) (now (seat .entry)) (now (walk .entry)) (asking (now (registers .entry)) (now (stack .entry)) asked []))) (now (part .entry))) ⌝ }
 {
-    let given = walked::give_shown(*station, seat, *walk, registers, stack, asked, *part);
+    let given = walking::give_shown(*station, seat, *walk, registers, stack, asked, *part);
     *part = given.part;
     given.refusal
 }

@@ -89,5 +89,6 @@ pub mod OfHanded
 pub mod OfHanding
 pub mod OfBrought
 pub mod OfWalked
+pub mod OfWalking
 pub mod OfCallbridge
 pub mod HostCalls

@@ -2,21 +2,21 @@
 use mathlib.Core.Path.{refl, sym, _∙_}
 use Rattle.tightness.specs.Tight.{Meets, Tight}
 use Rattle.tightness.proofs.Laws.{result, settle}
-use Rattle.walked.proofs.give_shown
-use Rattle.walked.proofs.give_shown.Met as give-shown-met
-use Rattle.walked.proofs.give_shown.Symbol as give-shown-symbol
-use Rattle.walked.proofs.give_walk
-use Rattle.walked.proofs.give_walk.Met as give-walk-met
-use Rattle.walked.proofs.give_walk.Symbol as give-walk-symbol
+use Rattle.walked.proofs.walk_given
+use Rattle.walked.proofs.walk_given.Met as walk-given-met
+use Rattle.walked.proofs.walk_given.Symbol as walk-given-symbol
+use Rattle.walked.proofs.shown_given
+use Rattle.walked.proofs.shown_given.Met as shown-given-met
+use Rattle.walked.proofs.shown_given.Symbol as shown-given-symbol
 
-pub meets-walked-give-walk : Meets give_walk.ended (λ M. give_walk.clauses {M = M}) give-walk-symbol.routine
-meets-walked-give-walk M = give-walk-met.met
+pub meets-walked-walk-given : Meets walk_given.ended (λ M. walk_given.clauses {M = M}) walk-given-symbol.routine
+meets-walked-walk-given M = walk-given-met.met
 
-pub tight-walked-give-walk : Tight give_walk.ended (λ M. give_walk.clauses {M = M})
-tight-walked-give-walk c r q w v a b = (settle (result give_walk.ended c) (a .ensured) (b .ensured) (λ e f i. record { refusal = (e .0 ∙ sym (f .0)) i; walk = (e .1 ∙ sym (f .1)) i }), refl)
+pub tight-walked-walk-given : Tight walk_given.ended (λ M. walk_given.clauses {M = M})
+tight-walked-walk-given c r q w v a b = (settle (result walk_given.ended c) (a .ensured) (b .ensured) (λ e f i. record { refusal = (e .0 ∙ sym (f .0)) i; walk = (e .1 ∙ sym (f .1)) i }), refl)
 
-pub meets-walked-give-shown : Meets give_shown.ended (λ M. give_shown.clauses {M = M}) give-shown-symbol.routine
-meets-walked-give-shown M = give-shown-met.met
+pub meets-walked-shown-given : Meets shown_given.ended (λ M. shown_given.clauses {M = M}) shown-given-symbol.routine
+meets-walked-shown-given M = shown-given-met.met
 
-pub tight-walked-give-shown : Tight give_shown.ended (λ M. give_shown.clauses {M = M})
-tight-walked-give-shown c r q w v a b = (settle (result give_shown.ended c) (a .ensured) (b .ensured) (λ e f i. record { refusal = (e .0 ∙ sym (f .0)) i; part = (e .1 ∙ sym (f .1)) i }), refl)
+pub tight-walked-shown-given : Tight shown_given.ended (λ M. shown_given.clauses {M = M})
+tight-walked-shown-given c r q w v a b = (settle (result shown_given.ended c) (a .ensured) (b .ensured) (λ e f i. record { refusal = (e .0 ∙ sym (f .0)) i; part = (e .1 ∙ sym (f .1)) i }), refl)

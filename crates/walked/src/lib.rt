@@ -1,18 +1,12 @@
-// What the calls of the C interface that open a walk and show an argument give, by value: the refusal, number 0 for none, and the lent
-// record at exit, which a refusal leaves as it was (document 01, "A refusal returns its number only and writes nothing").
+// What the answers of opening a walk and of showing an argument give the C interface, by value: the refusal, number 0 for none, and the lent
+// record at exit, which a refusal leaves as it was (document 01, "A refusal returns its number only and writes nothing"). `walking` has the calls.
 use flat::Part;
 use form::Refusal;
 use show::ShownAnswer;
-use station::Station;
 use units::Bytes;
 use walk::OpenAnswer;
 use walk::Walk;
 ghost use mathlib.Core.Path.{_≡_};
-ghost use mathlib.Core.List.{[]};
-ghost use Rattle.station.specs.Paper.{kcb};
-ghost use Rattle.walk.specs.Orders.{asking};
-ghost use Rattle.walk.specs.Steps.{openAnswer};
-ghost use Rattle.show.specs.Show.{shownAnswer};
 ghost use Rattle.outcomes.specs.Outcome.{refusalIn, leftIn};
 ghost use Rattle.walked.specs.Walked.{openGiven, shownGiven};
 
@@ -27,11 +21,9 @@ pub struct GivenShown {
 }
 
 // A walk before the first unnamed argument.
-pub fn give_walk(station: Station, seat: &[u8], before: Walk) -> GivenWalk
-    ensures { λ r. ⌜ (r .refusal ≡ refusalIn (openGiven (openAnswer kcb station (now (seat .entry)))))
-        × (r .walk ≡ leftIn (openGiven (openAnswer kcb station (now (seat .entry)))) before) ⌝ }
+pub fn walk_given(answer: OpenAnswer, before: Walk) -> GivenWalk
+    ensures { λ r. ⌜ (r .refusal ≡ refusalIn (openGiven answer)) × (r .walk ≡ leftIn (openGiven answer) before) ⌝ }
 {
-    let answer = opening::open_walk(station, seat);
     match answer {
         OpenAnswer::Opened(opened) => GivenWalk {
             walk: opened,
@@ -44,20 +36,10 @@ pub fn give_walk(station: Station, seat: &[u8], before: Walk) -> GivenWalk
     }
 }
 
-// Where the argument lies that a walk stands before; no part where it lies in more than one.
-pub fn give_shown(
-    station: Station,
-    seat: &[u8],
-    walk: Walk,
-    registers: &[u8],
-    stack: &[u8],
-    asked: u8,
-    before: Part,
-) -> GivenShown
-    ensures { λ r. ⌜ (r .refusal ≡ refusalIn (shownGiven (shownAnswer kcb station (now (seat .entry)) walk (asking (now (registers .entry)) (now (stack .entry)) asked []))))
-        × (r .part ≡ leftIn (shownGiven (shownAnswer kcb station (now (seat .entry)) walk (asking (now (registers .entry)) (now (stack .entry)) asked []))) before) ⌝ }
+// Where an argument lies; no part where it lies in more than one.
+pub fn shown_given(answer: ShownAnswer, before: Part) -> GivenShown
+    ensures { λ r. ⌜ (r .refusal ≡ refusalIn (shownGiven answer)) × (r .part ≡ leftIn (shownGiven answer) before) ⌝ }
 {
-    let answer = showing::shown_at(station, seat, walk, registers, stack, asked);
     match answer {
         ShownAnswer::Registers(part) => {
             let offset = part.offset;

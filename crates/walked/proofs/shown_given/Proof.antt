@@ -1,12 +1,9 @@
 -- By the answer.
 -- Assumes nothing.
-use mathlib.Core.Path.{refl, sym, _∙_}
+use mathlib.Core.Path.{refl}
 use borrow.Author.Needs.{needs}
-use Rattle.walked.proofs.give_shown.Statement.{statement}
-use Rattle.walked.proofs.give_shown.Tie as tie
-
-shown-at-requires : tie.Need-shown-at-requires
-shown-at-requires c κs = search needs
+use Rattle.walked.proofs.shown_given.Statement.{statement}
+use Rattle.walked.proofs.shown_given.Tie as tie
 
 enum-known-answer : tie.Need-enum-known-answer
 enum-known-answer c = search needs
@@ -30,22 +27,21 @@ enum-known-answer-3 : tie.Need-enum-known-answer-3
 enum-known-answer-3 c = search needs
 
 returns : tie.Need-returns
-returns c = rw (sym (c .before .before .before .before .before .before .shown-at .ensures .0) ∙ c .before .before .before .before .answer .given .1) (c .refusal-of .ensures, refl)
+returns c = rw (c .before .before .before .before .answer .given .1) (c .refusal-of .ensures, refl)
 
 returns-2 : tie.Need-returns-2
-returns-2 c = rw (sym (c .before .before .before .before .before .before .shown-at .ensures .0) ∙ c .before .before .before .before .answer2 .given .1) (c .refusal-of2 .ensures, refl)
+returns-2 c = rw (c .before .before .before .before .answer2 .given .1) (c .refusal-of2 .ensures, refl)
 
 returns-3 : tie.Need-returns-3
-returns-3 c = rw (sym (c .before .before .before .shown-at .ensures .0) ∙ c .before .enum-told .given .1) (c .refusal-of3 .ensures, refl)
+returns-3 c = rw (c .before .enum-told .given .1) (c .refusal-of3 .ensures, refl)
 
 returns-4 : tie.Need-returns-4
-returns-4 c = rw (sym (c .before .before .before .shown-at .ensures .0) ∙ c .before .answer3 .given .1) (refl, refl)
+returns-4 c = rw (c .before .answer3 .given .1) (refl, refl)
 
-pub give-shown-spec : {M : Type 1} → statement M
-give-shown-spec =
+pub shown-given-spec : {M : Type 1} → statement M
+shown-given-spec =
     tie.close
     (tie.spec
-    shown-at-requires
     enum-known-answer
     refusal-of-requires
     enum-known-answer-2
