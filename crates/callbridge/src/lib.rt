@@ -171,7 +171,7 @@ pub extern "C" fn cb_put_returned(d: &[u8], hidden: u64, value: &[u8], image: &m
     ensures { λ r. ⌜ (r ≡ putGiven (putAnswer (now (d .entry)) (now (value .entry)) (length (now (image .entry)))))
         × (now (image .exit) ≡ imageAfter (now (d .entry)) hidden (now (value .entry)) (now (image .entry))) ⌝ }
 {
-    brought::give_put(d, hidden, value, image)
+    bringing::give_put(d, hidden, value, image)
 }
 
 // A returned value out of the return image.
@@ -186,7 +186,7 @@ pub extern "C" fn cb_take_returned(
         × ((now (gathered .exit) ≡ leftIn (takenGiven (takeAnswer (now (d .entry)) (now (image .entry)) (length (now (value .entry))))) (now (gathered .entry)))
         × (now (value .exit) ≡ valueAfter (now (d .entry)) (now (image .entry)) (now (value .entry)))) ⌝ }
 {
-    let given = brought::give_taken(d, image, value, *gathered);
+    let given = bringing::give_taken(d, image, value, *gathered);
     *gathered = given.gathered;
     given.refusal
 }

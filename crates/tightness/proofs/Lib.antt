@@ -88,6 +88,7 @@ pub mod OfListed
 pub mod OfHanded
 pub mod OfHanding
 pub mod OfBrought
+pub mod OfBringing
 pub mod OfWalked
 pub mod OfWalking
 pub mod OfCallbridge

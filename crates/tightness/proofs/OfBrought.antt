@@ -1,28 +1,22 @@
 -- Each public function of `brought` meets its contract, and the contract is tight. Assumes nothing.
-use mathlib.Core.Path.{_≡_, sym, _∙_}
+use mathlib.Core.Path.{refl, sym, _∙_}
 use Rattle.tightness.specs.Tight.{Meets, Tight}
-use Rattle.tightness.proofs.Laws.{bytes, result, settle}
-use Rattle.brought.proofs.give_put
-use Rattle.brought.proofs.give_put.Met as give-put-met
-use Rattle.brought.proofs.give_put.Symbol as give-put-symbol
-use Rattle.brought.proofs.give_taken
-use Rattle.brought.proofs.give_taken.Met as give-taken-met
-use Rattle.brought.proofs.give_taken.Symbol as give-taken-symbol
+use Rattle.tightness.proofs.Laws.{equal, result, settle}
+use Rattle.brought.proofs.put_given
+use Rattle.brought.proofs.put_given.Met as put-given-met
+use Rattle.brought.proofs.put_given.Symbol as put-given-symbol
+use Rattle.brought.proofs.taken_given
+use Rattle.brought.proofs.taken_given.Met as taken-given-met
+use Rattle.brought.proofs.taken_given.Symbol as taken-given-symbol
 
-pub meets-brought-give-put : Meets give_put.ended (λ M. give_put.clauses {M = M}) give-put-symbol.routine
-meets-brought-give-put M = give-put-met.met
+pub meets-brought-put-given : Meets put_given.ended (λ M. put_given.clauses {M = M}) put-given-symbol.routine
+meets-brought-put-given M = put-given-met.met
 
-pub tight-brought-give-put : Tight give_put.ended (λ M. give_put.clauses {M = M})
-tight-brought-give-put c r q w v a b = (settle (result give_put.ended c) (a .ensured) (b .ensured) (λ e f. e .0 ∙ sym (f .0)), λ i. (tt, (tt, (tt, (image i, tt)))))
-  where
-    image : w .1 .1 .1 .0 ≡ v .1 .1 .1 .0
-    image = settle bytes (a .ensured) (b .ensured) (λ e f. e .1 ∙ sym (f .1))
+pub tight-brought-put-given : Tight put_given.ended (λ M. put_given.clauses {M = M})
+tight-brought-put-given c r q w v a b = (equal (result put_given.ended c) (a .ensured) (b .ensured), refl)
 
-pub meets-brought-give-taken : Meets give_taken.ended (λ M. give_taken.clauses {M = M}) give-taken-symbol.routine
-meets-brought-give-taken M = give-taken-met.met
+pub meets-brought-taken-given : Meets taken_given.ended (λ M. taken_given.clauses {M = M}) taken-given-symbol.routine
+meets-brought-taken-given M = taken-given-met.met
 
-pub tight-brought-give-taken : Tight give_taken.ended (λ M. give_taken.clauses {M = M})
-tight-brought-give-taken c r q w v a b = (settle (result give_taken.ended c) (a .ensured) (b .ensured) (λ e f i. record { refusal = (e .0 ∙ sym (f .0)) i; gathered = (e .1 .0 ∙ sym (f .1 .0)) i }), λ i. (tt, (tt, (value i, (tt, tt)))))
-  where
-    value : w .1 .1 .0 ≡ v .1 .1 .0
-    value = settle bytes (a .ensured) (b .ensured) (λ e f. e .1 .1 ∙ sym (f .1 .1))
+pub tight-brought-taken-given : Tight taken_given.ended (λ M. taken_given.clauses {M = M})
+tight-brought-taken-given c r q w v a b = (settle (result taken_given.ended c) (a .ensured) (b .ensured) (λ e f i. record { refusal = (e .0 ∙ sym (f .0)) i; gathered = (e .1 ∙ sym (f .1)) i }), refl)
