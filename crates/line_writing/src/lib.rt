@@ -1,30 +1,12 @@
-// The lines of the lister's text (document 01, "The lister"), each written into a lent buffer: each function stores from index `at` on and
-// answers the index behind.
+// The lines of the lister's text between the first and the last (document 01, "The lister"): that of an argument and that of the returned value, each written into a lent buffer: each function stores from index `at` on and
+// answers the index behind. `head_line` has the first line, `walk_line` the last.
 use arguments::Placement;
-use layout::Layout;
 use places::ReturnPlace;
-use places::Used;
 ghost use Prim.Native.Nat.{_+_, _≤_, _<_};
 ghost use lib.Dec.{eqb};
 ghost use Rattle.text.specs.Written.{Wrote};
-ghost use Rattle.lines.specs.Listing.{headLine, recordLine, typeWords, returnLine, walkLine};
-ghost use Rattle.lines.specs.Asks.{SmallRecord, SmallUsed, SmallLayout};
-
-// "Line one: version, A, N, registers used (hidden address included), vector count, area".
-pub fn put_head(out: &mut [u8; 4096], at: usize, all: usize, first: usize, layout: Layout) -> usize
-    requires { ⌜ (at + 60 ≤ 4096) × (all < 256) × (first < 256) × SmallLayout layout ⌝ }
-    ensures { λ r. ⌜ Wrote 60 (now (out .entry)) at (headLine all first layout) (now (out .exit)) r ⌝ }
-{
-    let general = layout.used.general;
-    let vector = layout.used.vector;
-    let area = layout.area;
-    let behind_all = text::put_number(out, at, b"KCB 1 args ", all);
-    let behind_named = text::put_number(out, behind_all, b" named ", first);
-    let behind_general = text::put_number(out, behind_named, b" gp ", general.0);
-    let behind_vector = text::put_number(out, behind_general, b" vec ", vector.0);
-    let behind_area = text::put_number(out, behind_vector, b" stack ", area.0);
-    text::put(out, behind_area, b"\n")
-}
+ghost use Rattle.lines.specs.Listing.{recordLine, typeWords, returnLine};
+ghost use Rattle.lines.specs.Asks.{SmallRecord};
 
 // "Then per argument: position, type, size, alignment, place".
 pub fn put_record(out: &mut [u8; 4096], at: usize, i: usize, placement: Placement) -> usize
@@ -63,21 +45,4 @@ pub fn put_return(out: &mut [u8; 4096], at: usize, k: usize, place: ReturnPlace)
     let behind_type = put_type(out, next, k);
     let behind_place = place_writing::put_return_place(out, behind_type, place);
     text::put(out, behind_place, b"\n")
-}
-
-// gp_offset, fp_offset and the overflow offset where a walk starts; "a plain function ends with `walk none`".
-pub fn put_walk(out: &mut [u8; 4096], at: usize, variadic: usize, named: Used) -> usize
-    requires { ⌜ (at + 34 ≤ 4096) × SmallUsed named ⌝ }
-    ensures { λ r. ⌜ Wrote 34 (now (out .entry)) at (walkLine variadic named) (now (out .exit)) r ⌝ }
-{
-    if variadic == 0 {
-        return text::put(out, at, b"walk none\n");
-    }
-    let general = units::general_bytes(named.general);
-    let vector = units::vector_bytes(named.vector);
-    let stack = named.stack;
-    let behind_general = text::put_number(out, at, b"walk gp ", general.0);
-    let behind_vector = text::put_number(out, behind_general, b" fp ", 48 + vector.0);
-    let behind_stack = text::put_number(out, behind_vector, b" over ", stack.0);
-    text::put(out, behind_stack, b"\n")
 }

@@ -48,10 +48,10 @@ fn put_laid(d: &[u8], out: &mut [u8; 4096], layout: Layout, table: &[u32; 64]) -
     let k = reading::byte_at(d, 9);
     let returns = layout.returns;
     let named = layout.named;
-    let behind_head = line_writing::put_head(out, 0, all, first, layout);
+    let behind_head = head_line::put_head(out, 0, all, first, layout);
     let behind_records = put_records(d, out, behind_head, layout, table);
     let behind_return = line_writing::put_return(out, behind_records, k, returns);
-    line_writing::put_walk(out, behind_return, variadic, named)
+    walk_line::put_walk(out, behind_return, variadic, named)
 }
 
 // The listing of any bytes, at the start of `out`: all behind it stays. The answer is its length.

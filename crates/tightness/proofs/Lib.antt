@@ -75,7 +75,9 @@ pub mod OfShowNumber
 pub mod OfText
 pub mod OfRegisterWords
 pub mod OfPlaceWriting
+pub mod OfHeadLine
 pub mod OfLineWriting
+pub mod OfWalkLine
 pub mod OfRefusedLine
 pub mod OfListing
 pub mod OfFlat

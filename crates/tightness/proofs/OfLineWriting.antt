@@ -2,27 +2,12 @@
 use mathlib.Core.Path.{_≡_, sym, _∙_}
 use Rattle.tightness.specs.Tight.{Meets, Tight}
 use Rattle.tightness.proofs.Laws.{bytes, result, settle}
-use Rattle.line_writing.proofs.put_head
-use Rattle.line_writing.proofs.put_head.Met as put-head-met
-use Rattle.line_writing.proofs.put_head.Symbol as put-head-symbol
 use Rattle.line_writing.proofs.put_record
 use Rattle.line_writing.proofs.put_record.Met as put-record-met
 use Rattle.line_writing.proofs.put_record.Symbol as put-record-symbol
 use Rattle.line_writing.proofs.put_return
 use Rattle.line_writing.proofs.put_return.Met as put-return-met
 use Rattle.line_writing.proofs.put_return.Symbol as put-return-symbol
-use Rattle.line_writing.proofs.put_walk
-use Rattle.line_writing.proofs.put_walk.Met as put-walk-met
-use Rattle.line_writing.proofs.put_walk.Symbol as put-walk-symbol
-
-pub meets-line-writing-put-head : Meets put_head.ended (λ M. put_head.clauses {M = M}) put-head-symbol.routine
-meets-line-writing-put-head M = put-head-met.met
-
-pub tight-line-writing-put-head : Tight put_head.ended (λ M. put_head.clauses {M = M})
-tight-line-writing-put-head c r q w v a b = (settle (result put_head.ended c) (a .ensured) (b .ensured) (λ e f. e .behind ∙ sym (f .behind)), λ i. (out i, (tt, (tt, (tt, (tt, tt))))))
-  where
-    out : w .0 ≡ v .0
-    out = settle bytes (a .ensured) (b .ensured) (λ e f. e .bytes ∙ sym (f .bytes))
 
 pub meets-line-writing-put-record : Meets put_record.ended (λ M. put_record.clauses {M = M}) put-record-symbol.routine
 meets-line-writing-put-record M = put-record-met.met
@@ -38,15 +23,6 @@ meets-line-writing-put-return M = put-return-met.met
 
 pub tight-line-writing-put-return : Tight put_return.ended (λ M. put_return.clauses {M = M})
 tight-line-writing-put-return c r q w v a b = (settle (result put_return.ended c) (a .ensured) (b .ensured) (λ e f. e .behind ∙ sym (f .behind)), λ i. (out i, (tt, (tt, (tt, tt)))))
-  where
-    out : w .0 ≡ v .0
-    out = settle bytes (a .ensured) (b .ensured) (λ e f. e .bytes ∙ sym (f .bytes))
-
-pub meets-line-writing-put-walk : Meets put_walk.ended (λ M. put_walk.clauses {M = M}) put-walk-symbol.routine
-meets-line-writing-put-walk M = put-walk-met.met
-
-pub tight-line-writing-put-walk : Tight put_walk.ended (λ M. put_walk.clauses {M = M})
-tight-line-writing-put-walk c r q w v a b = (settle (result put_walk.ended c) (a .ensured) (b .ensured) (λ e f. e .behind ∙ sym (f .behind)), λ i. (out i, (tt, (tt, (tt, tt)))))
   where
     out : w .0 ≡ v .0
     out = settle bytes (a .ensured) (b .ensured) (λ e f. e .bytes ∙ sym (f .bytes))

@@ -6,8 +6,8 @@ use borrow.Author.Tests.{eq-eqb}
 use Rattle.lines.specs.Listing.{walkLine}
 use Rattle.lines.proofs.Lines.{walk-is}
 use Rattle.text.proofs.Written.{wrote-more}
-use Rattle.line_writing.proofs.put_walk.Statement.{statement}
-use Rattle.line_writing.proofs.put_walk.Tie as tie
+use Rattle.walk_line.proofs.put_walk.Statement.{statement}
+use Rattle.walk_line.proofs.put_walk.Tie as tie
 
 slice-aggregate-put : tie.Need-slice-aggregate-put
 slice-aggregate-put c = search needs

@@ -3,8 +3,8 @@
 use borrow.Author.Needs.{needs}
 use Rattle.lines.specs.Listing.{headLine}
 use Rattle.text.proofs.Written.{wrote-join}
-use Rattle.line_writing.proofs.put_head.Statement.{statement}
-use Rattle.line_writing.proofs.put_head.Tie as tie
+use Rattle.head_line.proofs.put_head.Statement.{statement}
+use Rattle.head_line.proofs.put_head.Tie as tie
 
 slice-aggregate-put-number : tie.Need-slice-aggregate-put-number
 slice-aggregate-put-number c = search needs
