@@ -92,7 +92,7 @@ pub extern "C" fn cb_layout_of(d: &[u8], layout: &mut Layout) -> Refusal
     ensures { λ r. ⌜ (r ≡ refusalIn (layoutGiven (argumentsIn (now (d .entry))) (layoutAnswer (now (d .entry)))))
         × (now (layout .exit) ≡ leftIn (layoutGiven (argumentsIn (now (d .entry))) (layoutAnswer (now (d .entry)))) (now (layout .entry))) ⌝ }
 {
-    let given = given_layout::give_layout(d, *layout);
+    let given = giving_layout::give_layout(d, *layout);
     *layout = given.layout;
     given.refusal
 }

@@ -1,11 +1,10 @@
-// What the layout of the C interface gives, by value: the refusal, number 0 for none, and the lent record at exit, which a refusal leaves as
-// it was (document 01, "A refusal returns its number only and writes nothing").
+// What a layout's answer gives the C interface, by value: the refusal, number 0 for none, and the lent record at exit, which a refusal leaves as
+// it was (document 01, "A refusal returns its number only and writes nothing"). `giving_layout` has the call.
 use flat::Layout;
 use form::Refusal;
 use layout::LayoutAnswer;
 ghost use mathlib.Core.Path.{_≡_};
 ghost use Rattle.description.specs.Description.{argumentsIn};
-ghost use Rattle.layout.specs.Layout.{layoutAnswer};
 ghost use Rattle.outcomes.specs.Outcome.{refusalIn, leftIn};
 ghost use Rattle.given.specs.Given.{layoutGiven};
 
@@ -15,7 +14,7 @@ pub struct GivenLayout {
 }
 
 // The number of arguments, of any bytes: 0 where there is no such byte.
-fn arguments_of(d: &[u8]) -> usize
+pub fn arguments_of(d: &[u8]) -> usize
     ensures { λ r. ⌜ r ≡ argumentsIn (now (d .entry)) ⌝ }
 {
     if d.len() <= 8 {
@@ -38,13 +37,4 @@ pub fn layout_given(answer: LayoutAnswer, arguments: usize, before: Layout) -> G
             refusal: refusal,
         },
     }
-}
-
-// The call as a whole.
-pub fn give_layout(d: &[u8], before: Layout) -> GivenLayout
-    ensures { λ r. ⌜ (r .refusal ≡ refusalIn (layoutGiven (argumentsIn (now (d .entry))) (layoutAnswer (now (d .entry)))))
-        × (r .layout ≡ leftIn (layoutGiven (argumentsIn (now (d .entry))) (layoutAnswer (now (d .entry)))) before) ⌝ }
-{
-    let answer = deciding::layout_of(d);
-    layout_given(answer, arguments_of(d), before)
 }

@@ -86,6 +86,7 @@ pub mod OfGiven
 pub mod OfGivenClasses
 pub mod OfGiving
 pub mod OfGivenLayout
+pub mod OfGivingLayout
 pub mod OfListed
 pub mod OfHanded
 pub mod OfHanding

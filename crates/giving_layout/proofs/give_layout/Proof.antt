@@ -1,8 +1,8 @@
 -- By the answer and the number of arguments.
 -- Assumes nothing.
 use borrow.Author.Needs.{needs}
-use Rattle.given_layout.proofs.give_layout.Statement.{statement}
-use Rattle.given_layout.proofs.give_layout.Tie as tie
+use Rattle.giving_layout.proofs.give_layout.Statement.{statement}
+use Rattle.giving_layout.proofs.give_layout.Tie as tie
 
 layout-of-requires : tie.Need-layout-of-requires
 layout-of-requires c κs = search needs
