@@ -71,7 +71,7 @@ fn use_argument(d: &[u8], used: Used, i: usize, table: &[u32; 64]) -> Turn
     ensures { λ r. ⌜ r ≡ turnAt (now (d .entry)) used i ⌝ }
 {
     let k = records::argument_at(d, i);
-    let size = extents::extent_in(table, k).size;
+    let size = table_entries::extent_in(table, k).size;
     let after = next_places::use_next(used, table, k);
     Turn {
         size: size,

@@ -39,7 +39,7 @@ fn search_broken(d: &[u8], values: &[u8], table: &[u32; 64]) -> usize
         if bool_bytes::broken_byte(d, k, byte) {
             return i;
         }
-        start = units::plus(start, extents::extent_in(table, k).size);
+        start = units::plus(start, table_entries::extent_in(table, k).size);
         i += 1;
     }
     i

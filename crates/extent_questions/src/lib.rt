@@ -12,5 +12,5 @@ pub fn type_extent(d: &[u8], t: u8) -> ExtentAnswer
     if number != 0 {
         return ExtentAnswer::Refused(sizes::refusal_for(d, number));
     }
-    ExtentAnswer::Known(extents::extent_in(&table, t as usize))
+    ExtentAnswer::Known(table_entries::extent_in(&table, t as usize))
 }

@@ -1,14 +1,12 @@
-// Size and alignment of one type of a description, worked out by those of the types below it (document 01, "Size/align"); a type's entry of the table, made and read.
+// Size and alignment of one type of a description, worked out by those of the types below it (document 01, "Size/align").
 use types::Extent;
 use units::Bytes;
 ghost use mathlib.Core.Path.{_≡_};
-ghost use Prim.Native.Nat.{_<_, _≤_, _^_};
-ghost use lib.ListN.{length, getD};
+ghost use Prim.Native.Nat.{_<_};
 ghost use Rattle.types.specs.Basic.{lp64, basicSize, basicAlign};
-ghost use Rattle.types.specs.Size.{offsetAfter, endAfter};
 ghost use Rattle.types.specs.Decode.{tyAt, tysFrom};
 ghost use Rattle.types.specs.Asks.{Sized, SizedRun, IsExtent, IsRun};
-ghost use Rattle.types.specs.Table.{packed, IsEntry, Sizes};
+ghost use Rattle.types.specs.Table.{Sizes};
 
 const SIZES: [u8; 16] = [1, 1, 2, 4, 8, 16, 4, 8, 16, 16, 8, 16, 8, 16, 32, 8];
 
@@ -31,60 +29,6 @@ pub fn basic_extent(code: usize) -> Extent
     }
 }
 
-// Where a member goes, of a union or of a struct, those before it ending at `end`.
-pub fn offset_after(union: bool, end: Bytes, align: Bytes) -> Bytes
-    requires { ⌜ (end .0 ≤ 2 ^ 32) × ((0 < align .0) × (align .0 ≤ 16)) ⌝ }
-    ensures { λ r. ⌜ r .0 ≡ offsetAfter union (end .0) (align .0) ⌝ }
-{
-    if union {
-        return Bytes(0);
-    }
-    units::raise_to(align, end)
-}
-
-// Where the members end after one more.
-pub fn end_after(union: bool, end: Bytes, member: Extent) -> Bytes
-    requires { ⌜ ((end .0 ≤ 2 ^ 32) × (member .size .0 ≤ 4096)) × ((0 < member .align .0) × (member .align .0 ≤ 16)) ⌝ }
-    ensures { λ r. ⌜ r .0 ≡ endAfter union (end .0) (member .align .0) (member .size .0) ⌝ }
-{
-    let offset = offset_after(union, end, member.align);
-    units::larger(end, units::plus(offset, member.size))
-}
-
-// How many entries a table has, which its type says: as a slice it has that as a fact.
-pub fn entries(table: &[u32; 64]) -> usize
-    ensures { λ r. ⌜ (r ≡ 64) × (r ≡ length (now (table .entry))) ⌝ }
-{
-    let whole: &[u32] = table;
-    whole.len()
-}
-
-// The entry of a type in a table of sizes and alignments.
-pub fn entry_of(extent: Extent) -> u32
-    requires { ⌜ (extent .size .0 ≤ 4096) × (extent .align .0 ≤ 16) ⌝ }
-    ensures { λ r. ⌜ r ≡ packed (extent .size .0) (extent .align .0) ⌝ }
-{
-    (extent.size.0 + 8192 * extent.align.0) as u32
-}
-
-pub fn wide(entry: u32) -> usize
-    ensures { λ r. ⌜ r ≡ entry ⌝ }
-{
-    entry as usize
-}
-
-// Size and alignment of type k, by its entry. Nothing else takes them out of a table.
-pub fn extent_in(table: &[u32; 64], k: usize) -> Extent
-    requires { ⌜ k < 64 ⌝ }
-    ensures { λ r. ⌜ IsEntry (getD (now (table .entry)) k 0) r ⌝ }
-{
-    let entry = wide(table[k]);
-    Extent {
-        size: Bytes(entry % 8192),
-        align: Bytes(entry / 8192 % 32),
-    }
-}
-
 // Where `count` members of type k from place `first` on end, and the strictest alignment, by the table of the types below k.
 fn members_extent(
     d: &[u8],
@@ -103,8 +47,8 @@ fn members_extent(
     let mut left = count;
     while 0 < left {
         let member = records::member_at(d, at);
-        let extent = extent_in(table, member);
-        end = end_after(union, end, extent);
+        let extent = table_entries::extent_in(table, member);
+        end = member_offsets::end_after(union, end, extent);
         align = units::larger(align, extent.align);
         at += 1;
         left -= 1;
@@ -127,7 +71,7 @@ pub fn extent_of(d: &[u8], k: usize, table: &[u32; 64]) -> Extent
     }
     let count = records::count_at(d, k);
     if kind == 1 {
-        let element = extent_in(table, a);
+        let element = table_entries::extent_in(table, a);
         let size = units::times(element.size, count);
         let align = element.align;
         return Extent {

@@ -30,7 +30,7 @@ fn place_all(
     let mut i = 0;
     while i < arguments {
         let k = records::argument_at(d, i);
-        let extent = extents::extent_in(table, k);
+        let extent = table_entries::extent_in(table, k);
         let size = extent.size;
         let placed = quick_places::next_place(used, table, k, extent);
         let place = placed.place;
@@ -78,7 +78,7 @@ pub fn gather_all(
     let mut i = 0;
     while i < arguments {
         let k = records::argument_at(d, i);
-        let extent = extents::extent_in(table, k);
+        let extent = table_entries::extent_in(table, k);
         let size = extent.size;
         let placed = quick_places::next_place(used, table, k, extent);
         let place = placed.place;

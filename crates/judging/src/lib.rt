@@ -1,4 +1,4 @@
-// Which of the refusals 1 to 9 any bytes get (document 01, "Refusals"): 8 and 9, what a call may use of a description's types, behind 1 to 7.
+// Which of the refusals 1 to 9 any bytes get (document 01, "Refusal numbers"): 8 and 9, what a call may use of a description's types, behind 1 to 7.
 ghost use mathlib.Core.Path.{_≡_};
 ghost use Rattle.description.specs.Description.{typesIn};
 ghost use Rattle.types.specs.Table.{sizesAfter, Sizes};

@@ -38,7 +38,7 @@ fn asks_in(table: &[u32; 64], k: usize) -> Asks
     ensures { λ r. ⌜ (r .general .0 ≡ getD (now (table .entry)) k 0 / 33554432 % 16) × (r .vector .0 ≡ getD (now (table .entry)) k 0 / 33554432 / 16)
         × (r .vector .0 ≤ 2 ^ 40) ⌝ }
 {
-    let asks = extents::wide(table[k]) / 33554432;
+    let asks = table_entries::wide(table[k]) / 33554432;
     Asks {
         general: Registers(asks % 16),
         vector: Registers(asks / 16),
@@ -50,7 +50,7 @@ fn use_stack(used: Used, table: &[u32; 64], k: usize) -> Used
     requires { ⌜ (k < 64) × Room used × Small (shapeIn (getD (now table) k 0)) ⌝ }
     ensures { λ r. ⌜ r ≡ stacking used (shapeIn (getD (now (table .entry)) k 0)) ⌝ }
 {
-    let extent = extents::extent_in(table, k);
+    let extent = table_entries::extent_in(table, k);
     stack_places::on_stack(used, extent.size, extent.align).used
 }
 

@@ -15,7 +15,7 @@ pub fn returned_size(d: &[u8], table: &[u32; 64]) -> Bytes
     if k == 255 {
         return Bytes(0);
     }
-    extents::extent_in(table, k).size
+    table_entries::extent_in(table, k).size
 }
 
 // 11: whether the value has not exactly so many bytes, or the image not exactly 80.

@@ -15,7 +15,7 @@ pub fn shape_in(table: &[u32; 64], k: usize) -> Shape
     let first = classes[0];
     let second = classes[1];
     let kinds = class_kinds::kinds_of(first, second);
-    let extent = extents::extent_in(table, k);
+    let extent = table_entries::extent_in(table, k);
     let size = extent.size;
     let align = extent.align;
     Shape {

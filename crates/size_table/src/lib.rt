@@ -13,7 +13,7 @@ pub fn fill_sizes(d: &[u8], table: &mut [u32; 64]) -> usize
         × (now (table .exit) ≡ filled (entryAt (now (d .entry))) (firstLarge (now (d .entry))) (now (table .entry)))
         × Sizes (now (d .entry)) (firstLarge (now (d .entry))) (now (table .exit)) ⌝ }
 {
-    extents::entries(table);
+    table_entries::entries(table);
     let types = reading::byte_at(d, 5);
     let mut k = 0;
     while k < types {
@@ -21,7 +21,7 @@ pub fn fill_sizes(d: &[u8], table: &mut [u32; 64]) -> usize
         if units::over(extent.size, Bytes(4096)) {
             return k;
         }
-        table[k] = extents::entry_of(extent);
+        table[k] = table_entries::entry_of(extent);
         k += 1;
     }
     k

@@ -8,6 +8,8 @@ pub mod OfHeaderChecks
 pub mod OfFormRecords
 pub mod OfFormReading
 pub mod OfExtents
+pub mod OfMemberOffsets
+pub mod OfTableEntries
 pub mod OfSizeTable
 pub mod OfSizes
 pub mod OfClasses

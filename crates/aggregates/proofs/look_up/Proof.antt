@@ -9,7 +9,7 @@ use Rattle.types.proofs.Table.{known-low, known-extent}
 use Rattle.classify.proofs.Known.{look-first, look-low, look-high, look-finished}
 use Rattle.aggregates.proofs.look_up.Statement.{statement}
 use Rattle.aggregates.proofs.look_up.Tie as tie
-use Rattle.extents.proofs.wide.Reads as wide-reads′
+use Rattle.table_entries.proofs.wide.Reads as wide-reads′
 
 returns : tie.Need-returns
 returns c = λ h. absurd (omega arith)
