@@ -19,7 +19,6 @@ pub mod OfMemberSteps
 pub mod OfAggregates
 pub mod OfClassTable
 pub mod OfQuestionRefusals
-pub mod OfQuestions
 pub mod OfExtentParts
 pub mod OfExtentQuestions
 pub mod OfSizeQuestions
@@ -56,7 +55,6 @@ pub mod OfValueGathering
 pub mod OfReturnImage
 pub mod OfReturnValues
 pub mod OfMemoryReturns
-pub mod OfReturning
 pub mod OfReturnedLengths
 pub mod OfReturnedBools
 pub mod OfPutting
