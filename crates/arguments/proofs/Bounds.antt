@@ -1,27 +1,24 @@
 -- What bounds everything that an accepted description asks (A6), and the steps of the loop that lays it out. Assumes nothing.
-use mathlib.Core.Path.{_≡_, sym, _∙_}
-use mathlib.Core.List.{List, [], _∷_}
-use Prim.Native.Nat.{ℕ, zero, suc, _+_, _-_, _*_, _^_, _≤_, _<_}
+use mathlib.Core.Path.{_≡_}
+use mathlib.Core.List.{List}
+use Prim.Native.Nat.{ℕ, zero, suc, _+_, _-_, _≤_, _<_}
 use native.Mathlib.Omega.{arith}
 use Rattle.addresses.specs.Addresses.{All}
 use Rattle.description.specs.Description.{typesIn, argumentsIn, argumentAt}
 use Rattle.form.proofs.Form.{accepted-counts}
-use Rattle.types.specs.Basic.{lp64}
-use Rattle.types.specs.Decode.{tyAt}
 use Rattle.types.proofs.Large.{accepted-form, accepted-small, accepted-sized}
 use Rattle.classify.specs.Asks.{AskType}
-use Rattle.uses.specs.Uses.{usesRefusal, Typed}
+use Rattle.uses.specs.Uses.{usesRefusal}
 use Rattle.uses.proofs.Uses.{accepted-types, accepted-typed}
 use Rattle.places.specs.declared.Used.{Used}
-use Rattle.places.specs.Shapes.{Shape, Shaped, shapeOf}
-use Rattle.places.specs.Places.{next, after}
-use Rattle.places.specs.Images.{total}
+use Rattle.places.specs.Shapes.{Shaped}
+use Rattle.places.specs.Places.{next}
 use Rattle.places.specs.Recorded.{Small, Room}
 use Rattle.places.proofs.Fits.{next-bounds}
 use Rattle.places.proofs.Offsets.{next-room}
 use Rattle.places.proofs.Guaranteed.{accepted-shaped, accepted-small-shape}
 use Rattle.arguments.specs.Arguments.{shapeAt, shapesFrom, shapes}
-use Rattle.arguments.specs.Asks.{Before, AskArgument}
+use Rattle.arguments.specs.Asks.{Before}
 
 module _ (d : List ℕ) (right : usesRefusal d ≡ 0) where
   pub arguments-few : argumentsIn d ≤ 64

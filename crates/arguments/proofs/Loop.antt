@@ -1,16 +1,15 @@
 -- The loop that lays arguments out: what is left comes to what was to be done at first. Assumes nothing.
 use mathlib.Core.Path.{_≡_, refl, sym, ap, _∙_}
-use mathlib.Core.List.{List, [], _∷_}
-use Prim.Native.Nat.{ℕ, _+_, _-_, _*_, _^_, _≤_, _<_}
+use mathlib.Core.List.{List}
+use Prim.Native.Nat.{ℕ, _+_, _-_, _^_, _≤_, _<_}
 use native.Mathlib.Omega.{arith}
 use Rattle.description.specs.Description.{argumentsIn}
-use Rattle.uses.specs.Uses.{usesRefusal}
 use Rattle.places.specs.declared.Used.{Used}
 use Rattle.places.specs.Shapes.{Shape}
-use Rattle.places.specs.Places.{next, after}
+use Rattle.places.specs.Places.{after}
 use Rattle.places.specs.Images.{total}
-use Rattle.arguments.specs.Arguments.{shapeAt, shapesFrom}
-use Rattle.arguments.specs.Asks.{Before, AskArgument, AskArguments, IsLaid}
+use Rattle.arguments.specs.Arguments.{shapesFrom}
+use Rattle.arguments.specs.Asks.{AskArgument, AskArguments, IsLaid}
 use Rattle.arguments.specs.Placements.{turnAt}
 use Rattle.arguments.specs.declared.Turn.{Turn}
 use Rattle.arguments.specs.declared.Laying.{Laying}

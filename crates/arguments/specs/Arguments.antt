@@ -3,7 +3,7 @@ use mathlib.Core.Bool.{Bool, cond, not, _&&_}
 use mathlib.Core.List.{List, [], _∷_}
 use Prim.Native.Nat.{ℕ, zero, suc, _+_}
 use lib.Dec.{eqb}
-use Rattle.description.specs.Description.{namedIn, argumentsIn, returnIn, argumentAt}
+use Rattle.description.specs.Description.{argumentsIn, returnIn, argumentAt}
 use Rattle.types.specs.Decode.{tyAt}
 use Rattle.classes.specs.declared.Class.{Class}
 use Rattle.classify.specs.Classify.{classesOf}

@@ -1,7 +1,7 @@
 -- The placement record of each argument: document 01, "One placement record for each argument". Assumes nothing: these are definitions.
 use mathlib.Core.List.{List}
 use Prim.Native.Nat.{ℕ}
-use Rattle.description.specs.Description.{argumentsIn, argumentAt}
+use Rattle.description.specs.Description.{argumentAt}
 use Rattle.places.specs.declared.Used.{Used}
 use Rattle.places.specs.Places.{place, next}
 use Rattle.places.specs.Recorded.{recorded}

@@ -1,12 +1,12 @@
 -- The lent list: which number, exactly, and how the records follow one another. Assumes nothing.
 use mathlib.Core.Path.{_≡_, refl, sym, ap, _∙_}
-use mathlib.Core.Bool.{Bool, true, false, cond, true≢false}
+use mathlib.Core.Bool.{Bool, true, false, cond}
 use mathlib.Core.List.{List, [], _∷_, _++_}
 use mathlib.Core.Logic.{_↔_}
 use Prim.Native.Nat.{ℕ, _+_, _≤_, _<_}
 use native.Mathlib.Omega.{arith}
 use borrow.Author.Tests.{eq-eqb, ne-eqb, eqb-true, lt-ltb, le-ltb, ltb-false}
-use lib.Dec.{ltb, eqb}
+use lib.Dec.{eqb}
 use lib.ListN.{getD, replicate}
 use Rattle.description.specs.Description.{argumentsIn}
 use Rattle.form.specs.Order.{FirstAt}
@@ -26,7 +26,6 @@ use Rattle.begun.specs.Lists.{shortList, listRefusal, listAnswer, listCo
 use Rattle.layout.specs.declared.Layout.{Layout}
 use Rattle.begun.specs.declared.Begun.{Begun}
 use Rattle.begun.specs.declared.Opened.{Opened}
-use Rattle.layout.specs.declared.LayoutAnswer.{LayoutAnswer}
 use Rattle.layout.specs.declared.LayoutAnswer.the-variants.{Laid, Refused}
 use Rattle.arguments.proofs.Arguments.{used-none, used-next}
 use Rattle.layout.proofs.Verdict.{accepted-uses}

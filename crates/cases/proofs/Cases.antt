@@ -1,7 +1,6 @@
 -- The cases hold (B14): "proved of the definitions by a single theorem over a list of them". Assumes nothing.
 use mathlib.Core.Path.{_≡_, refl}
-use mathlib.Core.List.{List, [], _∷_, map}
-use Prim.Native.Nat.{ℕ}
+use mathlib.Core.List.{List, map}
 use Rattle.addresses.specs.Addresses.{run}
 use Rattle.units.specs.Raise.{raise}
 use Rattle.description.specs.Description.{kindAt, aAt, countAt, memberAt, argumentAt, argumentsIn}

@@ -1,9 +1,9 @@
 -- The bytes that are copied into the out buffer are those that lie at the argument's addresses. Assumes nothing.
 use mathlib.Core.Path.{_≡_, refl, sym, ap, ap₂, _∙_}
-use mathlib.Core.List.{List, [], _∷_, _++_, map, append-nil}
-use Prim.Native.Nat.{ℕ, zero, suc, _+_, _-_, _≤_, _<_, min}
+use mathlib.Core.List.{List, [], _∷_, _++_, append-nil}
+use Prim.Native.Nat.{ℕ, suc, _+_, _-_, _≤_, min}
 use native.Mathlib.Omega.{arith}
-use lib.ListN.{length, getD, length-append}
+use lib.ListN.{length, length-append}
 use Rattle.addresses.specs.Addresses.{run, gather, scatter}
 use Rattle.addresses.specs.Copy.{copied}
 use Rattle.addresses.proofs.Runs.{length-run, all-run, run-append, run-shift, scatter-whole}

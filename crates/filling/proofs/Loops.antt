@@ -1,13 +1,13 @@
 -- The two loops that move bytes: what is left to move from here comes to what was to be moved at first. Assumes nothing.
 use mathlib.Core.Path.{_≡_, refl, sym, ap, ap₂, _∙_}
-use mathlib.Core.List.{List, [], _∷_, _++_}
-use Prim.Native.Nat.{ℕ, zero, suc, _+_, _-_, _≤_, _<_}
+use mathlib.Core.List.{List, _∷_, _++_}
+use Prim.Native.Nat.{ℕ, _+_, _-_, _≤_, _<_}
 use native.Mathlib.Nat.{sub-zero}
 use native.Mathlib.Omega.{arith}
 use lib.ListN.{length, getD, drop, take-append-drop, length-map}
 use lib.Seq.{drop-drop}
 use Rattle.addresses.specs.Addresses.{run, gather, scatter}
-use Rattle.addresses.proofs.Scatter.{length-scatter, scatter-append, gather-append}
+use Rattle.addresses.proofs.Scatter.{scatter-append, gather-append}
 use Rattle.addresses.proofs.Runs.{length-run, gather-run, run-append, scatter-whole}
 use Rattle.description.specs.Description.{argumentsIn}
 use Rattle.places.specs.declared.Used.{Used}
@@ -19,7 +19,6 @@ use Rattle.places.proofs.Apart.{length-bytes, length-addresses}
 use Rattle.arguments.specs.Arguments.{shapeAt, shapesFrom, shapes, usedFirst}
 use Rattle.layout.specs.Layout.{valuesOf}
 use Rattle.arguments.specs.Placements.{stepAt}
-use Rattle.layout.specs.Verdict.{verdict}
 use Rattle.arguments.specs.declared.Step.{Step}
 use Rattle.arguments.proofs.Arguments.{shapes-cons, shapes-end}
 use Rattle.arguments.proofs.Bounds.{argument-shaped, all-shaped}

@@ -1,10 +1,10 @@
 -- Where a loop over the arguments stands: what is used, the argument, and where its value begins. Assumes nothing.
 use mathlib.Core.Path.{_≡_, refl, sym, ap, _∙_}
-use mathlib.Core.List.{List, [], _∷_, _++_}
+use mathlib.Core.List.{List, _∷_}
 use Prim.Native.Nat.{ℕ, zero, suc, _+_, _*_, _-_, _^_, _≤_, _<_}
 use native.Mathlib.Numerals.{add-one}
 use native.Mathlib.Omega.{arith}
-use lib.ListN.{length, getD}
+use lib.ListN.{getD}
 use Rattle.units.proofs.Raise.{raise-not-below}
 use Rattle.description.specs.Description.{typesIn, argumentsIn, argumentAt, Whole}
 use Rattle.types.specs.Basic.{lp64}
@@ -20,7 +20,7 @@ use Rattle.uses.specs.Uses.{usesRefusal}
 use Rattle.uses.proofs.Uses.{accepted-types, accepted-typed}
 use Rattle.places.specs.declared.Used.{Used}
 use Rattle.places.specs.declared.Placed.{Placed}
-use Rattle.places.specs.Shapes.{Shape, Shaped, shapeOf, shapeIn}
+use Rattle.places.specs.Shapes.{Shape, shapeOf, shapeIn}
 use Rattle.places.specs.Places.{place, next, after, area}
 use Rattle.places.specs.Images.{total}
 use Rattle.places.specs.Recorded.{placeOf, recorded, Room, Small, IsPlaced}

@@ -1,5 +1,5 @@
 -- The place that the layout gives an argument lies within the images, whatever holds it in code. Assumes nothing.
-use mathlib.Core.Path.{_≡_, refl, sym, ap, _∙_}
+use mathlib.Core.Path.{_≡_, refl, ap}
 use mathlib.Core.Bool.{Bool, true, false}
 use mathlib.Core.List.{List, [], _∷_}
 use Prim.Native.Nat.{ℕ, suc, _+_, _*_, _-_, _≤_, _<_}
@@ -8,14 +8,10 @@ use lib.ListN.{length}
 use Rattle.addresses.specs.Addresses.{All}
 use Rattle.places.specs.declared.Kind.{Kind}
 use Rattle.places.specs.declared.Kind.the-variants.{General as general, Vector as vector, Upper as upper}
-use Rattle.places.specs.declared.Register.{Register}
-use Rattle.places.specs.declared.Place.{Place as Record}
-use Rattle.places.specs.declared.Place.the-variants.{One, Two, Stack}
 use Rattle.places.specs.declared.Used.{Used}
 use Rattle.places.specs.Shapes.{Shape, some?, Led, Shaped}
-use Rattle.places.specs.Places.{Place, inRegisters, onStack, generals, vectors, generalFor, vectorFor, registersFor, fits, start, placeIf, place, next}
+use Rattle.places.specs.Places.{Place, inRegisters, onStack, generals, vectors, generalFor, vectorFor, registersFor, fits, placeIf, place, next}
 use Rattle.places.specs.Recorded.{placeOf, recorded}
-use Rattle.places.specs.Statements.{Fit}
 use Rattle.places.proofs.Fits.{fits-true}
 use Rattle.places.proofs.Apart.{low, stack-room}
 use Rattle.images.specs.Asks.{Known, Inside}

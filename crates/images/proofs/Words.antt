@@ -1,11 +1,11 @@
 -- Laws of a number in eight bytes, and the loop that writes them. Assumes nothing.
-use mathlib.Core.Path.{_≡_, refl, sym, ap, ap₂, _∙_}
+use mathlib.Core.Path.{_≡_, refl, ap, ap₂, _∙_}
 use mathlib.Core.List.{List, [], _∷_}
-use Prim.Native.Nat.{ℕ, zero, suc, _+_, _*_, _-_, _/_, _%_, _^_, _≤_, _<_}
+use Prim.Native.Nat.{ℕ, suc, _+_, _*_, _-_, _/_, _%_, _^_, _≤_, _<_}
 use native.Mathlib.Numerals.{add-one}
 use native.Mathlib.Omega.{arith}
 use lib.ListN.{length, set, length-set}
-use Rattle.addresses.specs.Addresses.{run, gather, scatter, All}
+use Rattle.addresses.specs.Addresses.{run, scatter, All}
 use Rattle.addresses.proofs.Scatter.{length-scatter}
 use Rattle.description.specs.Description.{wordAt}
 use Rattle.images.specs.Words.{littleEndian, number, rdi, withAddress, addressIn}

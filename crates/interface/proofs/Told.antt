@@ -18,7 +18,6 @@ use Rattle.layout.specs.Layout.{layoutAnswer}
 use Rattle.begun.specs.Lists.{listRefusal, listAnswer}
 use Rattle.lent.specs.Orders.{placeRefusal, gatherRefusal}
 use Rattle.moving.specs.Answers.{placeAnswer, gatherAnswer}
-use Rattle.station.specs.Outcome.{leaves}
 use Rattle.station.specs.Paper.{kcb}
 use Rattle.station.specs.Attachment.{described}
 use Rattle.station.proofs.Kcb.{kcb-refusal}

@@ -1,8 +1,8 @@
 -- The layout as a whole: what is used and how many bytes the values have after any number of arguments. Assumes nothing.
 use mathlib.Core.Path.{_≡_, refl, sym, ap, _∙_}
 use mathlib.Core.Bool.{Bool, true, false, cond}
-use mathlib.Core.List.{List, [], _∷_, _++_}
-use Prim.Native.Nat.{ℕ, zero, suc, _+_, _-_, _*_, _^_, _≤_, _<_}
+use mathlib.Core.List.{List}
+use Prim.Native.Nat.{ℕ, zero, suc, _+_, _-_, _^_, _≤_, _<_}
 use native.Mathlib.Numerals.{add-one}
 use native.Mathlib.Omega.{arith}
 use borrow.Author.Tests.{eq-eqb, ne-eqb, eqb-true, ltb-true, ltb-false}
@@ -18,12 +18,10 @@ use Rattle.classify.specs.Table.{fullEntry}
 use Rattle.uses.specs.Uses.{usesRefusal}
 use Rattle.uses.proofs.Uses.{accepted-typed}
 use Rattle.places.specs.declared.Used.{Used}
-use Rattle.places.specs.declared.ReturnPlace.{ReturnPlace}
-use Rattle.places.specs.Shapes.{Shape}
 use Rattle.places.specs.Places.{fresh, after, area}
 use Rattle.places.specs.Images.{total}
 use Rattle.places.proofs.Prefix.{total-append}
-use Rattle.arguments.specs.Arguments.{shapesFrom, shapes, returnPlace, hidden, usedFirst, usedAt, areaOf}
+use Rattle.arguments.specs.Arguments.{shapesFrom, returnPlace, hidden, usedAt, areaOf}
 use Rattle.arguments.specs.Asks.{Before, AskArguments, IsLaid}
 use Rattle.layout.specs.Verdict.{verdict}
 use Rattle.layout.specs.Layout.{valuesOf, layoutOf, layoutAnswer, refusalIn, tableAfter}

@@ -1,9 +1,9 @@
 -- What the records of an accepted description are sure of: their addresses are those that bytes are moved by, and all is bounded (A6). Assumes nothing.
-use mathlib.Core.Path.{_≡_, refl, sym, ap, ap₂, _∙_}
-use mathlib.Core.List.{List, [], _∷_, _++_}
+use mathlib.Core.Path.{_≡_, refl, ap, ap₂, _∙_}
+use mathlib.Core.List.{List, _++_}
 use Prim.Native.Nat.{ℕ, zero, suc, _+_, _≤_, _<_}
 use native.Mathlib.Omega.{arith}
-use Rattle.description.specs.Description.{typesIn, argumentsIn, argumentAt, IsBytes}
+use Rattle.description.specs.Description.{argumentsIn, IsBytes}
 use Rattle.form.proofs.Form.{accepted-length}
 use Rattle.types.specs.Basic.{lp64}
 use Rattle.types.specs.Decode.{tyAt}
@@ -12,7 +12,6 @@ use Rattle.types.proofs.Laws.{size-low, align-divides, type-filled}
 use Rattle.uses.specs.Uses.{usesRefusal}
 use Rattle.uses.proofs.Uses.{accepted-types}
 use Rattle.places.specs.declared.Used.{Used}
-use Rattle.places.specs.Shapes.{Shape}
 use Rattle.places.specs.Places.{Place, place, area}
 use Rattle.places.specs.Images.{bytesOf, addresses}
 use Rattle.places.specs.Recorded.{placeOf}

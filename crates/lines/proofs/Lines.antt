@@ -1,22 +1,20 @@
 -- The lines of a listing, from the words that are stored. Assumes nothing.
-use mathlib.Core.Path.{_≡_, refl, sym, ap, ap₂, _∙_}
-use mathlib.Core.List.{List, [], _∷_, _++_, append-assoc, append-nil}
+use mathlib.Core.Path.{_≡_, sym, ap, ap₂, _∙_}
+use mathlib.Core.List.{List, _++_, append-assoc, append-nil}
 use Prim.Native.Nat.{ℕ, zero, suc, _+_, _*_, _≤_, _<_}
 use native.Mathlib.Nat.{add-zero, zero-add}
 use native.Mathlib.Numerals.{add-one}
 use native.Mathlib.Omega.{arith}
-use borrow.Author.Tests.{eq-eqb, ne-eqb}
-use lib.ListN.{length, take, drop}
+use borrow.Author.Tests.{ne-eqb}
+use lib.ListN.{length, drop}
 use Rattle.description.specs.Description.{variadicIn, namedIn, argumentsIn, returnIn}
-use Rattle.form.specs.declared.Refusal.{Refusal}
 use Rattle.places.specs.declared.Used.{Used}
 use Rattle.places.specs.Places.{fresh, next}
 use Rattle.layout.specs.declared.Layout.{Layout}
-use Rattle.arguments.specs.declared.Placement.{Placement}
 use Rattle.arguments.specs.declared.Step.{Step}
 use Rattle.layout.specs.declared.LayoutAnswer.{LayoutAnswer}
-use Rattle.layout.specs.declared.LayoutAnswer.the-variants.{Laid, Refused}
-use Rattle.arguments.specs.Arguments.{shapeAt, usedAt}
+use Rattle.layout.specs.declared.LayoutAnswer.the-variants.{Laid}
+use Rattle.arguments.specs.Arguments.{usedAt}
 use Rattle.arguments.specs.Asks.{AskArgument}
 use Rattle.layout.specs.Layout.{layoutOf, layoutAnswer}
 use Rattle.arguments.specs.Placements.{placementAt, stepAt}
@@ -24,10 +22,10 @@ use Rattle.layout.specs.Verdict.{verdict}
 use Rattle.arguments.proofs.Arguments.{used-none, used-next}
 use Rattle.layout.proofs.Verdict.{accepted-uses}
 use Rattle.layout.proofs.Layouts.{asks-at, laid-accepted}
-use Rattle.text.specs.Written.{written, Wrote}
+use Rattle.text.specs.Written.{Wrote}
 use Rattle.text.proofs.Written.{wrote-none, wrote-join, wrote-more, wrote-same, written-is}
-use Rattle.place_words.specs.Words.{numbered, walk, gp, fp, over, refused, newline}
-use Rattle.lines.specs.Listing.{headLine, recordLine, recordLines, returnLine, walkLine, refusedLine, laidText, textOf, listing}
+use Rattle.place_words.specs.Words.{numbered, walk, gp, fp, over, newline}
+use Rattle.lines.specs.Listing.{headLine, recordLine, recordLines, returnLine, walkLine, laidText, textOf, listing}
 use Rattle.lines.specs.Asks.{Accepted}
 
 -- the last record

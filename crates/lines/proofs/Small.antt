@@ -1,5 +1,5 @@
 -- No number of an accepted description's listing has more than five digits. Assumes nothing.
-use mathlib.Core.Path.{_≡_, refl, sym, ap, _∙_}
+use mathlib.Core.Path.{_≡_, refl, ap}
 use mathlib.Core.Bool.{Bool, true, false}
 use mathlib.Core.List.{List, [], _∷_}
 use Prim.Native.Nat.{ℕ, _+_, _-_, _≤_, _<_}
@@ -10,7 +10,7 @@ use Rattle.uses.proofs.Uses.{accepted-typed}
 use Rattle.places.specs.declared.Register.{Register}
 use Rattle.places.specs.declared.Used.{Used}
 use Rattle.places.specs.Shapes.{Shape}
-use Rattle.places.specs.Places.{Place, inRegisters, onStack, registersFor, fits, start, place, next}
+use Rattle.places.specs.Places.{inRegisters, registersFor, fits, place, next}
 use Rattle.places.specs.Recorded.{recorded}
 use Rattle.places.proofs.Apart.{after-grows, stack-room}
 use Rattle.places.proofs.Fits.{place-fits, place-not}

@@ -2,7 +2,7 @@
 use mathlib.Core.Path.{_≡_, refl}
 use mathlib.Core.List.{map}
 use Rattle.units.specs.Raise.{raise}
-use Rattle.description.specs.Description.{kindAt, aAt, countAt, memberAt, argumentAt, argumentsIn}
+use Rattle.description.specs.Description.{kindAt, aAt, countAt, memberAt, argumentAt}
 use Rattle.form.specs.Search.{firstFrom}
 use Rattle.form.specs.Conditions.{tooShort, wrongMark, wrongVersion, wrongCounts, wrongLength, brokenBasic, brokenArray, brokenRun, brokenRecord, wrongRecord}
 use Rattle.types.specs.Basic.{basicSize, basicAlign}

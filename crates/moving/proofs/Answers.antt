@@ -1,17 +1,14 @@
 -- What the two calls answer and leave, from what they call. Assumes nothing.
-use mathlib.Core.Path.{_≡_, refl, sym, ap, ap₂, _∙_}
-use mathlib.Core.Bool.{Bool, true, false, cond}
-use mathlib.Core.List.{List, [], _∷_, _++_, append-assoc}
+use mathlib.Core.Path.{_≡_, refl, sym, ap, _∙_}
+use mathlib.Core.Bool.{Bool, true, false}
+use mathlib.Core.List.{List, _++_}
 use Prim.Native.Nat.{ℕ, _+_, _≤_, _<_}
 use native.Mathlib.Omega.{arith}
 use borrow.Author.Tests.{eq-eqb, ne-eqb}
-use lib.Dec.{eqb}
-use lib.ListN.{length, take, drop, replicate, length-append, replicate-append-replicate}
+use lib.ListN.{length, take, drop}
 use lib.Seq.{take-at, drop-at}
-use Rattle.addresses.specs.Addresses.{scatter, gather}
 use Rattle.addresses.proofs.Runs.{all-run}
 use Rattle.addresses.proofs.Parts.{gather-left}
-use Rattle.units.specs.declared.Registers.{Registers}
 use Rattle.description.specs.Description.{argumentsIn}
 use Rattle.form.specs.declared.Refusal.{Refusal}
 use Rattle.form.specs.Reading.{refusalOf}
@@ -21,12 +18,12 @@ use Rattle.places.specs.Places.{fresh}
 use Rattle.places.specs.declared.Used.{Used}
 use Rattle.layout.specs.declared.Layout.{Layout}
 use Rattle.layout.specs.declared.LayoutAnswer.the-variants.{Laid, Refused}
-use Rattle.arguments.specs.Arguments.{hidden, usedFirst, usedAt, areaOf}
+use Rattle.arguments.specs.Arguments.{hidden, usedFirst}
 use Rattle.layout.specs.Layout.{layoutOf, layoutAnswer}
 use Rattle.layout.specs.Verdict.{verdict}
 use Rattle.layout.proofs.Layouts.{laid-accepted, refused-verdict, refused-nonzero}
-use Rattle.images.specs.Words.{littleEndian, number, rdi, withAddress, addressIn}
-use Rattle.filling.specs.Images.{addressesOf, blankBy, placed, gathered, hiddenIn}
+use Rattle.images.specs.Words.{number, rdi, addressIn}
+use Rattle.filling.specs.Images.{placed, gathered, hiddenIn}
 use Rattle.lent.specs.Orders.{wrongLength, firstBroken, placeRefusal, gatherRefusal}
 use Rattle.moving.specs.Answers.{placeAnswer, registersAfter, stackAfter, gatherAnswer, valuesAfter}
 use Rattle.filling.specs.Asks.{Lent}

@@ -1,13 +1,13 @@
 -- What every byte of the images is, and that placing and gathering undo each other, over any accepted description. Assumes nothing.
 use mathlib.Core.Path.{_≡_, refl, sym, ap, _∙_}
 use mathlib.Core.Bool.{Bool, true, false, cond, false≢true}
-use mathlib.Core.List.{List, [], _∷_, _++_}
+use mathlib.Core.List.{List, _++_}
 use Prim.Native.Nat.{ℕ, zero, suc, _+_, _-_, _^_, _≤_, _<_}
 use native.Mathlib.Decide.{decLt}
 use native.Mathlib.Omega.{arith}
 use lib.ListN.{length, getD, replicate, length-replicate, length-map, replicate-append-replicate, List·getD-append}
 use lib.Seq.{getD-append-add, ext-getD}
-use Rattle.addresses.specs.Addresses.{run, scatter, gather, All, Absent, NoDup, Below, AgreeOff}
+use Rattle.addresses.specs.Addresses.{scatter, gather, All, NoDup, Below, AgreeOff}
 use Rattle.addresses.proofs.Scatter.{gather-scatter, scatter-gather, scatter-absent, length-scatter, gather-same}
 use Rattle.addresses.proofs.Lists.{all-map}
 use Rattle.addresses.proofs.Runs.{all-run}

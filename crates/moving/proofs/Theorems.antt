@@ -1,32 +1,28 @@
 -- The theorems on placing and gathering (B8 to B12, C4), each from the laws of images and of orders. Assumes nothing.
-use mathlib.Core.Path.{_≡_, refl, sym, ap, ap₂, _∙_}
-use mathlib.Core.Logic.{_↔_}
-use mathlib.Core.Bool.{Bool, true, false, cond}
+use mathlib.Core.Path.{_≡_, sym, ap, ap₂, _∙_}
+use mathlib.Core.Bool.{false, cond}
 use mathlib.Core.List.{List, _++_}
-use Prim.Native.Nat.{ℕ, _+_, _^_, _≤_, _<_}
+use Prim.Native.Nat.{ℕ, _+_, _≤_, _<_}
 use native.Mathlib.Decide.{decLt}
 use native.Mathlib.Omega.{arith}
-use borrow.Author.Tests.{eq-eqb, ne-eqb}
+use borrow.Author.Tests.{eq-eqb}
 use lib.Dec.{eqb}
 use lib.ListN.{length, getD, take, drop, length-take, length-drop, length-append, take-append-drop, List·getD-append}
 use lib.Seq.{take-at, drop-at}
-use Rattle.addresses.specs.Addresses.{gather}
-use Rattle.addresses.proofs.Parts.{split-image}
 use Rattle.description.specs.Description.{argumentsIn, kindAt, aAt, argumentAt, IsBytes}
 use Rattle.types.specs.Wrong.{refusalFor}
-use Rattle.arguments.specs.Arguments.{shapeAt, hidden, areaOf}
+use Rattle.arguments.specs.Arguments.{hidden, areaOf}
 use Rattle.layout.specs.Layout.{valuesOf}
-use Rattle.layout.specs.Verdict.{verdict}
 use Rattle.filling.specs.Images.{addressesOf, valueStart, blankBy, placed, gathered, hiddenIn}
-use Rattle.lent.specs.Orders.{wrongBool, BrokenAt, placeRefusal, gatherRefusal}
+use Rattle.lent.specs.Orders.{placeRefusal, gatherRefusal}
 use Rattle.filling.specs.Asks.{Lent}
-use Rattle.moving.specs.Answers.{placeAnswer, registersAfter, stackAfter, gatherAnswer, valuesAfter}
-use Rattle.moving.specs.Statements.{Unused, IsImage, PlacesAll, AddressUnseen, GathersPlaced, Clean, ComesBack, PlacesGathered, UnusedUnseen, TwelveExactly, NoSharedImage}
+use Rattle.moving.specs.Answers.{registersAfter, stackAfter, gatherAnswer, valuesAfter}
+use Rattle.moving.specs.Statements.{Unused, PlacesAll, AddressUnseen, GathersPlaced, Clean, ComesBack, PlacesGathered, UnusedUnseen, TwelveExactly, NoSharedImage}
 use Rattle.moving.specs.declared.GatherAnswer.{GatherAnswer}
 use Rattle.moving.specs.declared.GatherAnswer.the-variants.{Gathered, Refused as NotGathered}
 use Rattle.filling.proofs.Turns.{value-inside, value-some}
 use Rattle.lent.proofs.Orders.{place-accepted, gather-accepted, place-twelve, twelve-lent, place-none, broken-some, some-broken, broken-never, never-broken}
-use Rattle.moving.proofs.Images.{blank-unseen, length-placed, length-gathered, gathered-at, gathered-placed, hidden-placed, placed-image, placed-gathered, image-placed, placed-zero, own-address, gathered-same, hidden-same}
+use Rattle.moving.proofs.Images.{length-placed, length-gathered, gathered-at, gathered-placed, hidden-placed, placed-image, placed-gathered, image-placed, placed-zero, own-address, gathered-same, hidden-same}
 
 -- ---- what stands in the buffers after a call that is accepted
 

@@ -13,7 +13,7 @@ use Rattle.images.specs.Words.{littleEndian, rdi}
 use Rattle.filling.specs.Images.{addressesOf, valueStart, hiddenIn}
 use Rattle.lent.specs.Orders.{BrokenAt, placeRefusal, gatherRefusal}
 use Rattle.filling.specs.Asks.{Lent}
-use Rattle.moving.specs.Answers.{placeAnswer, gatherAnswer, registersAfter, stackAfter, valuesAfter}
+use Rattle.moving.specs.Answers.{gatherAnswer, registersAfter, stackAfter, valuesAfter}
 use Rattle.moving.specs.declared.GatherAnswer.the-variants.{Gathered}
 
 -- the byte at k holds no value byte, and no part of the hidden address: "Placing again lends rdi's hidden address, a used byte"

@@ -1,6 +1,5 @@
 -- The calls do what the demands say. Assumes nothing.
 use mathlib.Core.Path.{_≡_, refl, sym, ap, ap₂, _∙_, subst}
-use mathlib.Core.Logic.{_≢_}
 use mathlib.Core.Bool.{cond}
 use mathlib.Core.List.{List, [], _++_}
 use Prim.Native.Nat.{ℕ, _^_, _<_}
@@ -18,7 +17,7 @@ use Rattle.types.specs.Decode.{tyAt}
 use Rattle.arguments.specs.declared.Placement.{Placement}
 use Rattle.arguments.specs.Arguments.{hidden}
 use Rattle.layout.specs.Verdict.{verdict}
-use Rattle.layout.specs.Layout.{layoutOf, layoutAnswer}
+use Rattle.layout.specs.Layout.{layoutOf}
 use Rattle.begun.specs.Lists.{listRefusal, listAnswer}
 use Rattle.moving.specs.declared.GatherAnswer.the-variants.{Gathered}
 use Rattle.filling.specs.Images.{addressesOf, gathered}
@@ -28,7 +27,7 @@ use Rattle.station.specs.declared.Station.{Station}
 use Rattle.station.specs.Paper.{kcb, refusalUnder}
 use Rattle.station.specs.Attachment.{described, attachRefusal, attachStation, attachSeat, detachRefusal, detachStation, detachSeat}
 use Rattle.walk.specs.declared.Walk.{Walk}
-use Rattle.walk.specs.Orders.{Ask, asking, stepRefusal, showRefusal}
+use Rattle.walk.specs.Orders.{Ask, asking, stepRefusal}
 use Rattle.walk.specs.Steps.{openWalk, openAnswer, stepWalk, stepOut}
 use Rattle.arguments.proofs.Placement as placement
 use Rattle.station.proofs.Station as station
@@ -48,11 +47,11 @@ use Rattle.detach.proofs.detach
 use Rattle.opening.proofs.open_walk
 use Rattle.step.proofs.step
 use Rattle.show_number.proofs.show_number
-use Rattle.promises.specs.Meaning.{numberOf, ofRefusal, ofReading, ofSize, ofAlign, ofClasses, ofRun, ofLayout, ofPlacing, ofGathering, ofOpening, Answered}
+use Rattle.promises.specs.Meaning.{numberOf, ofRefusal, ofReading, ofSize, ofAlign, ofClasses, ofRun, ofLayout, ofPlacing, ofGathering, Answered}
 use Rattle.promises.specs.Orders.{formOrder, questionOrder, checkOrder, showOrder}
 use Rattle.promises.specs.Demand1.{members, classPair}
 use Rattle.promises.specs.Demand2.{listAfter}
-use Rattle.promised_calls.specs.Calls.{LaysOut, Places, Gathers, Attaches, DetachesAll, Opens, Steps, Calls, Back, GathersBack, NeverTheSame}
+use Rattle.promised_calls.specs.Calls.{LaysOut, Places, Gathers, Attaches, DetachesAll, Opens, Steps, Calls, GathersBack, NeverTheSame}
 use Rattle.promises.proofs.Answering.{decided-number}
 use Rattle.promises.proofs.Numbers.{list-means, placing-means, gathering-means}
 use Rattle.promises.proofs.Demand1.{demand-1}

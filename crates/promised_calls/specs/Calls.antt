@@ -25,7 +25,7 @@ use Rattle.arguments.specs.Placements.{placementAt}
 use Rattle.moving.specs.declared.PlaceAnswer.{PlaceAnswer}
 use Rattle.moving.specs.declared.GatherAnswer.{GatherAnswer}
 use Rattle.filling.specs.Images.{addressesOf, hiddenIn}
-use Rattle.moving.specs.Statements.{IsImage, Clean}
+use Rattle.moving.specs.Statements.{IsImage}
 use Rattle.station.specs.declared.Station.{Station}
 use Rattle.station.specs.Paper.{kcb}
 use Rattle.station.specs.Attachment.{described}
@@ -33,7 +33,6 @@ use Rattle.walk.specs.declared.Walk.{Walk}
 use Rattle.walk.specs.declared.OpenAnswer.{OpenAnswer}
 use Rattle.walk.specs.Orders.{Ask, asking, standing}
 use Rattle.walk.specs.Steps.{movedOn, bytesAt}
-use Rattle.show.specs.declared.ShownAnswer.{ShownAnswer}
 use Rattle.form_reading.proofs.read_form
 use Rattle.size_questions.proofs.type_size
 use Rattle.size_questions.proofs.type_align

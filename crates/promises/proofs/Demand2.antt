@@ -1,5 +1,5 @@
 -- Demand 2 is met: each line cites a law. Assumes nothing.
-use mathlib.Core.Path.{_≡_, refl, sym, ap, _∙_}
+use mathlib.Core.Path.{_≡_, refl, ap}
 use mathlib.Core.Bool.{Bool, true, false}
 use mathlib.Core.List.{List, [], _∷_}
 use Prim.Native.Nat.{ℕ, _<_, _≤_}
@@ -24,7 +24,6 @@ use Rattle.questions.proofs.Questions.{answered-sized}
 use Rattle.questions.proofs.Runs.{answered-shaped}
 use Rattle.places.specs.Shapes.{shapeOf}
 use Rattle.places.specs.Statements.{RoundedUp}
-use Rattle.places.proofs.Fits.{after-bounds}
 use Rattle.places.proofs.Offsets.{rounded-up, area-rounded}
 use Rattle.places.proofs.Returning.{return-cases}
 use Rattle.arguments.specs.declared.Placement.{Placement}

@@ -3,15 +3,14 @@ use mathlib.Core.Path.{_≡_, refl, sym, ap, _∙_, subst}
 use mathlib.Core.Logic.{_↔_, _≢_, _⊎_, inl, inr}
 use mathlib.Core.Bool.{Bool, true, false, cond}
 use mathlib.Core.List.{List, [], _∷_}
-use Prim.Native.Nat.{ℕ, zero, suc, _+_, _*_, _-_, _≤_, _<_, min}
+use Prim.Native.Nat.{ℕ, _+_, _-_, _≤_, _<_}
 use native.Mathlib.Omega.{arith}
 use native.Mathlib.Nat.{add-assoc}
 use borrow.Author.Tests.{eq-eqb, ne-eqb, le-ltb, lt-ltb, ltb-true, ltb-false, eqb-true, eqb-false}
 use lib.Dec.{ltb, eqb}
 use lib.ListN.{length, getD, take, drop, length-take, length-drop}
 use lib.Seq.{getD-take, getD-drop}
-use Rattle.description.specs.Description.{typesIn, kindAt, aAt, countAt, memberAt, memberStart}
-use Rattle.form.specs.Reading.{refusalOf}
+use Rattle.description.specs.Description.{kindAt, aAt, countAt, memberAt, memberStart}
 use Rattle.questions.specs.Questions.{questionRefusal}
 use Rattle.questions.specs.Runs.{runAnswer, runIn}
 use Rattle.questions.proofs.Runs.{run-within, run-filled, run-lower}

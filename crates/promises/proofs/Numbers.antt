@@ -1,5 +1,5 @@
 -- The meaning of each call's answer: the number that the order of refusals gives, and the values. Assumes nothing.
-use mathlib.Core.Path.{_≡_, refl, sym, ap, _∙_}
+use mathlib.Core.Path.{_≡_, refl}
 use mathlib.Core.Bool.{Bool, true, false, cond}
 use mathlib.Core.List.{List, _++_}
 use Prim.Native.Nat.{ℕ, _+_}
@@ -43,7 +43,7 @@ use Rattle.places.specs.Shapes.{Shape}
 use Rattle.station.specs.Paper.{shapeAt}
 use Rattle.show.specs.Show.{onePiece, partIn, shownIn, shownAnswer}
 use Rattle.show.specs.declared.ShownAnswer.the-variants.{Refused as NotShown}
-use Rattle.promises.specs.Meaning.{accepted, refused, outcome, ofReading, ofExtent, ofSize, ofAlign, ofClasses, Members, run, none, ofRun, ofLayout, ofPlacing, ofGathering, ofOpening, ofShown, shownPart}
+use Rattle.promises.specs.Meaning.{accepted, refused, outcome, ofReading, ofExtent, ofSize, ofAlign, ofClasses, run, none, ofRun, ofLayout, ofPlacing, ofGathering, ofOpening, ofShown, shownPart}
 use Rattle.promises.specs.Demand1.{members}
 use Rattle.promises.proofs.Answering.{decided}
 

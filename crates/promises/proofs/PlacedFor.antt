@@ -1,21 +1,19 @@
 -- The images that placing leaves are those that condition C speaks of. Assumes nothing.
-use mathlib.Core.Path.{_≡_, refl, sym, ap, ap₂, _∙_, subst}
+use mathlib.Core.Path.{_≡_, refl, sym, ap, _∙_}
 use mathlib.Core.Bool.{Bool, true, false, cond}
 use mathlib.Core.List.{List, [], _++_}
 use Prim.Native.Nat.{ℕ, _+_, _<_}
 use native.Mathlib.Omega.{arith}
 use borrow.Author.Tests.{eq-eqb}
-use lib.ListN.{length, take, drop, replicate, length-replicate, take-append-drop, replicate-append-replicate}
+use lib.ListN.{length, replicate, length-replicate, take-append-drop, replicate-append-replicate}
 use Rattle.addresses.specs.Addresses.{run, scatter, All}
 use Rattle.addresses.specs.Copy.{cleared}
 use Rattle.addresses.proofs.Runs.{all-run}
 use Rattle.addresses.proofs.Parts.{scatter-left}
-use Rattle.description.specs.Description.{IsBytes}
 use Rattle.places.specs.Images.{addresses, total}
-use Rattle.places.specs.Places.{fresh}
-use Rattle.arguments.specs.Arguments.{shapes, hidden, usedFirst, areaOf}
+use Rattle.arguments.specs.Arguments.{shapes, hidden, usedFirst}
 use Rattle.layout.specs.Layout.{valuesOf}
-use Rattle.images.specs.Words.{littleEndian, rdi, withAddress}
+use Rattle.images.specs.Words.{littleEndian, withAddress}
 use Rattle.filling.specs.Images.{addressesOf, blankBy, placed}
 use Rattle.lent.specs.Orders.{placeRefusal}
 use Rattle.moving.specs.Answers.{registersAfter, stackAfter}

@@ -16,8 +16,7 @@ use Rattle.places.specs.declared.Register.{Register}
 use Rattle.places.specs.declared.Used.{Used}
 use Rattle.places.specs.declared.ReturnPlace.{ReturnPlace}
 use Rattle.places.specs.declared.ReturnPlace.the-variants.{Void, Memory as InMemory, One, Two, St0, St0St1}
-use Rattle.places.specs.Places.{Place, inRegisters, onStack, registersFor, start, place, next, places, after}
-use Rattle.places.specs.Recorded.{placeOf}
+use Rattle.places.specs.Places.{Place, inRegisters, onStack, start, place, places, after}
 use Rattle.places.specs.Returns.{returnOf, hiddenFor, hiddenBy}
 use Rattle.places.specs.Statements.{LowestOffset, RoundedUp, Lacks, Fit, generalNumber, vectorNumber, numbersIn, kindIn}
 use Rattle.places.proofs.Fits.{stack-exactly, stack-step, register-step}

@@ -1,15 +1,14 @@
 -- Where each value byte of an accepted description lies. Assumes nothing.
 use mathlib.Core.Path.{_≡_, refl, sym, ap, ap₂, _∙_, subst}
-use mathlib.Core.Bool.{Bool, true, cond}
+use mathlib.Core.Bool.{true, cond}
 use mathlib.Core.List.{List, [], _∷_, _++_}
-use Prim.Native.Nat.{ℕ, zero, suc, _+_, _-_, _%_, _≤_, _<_}
+use Prim.Native.Nat.{ℕ, zero, suc, _+_, _-_, _≤_, _<_}
 use native.Mathlib.Omega.{arith}
 use lib.ListN.{length, getD, take}
 use lib.Seq.{take-append-seam}
-use Rattle.addresses.specs.Addresses.{run, All, NoDup, Below}
+use Rattle.addresses.specs.Addresses.{run, All}
 use Rattle.addresses.proofs.Lists.{all-at, nodup-inj}
 use Rattle.description.specs.Description.{argumentsIn}
-use Rattle.uses.specs.Uses.{usesRefusal}
 use Rattle.places.specs.declared.Used.{Used}
 use Rattle.places.specs.Shapes.{Shape, Shaped}
 use Rattle.places.specs.Places.{Place, onStack, place, after, area}
@@ -29,7 +28,7 @@ use Rattle.station.specs.Paper.{kcb, shapeAt as paperShape, usedAt as paperUsed
 use Rattle.station.proofs.Kcb.{kcb-shape, kcb-used}
 use Rattle.promises.specs.Demand2.{placeAt}
 use Rattle.promises.specs.Demand3.{lies}
-use Rattle.promises.proofs.Placements.{place-said, lowest}
+use Rattle.promises.proofs.Placements.{place-said}
 
 -- the first i shapes
 first-shapes : (d : List ℕ) (i : ℕ) → i ≤ argumentsIn d → take i (shapes d) ≡ shapesFrom d 0 i

@@ -1,14 +1,14 @@
 -- Request 2026-01: the type that each call's refusal names is the lowest that breaks the rule. Assumes nothing.
-use mathlib.Core.Path.{_≡_, refl, sym, ap, _∙_}
+use mathlib.Core.Path.{_≡_, refl, sym, _∙_}
 use mathlib.Core.Logic.{_≢_}
 use mathlib.Core.Bool.{Bool, true, false, cond, _&&_, _||_, true≢false}
 use mathlib.Core.List.{List, [], _∷_}
-use Prim.Native.Nat.{ℕ, zero, suc, _<_}
+use Prim.Native.Nat.{ℕ}
 use native.Mathlib.Omega.{arith}
 use borrow.Author.Tests.{eq-eqb, ne-eqb, ltb-true}
-use lib.Dec.{eqb, ltb}
+use lib.Dec.{eqb}
 use Rattle.description.specs.Description.{typesIn}
-use Rattle.form.specs.Conditions.{wrongRecord, brokenRecord, firstBroken}
+use Rattle.form.specs.Conditions.{wrongRecord, firstBroken}
 use Rattle.form.specs.Order.{Rule, rule, first, numbered}
 use Rattle.form.specs.Reading.{refusalAt, refusalBy}
 use Rattle.form.proofs.Form.{broken-first, broken-least}
@@ -25,7 +25,7 @@ use Rattle.station.specs.Attachment.{described, attachRefusal}
 use Rattle.station.proofs.Kcb.{kcb-refusal}
 use Rattle.walk.specs.Orders.{openRefusal, stepRefusal, showRefusal}
 use Rattle.promises.specs.Orders.{checkOrder, questionOrder, layoutOrder, placeOrder, gatherOrder, attachOrder, openOrder, stepOrder, showOrder}
-use Rattle.promises.specs.WrongType.{Lowest, Names, WrongType}
+use Rattle.promises.specs.WrongType.{Names, WrongType}
 
 -- whether a condition numbered n holds
 abbrev holding : ℕ → List Rule → Bool

@@ -41,7 +41,7 @@ use Rattle.station.specs.Attachment.{described, attachRefusal, attachStation, a
 use Rattle.walk.specs.declared.Walk.{Walk}
 use Rattle.walk.specs.Orders.{Ask, stepRefusal, showRefusal}
 use Rattle.walk.specs.Steps.{openWalk, openAnswer, stepWalk, stepOut}
-use Rattle.show.specs.Show.{shownIn, shownAnswer, showPart}
+use Rattle.show.specs.Show.{shownIn, shownAnswer}
 use Rattle.promises.specs.Meaning.{numberOf, ofNumber, ofRefusal, ofReading, ofExtent, ofSize, ofAlign, ofClasses, Members, run, none, ofRun, ofLayout, ofPlacing, ofGathering, ofOpening, ofShown, shownPart, Answered}
 use Rattle.promises.specs.Orders.{checkOrder, formOrder, typesOrder, usesOrder, questionOrder, layoutOrder, gatherOrder, placeOrder, attachOrder, detachOrder, openOrder, stepOrder, showOrder}
 

@@ -27,7 +27,7 @@ use Rattle.moving.specs.Statements.{NoSharedImage}
 use Rattle.station.specs.declared.Station.{Station}
 use Rattle.station.specs.Paper.{kcb}
 use Rattle.station.specs.Attachment.{attachRefusal, attachStation, attachSeat}
-use Rattle.histories.specs.Calls.{Desk, Call, call, calls, Along, Stays, Until, handed, Spares, Serves, Served, asks}
+use Rattle.histories.specs.Calls.{Desk, Call, calls, Along, Stays, Until, handed, Spares, Serves, Served, asks}
 use Rattle.histories.specs.Values.{imagesFor, unnamed, unnamedQuestions}
 use Rattle.histories.specs.Outcomes.{opened, Ended}
 use Rattle.histories.specs.ConditionC.{Connects, Starts, HandsBackSoFar, GoesOn, Stale, StaleRecord, AnyRecord, Either, NumberCounts, NumberBounded, NumberPasses, NumberLast, Reached, OpenReached, StepReached, ShowReached, ShowChecks, Shows, ShowsNone, Detaches, RefusedLeaves, Cut}

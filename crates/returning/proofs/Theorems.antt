@@ -17,7 +17,7 @@ use Rattle.places.specs.declared.ReturnPlace.the-variants.{Void, Memory, One, T
 use Rattle.places.specs.declared.Register.the-variants.{General}
 use Rattle.arguments.specs.Arguments.{returnPlace}
 use Rattle.return_image.specs.Moved.{partsOf, sources, targets}
-use Rattle.return_image.specs.Image.{inMemory, rax, returnImage, returnValue, returnedAddress}
+use Rattle.return_image.specs.Image.{inMemory, returnImage, returnValue, returnedAddress}
 use Rattle.return_image.specs.Asks.{Returnable}
 use Rattle.returning.specs.Returned.{returnLength}
 use Rattle.returning.specs.Orders.{putRefusal, takeRefusal}

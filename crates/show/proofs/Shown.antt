@@ -3,10 +3,9 @@ use mathlib.Core.Path.{_≡_, refl, sym, ap, _∙_}
 use mathlib.Core.Logic.{_≢_}
 use mathlib.Core.Bool.{Bool, true, false, cond, false≢true}
 use mathlib.Core.List.{List, [], _∷_, _++_, append-nil}
-use Prim.Native.Nat.{ℕ, zero, suc, _+_, _*_, _-_, _≤_, _<_, min}
+use Prim.Native.Nat.{ℕ, _+_, _*_, _-_, _≤_, min}
 use native.Mathlib.Omega.{arith}
 use native.Mathlib.Nat.{add-sub-cancel-left}
-use lib.Dec.{eqb}
 use lib.ListN.{length, take, drop}
 use borrow.Author.Tests.{eq-eqb, ne-eqb}
 use Rattle.addresses.specs.Addresses.{All, run, gather}
@@ -19,20 +18,20 @@ use Rattle.places.specs.declared.Used.{Used}
 use Rattle.places.specs.declared.Shape.{Shape as Coded}
 use Rattle.places.specs.Shapes.{Shape, Led, Shaped}
 use Rattle.places.specs.Places.{registersFor, fits, start, placeIf, place}
-use Rattle.places.specs.Images.{slots, spread, bytesOf}
+use Rattle.places.specs.Images.{slots, spread}
 use Rattle.places.specs.Recorded.{asked}
 use Rattle.places.proofs.Fits.{fits-true}
 use Rattle.places.proofs.Apart.{spread-adjoin, slots-inside}
 use Rattle.station.specs.declared.Station.{Station}
-use Rattle.station.specs.Paper.{Paper, kcb, refusalUnder, arguments, shapeAt, usedAt, areaOf}
+use Rattle.station.specs.Paper.{Paper, kcb, refusalUnder, shapeAt, usedAt}
 use Rattle.station.specs.Attachment.{described}
 use Rattle.station.proofs.Attachments.{under-none}
 use Rattle.walk.specs.declared.Walk.{Walk}
 use Rattle.walk.specs.declared.Fetch.{Fetch}
 use Rattle.walk.specs.declared.Standing.{Standing}
 use Rattle.walk.specs.declared.Standing.the-variants.{Before, Refused as Not}
-use Rattle.walk.specs.Offsets.{Source, fromRegisters, fromStack, readAt, bytesFrom, sourceOf, sourceIn}
-use Rattle.walk.specs.Orders.{Ask, asking, offsetsOf, wrongRegisters, otherType, wrongStack, showRefusal}
+use Rattle.walk.specs.Offsets.{Source, readAt, bytesFrom, sourceOf, sourceIn}
+use Rattle.walk.specs.Orders.{Ask, offsetsOf, showRefusal}
 use Rattle.walk.specs.Steps.{bytesAt}
 use Rattle.walk.specs.Asks.{Reached, IsStanding, refusalIn}
 use Rattle.walk.proofs.Passes.{Ready, ready, room, genuine-reads}

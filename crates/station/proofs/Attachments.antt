@@ -1,26 +1,25 @@
 -- Attach and detach: which number, exactly, and what is left. Assumes nothing.
 use mathlib.Core.Path.{_≡_, refl, sym, ap, _∙_}
 use mathlib.Core.Logic.{_↔_, _≢_}
-use mathlib.Core.Bool.{Bool, true, false, cond, not, _||_}
+use mathlib.Core.Bool.{true, false, not}
 use mathlib.Core.List.{List, [], _∷_, _++_, append-nil}
 use Prim.Native.Nat.{ℕ, zero, suc, _+_, _-_, _≤_, _<_}
 use native.Mathlib.Omega.{arith}
-use native.Mathlib.Numerals.{add-one}
 use lib.Dec.{leb, ltb, eqb}
-use lib.ListN.{length, getD, take, drop, replicate, length-append, length-replicate}
-use borrow.Author.Tests.{eq-eqb, ne-eqb, le-leb, lt-leb, eqb-true, ltb-false, leb-false, not-false}
-use Rattle.form.specs.Order.{Rule, rule, first, numbered}
+use lib.ListN.{length, take, replicate, length-replicate}
+use borrow.Author.Tests.{ne-eqb, le-leb, lt-leb, eqb-true, ltb-false, leb-false, not-false}
+use Rattle.form.specs.Order.{numbered}
 use Rattle.form.specs.Reading.{refusalAt, refusalBy, refusalOf}
 use Rattle.form.proofs.Named.{names-none}
 use Rattle.form.specs.declared.Refusal.{Refusal}
-use Rattle.addresses.specs.Addresses.{All, run, gather, scatter}
+use Rattle.addresses.specs.Addresses.{run, gather, scatter}
 use Rattle.addresses.specs.Copy.{copied, cleared}
-use Rattle.addresses.proofs.Runs.{gather-run, scatter-whole, all-run, length-run}
+use Rattle.addresses.proofs.Runs.{gather-run, scatter-whole, all-run}
 use Rattle.addresses.proofs.Parts.{scatter-left}
 use Rattle.station.specs.declared.Station.{Station}
-use Rattle.station.specs.Outcome.{leaves, NoneHolds, Answers, Positive}
+use Rattle.station.specs.Outcome.{NoneHolds, Answers, Positive}
 use Rattle.station.specs.Paper.{Paper, verdictOf, refusalUnder}
-use Rattle.station.specs.Attachment.{wrongSeat, described, seatOf, freed, holding, detachOrder, detachRefusal, detachStation, detachSeat, attachOrder, attachRefusal, attachStation, attachSeat}
+use Rattle.station.specs.Attachment.{wrongSeat, seatOf, freed, holding, detachOrder, detachRefusal, detachStation, detachSeat, attachOrder, attachRefusal, attachStation, attachSeat}
 use Rattle.station.proofs.Orders.{kept, left, first-rest, or-false, positive-numbered, accepts-exactly, refuses-exactly}
 
 -- ---- lengths

@@ -1,12 +1,12 @@
 -- Text stored after text is their text. Assumes nothing.
 use mathlib.Core.Path.{_≡_, refl, sym, ap, _∙_}
 use mathlib.Core.List.{List, [], _∷_, _++_}
-use Prim.Native.Nat.{ℕ, zero, suc, _+_, _≤_}
+use Prim.Native.Nat.{ℕ, suc, _+_, _≤_}
 use native.Mathlib.Nat.{add-zero, add-suc, suc-add}
 use native.Mathlib.Omega.{arith}
 use lib.ListN.{length, take, drop, set, length-append}
 use lib.Seq.{sets, length-sets, sets-eq, take-length}
-use Rattle.addresses.specs.Addresses.{run, gather, scatter}
+use Rattle.addresses.specs.Addresses.{run, scatter}
 use Rattle.addresses.specs.Copy.{copied}
 use Rattle.addresses.proofs.Runs.{gather-run}
 use Rattle.text.specs.Written.{written, Wrote}

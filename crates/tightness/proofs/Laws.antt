@@ -11,8 +11,6 @@ use denote.Triple.Entry.{Res}
 use denote.Triple.Clauses.{Ended}
 use Rattle.tightness.specs.Tight.{Call}
 use Rattle.addresses.proofs.Parts.{split-image}
-use Rattle.form.specs.declared.Refusal.{Refusal}
-use Rattle.places.specs.declared.Shape.{Shape as Coded′}
 use Rattle.places.proofs.Records.{asked-same}
 use Rattle.station.specs.Paper.{Paper}
 use Rattle.walk.specs.declared.Fetch.{Fetch}

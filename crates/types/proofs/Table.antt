@@ -1,9 +1,8 @@
 -- What a table of sizes and alignments holds. Assumes nothing.
 use mathlib.Core.Path.{_≡_, refl, sym, ap, ap₂, _∙_}
-use mathlib.Core.Bool.{Bool, cond}
 use mathlib.Core.List.{List}
 use mathlib.Core.Logic.{_⊎_, inl, inr}
-use Prim.Native.Nat.{ℕ, zero, suc, _+_, _*_, _/_, _%_, _≤_, _<_}
+use Prim.Native.Nat.{ℕ, zero, suc, _+_, _/_, _%_, _≤_, _<_}
 use native.Mathlib.Nat.{eq-or-lt-of-le, le-of-suc-le-suc}
 use native.Mathlib.Numerals.{add-one}
 use native.Mathlib.Omega.{arith}
@@ -12,7 +11,6 @@ use lib.ListN.{length, getD, set, length-set}
 use lib.Seq.{getD-set-same, getD-set-other}
 use Rattle.description.specs.Description.{typesIn}
 use Rattle.form.specs.Order.{formRefusal}
-use Rattle.form.proofs.Form.{accepted-counts}
 use Rattle.types.specs.Basic.{lp64}
 use Rattle.types.specs.Size.{sizeTy, alignTy}
 use Rattle.types.specs.Decode.{tyAt}

@@ -1,11 +1,11 @@
 -- The refusals 1 to 9: which number, exactly, and what a description is sure of that gets none. Assumes nothing.
-use mathlib.Core.Path.{_≡_, refl, sym, ap, _∙_}
-use mathlib.Core.Bool.{Bool, true, false, cond, not, _&&_, _||_, true≢false}
+use mathlib.Core.Path.{_≡_, refl, _∙_}
+use mathlib.Core.Bool.{Bool, true, false, cond}
 use mathlib.Core.List.{List, [], _∷_}
-use mathlib.Core.Logic.{_↔_, _⊎_, inl, inr}
+use mathlib.Core.Logic.{_↔_}
 use Prim.Native.Nat.{ℕ, _+_, _-_, _≤_, _<_}
 use native.Mathlib.Omega.{arith}
-use borrow.Author.Tests.{ltb-true, ltb-false, leb-false, eqb-true, lt-ltb, le-ltb}
+use borrow.Author.Tests.{ltb-false, leb-false, lt-ltb, le-ltb}
 use lib.Dec.{leb, ltb, eqb}
 use lib.ListN.{getD}
 use Rattle.description.specs.Description.{typesIn, namedIn, argumentsIn, returnIn, kindAt, argumentAt, Whole}
@@ -14,8 +14,7 @@ use Rattle.form.proofs.Order.{first-exactly, none-exactly, first-before, first-
 use Rattle.form.proofs.Search.{first-least}
 use Rattle.form.proofs.Form.{or-none, accepted-whole, accepted-counts}
 use Rattle.types.specs.Large.{typesConditions, typesRefusal}
-use Rattle.types.specs.Asks.{Sized}
-use Rattle.types.proofs.Large.{accepted-form, accepted-sized}
+use Rattle.types.proofs.Large.{accepted-form}
 use Rattle.types.specs.Wrong.{Judged}
 use Rattle.types.proofs.Wrong.{judged}
 use Rattle.uses.specs.Uses.{wrongNumber, wrongReturn, wrongArgument, firstWrong, wrongUse, narrowArgument, narrowUnnamed, firstNarrow, usesConditions, usesRefusal, Typed}

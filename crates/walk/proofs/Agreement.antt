@@ -3,7 +3,7 @@
 use mathlib.Core.Path.{_≡_, refl, sym, ap, ap₂, _∙_}
 use mathlib.Core.Bool.{Bool, true, false, _&&_, cond, false≢true}
 use mathlib.Core.List.{List, [], _∷_, _++_, map}
-use Prim.Native.Nat.{ℕ, zero, suc, _+_, _*_, _-_, _%_, _≤_, _<_, max}
+use Prim.Native.Nat.{ℕ, _+_, _*_, _-_, _%_, _≤_, max}
 use native.Mathlib.Omega.{arith}
 use lib.Dec.{leb, ltb}
 use lib.ListN.{length}
@@ -14,10 +14,10 @@ use Rattle.places.specs.declared.Kind.{Kind}
 use Rattle.places.specs.declared.Kind.the-variants.{General as general, Vector as vector, Upper as upper}
 use Rattle.places.specs.declared.Used.{Used}
 use Rattle.places.specs.Shapes.{Shape, some?, Led, Alignment, one, two, four, eight, sixteen, Shaped}
-use Rattle.places.specs.Places.{Place, inRegisters, onStack, generalFor, vectorFor, generals, vectors, registersFor, taking, enough, fits, start, stacking, placeIf, nextIf, place, next, places, after}
+use Rattle.places.specs.Places.{Place, inRegisters, onStack, generals, vectors, registersFor, enough, fits, start, placeIf, nextIf, place, next, places, after}
 use Rattle.places.specs.Images.{slots, bytesOf}
 use Rattle.places.proofs.Returning.{kinds-few}
-use Rattle.places.proofs.Prefix.{places-append, after-append}
+use Rattle.places.proofs.Prefix.{places-append}
 use Rattle.places.proofs.Offsets.{next-eights, after-eights}
 use Rattle.walk.specs.Offsets.{Offsets, Source, fromRegisters, fromStack, holds, reads, raised, readIf, stepIf, readAt, step, bytesFrom, walkAt, sourceIn, visits, steps}
 

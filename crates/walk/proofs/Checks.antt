@@ -2,14 +2,14 @@
 use mathlib.Core.Path.{_≡_, refl, sym, ap, _∙_}
 use mathlib.Core.Logic.{_↔_, _≢_}
 use mathlib.Core.Bool.{Bool, true, false, cond, not, _||_}
-use mathlib.Core.List.{List, [], _∷_, _++_}
-use Prim.Native.Nat.{ℕ, zero, suc, _+_, _≤_, _<_}
+use mathlib.Core.List.{List, [], _∷_}
+use Prim.Native.Nat.{ℕ, _≤_, _<_}
 use native.Mathlib.Omega.{arith}
 use lib.Dec.{ltb, eqb}
 use lib.ListN.{length, take}
-use borrow.Author.Tests.{eq-eqb, ne-eqb, lt-ltb, le-ltb, eqb-true, eqb-false, ltb-false, not-false}
+use borrow.Author.Tests.{eq-eqb, ne-eqb, lt-ltb, le-ltb, eqb-true, ltb-false, not-false}
 use Rattle.description.specs.Description.{namedIn, argumentsIn, argumentAt}
-use Rattle.form.specs.Order.{Rule, rule, first, numbered}
+use Rattle.form.specs.Order.{Rule, rule, first}
 use Rattle.form.specs.Reading.{refusalOf}
 use Rattle.form.specs.declared.Refusal.{Refusal}
 use Rattle.form.proofs.Form.{accepted-headed}
@@ -18,15 +18,15 @@ use Rattle.uses.specs.Uses.{usesRefusal}
 use Rattle.uses.proofs.Uses.{accepted-types}
 use Rattle.places.specs.declared.Used.{Used}
 use Rattle.places.specs.declared.Shape.{Shape as Coded}
-use Rattle.places.specs.Shapes.{Shape, shapeOf}
-use Rattle.places.specs.Places.{fresh, after}
+use Rattle.places.specs.Shapes.{shapeOf}
+use Rattle.places.specs.Places.{fresh}
 use Rattle.places.specs.Recorded.{asked}
 use Rattle.places.proofs.Fits.{after-bounds}
 use Rattle.types.specs.Decode.{tyAt}
 use Rattle.layout.specs.declared.Layout.{Layout}
 use Rattle.layout.specs.declared.LayoutAnswer.{LayoutAnswer}
 use Rattle.layout.specs.declared.LayoutAnswer.the-variants.{Laid, Refused as Not}
-use Rattle.arguments.specs.Arguments.{shapesFrom, hidden, usedAt as layoutUsed, areaOf as layoutArea}
+use Rattle.arguments.specs.Arguments.{shapesFrom, hidden, usedAt as layoutUsed}
 use Rattle.layout.specs.Verdict.{verdict}
 use Rattle.layout.specs.Layout.{layoutOf, layoutAnswer, refusalIn}
 use Rattle.layout.proofs.Verdict.{accepted-uses}
@@ -36,14 +36,14 @@ use Rattle.layout.proofs.Layouts.{laid-accepted, refused-verdict, refused-nonze
 use Rattle.arguments.proofs.Steps.{shape-of-argument}
 use Rattle.station.specs.declared.Station.{Station}
 use Rattle.station.specs.Outcome.{NoneHolds, Answers, Positive}
-use Rattle.station.specs.Paper.{Paper, kcb, verdictOf, refusalUnder, arguments, shapeAt, typeAt, usedAt, areaOf}
+use Rattle.station.specs.Paper.{Paper, kcb, verdictOf, refusalUnder, arguments, shapeAt}
 use Rattle.station.specs.Attachment.{wrongSeat, described}
-use Rattle.station.proofs.Orders.{first-rest, first-append, first-early, first-part, or-false, positive-numbered, accepts-exactly, refuses-exactly}
+use Rattle.station.proofs.Orders.{first-append, first-early, or-false, positive-numbered, accepts-exactly, refuses-exactly}
 use Rattle.station.proofs.Attachments.{under-high}
 use Rattle.station.proofs.Kcb.{kcb-verdict, kcb-refusal, kcb-arguments, kcb-area, kcb-shape, kcb-type}
 use Rattle.walk.specs.declared.Walk.{Walk}
 use Rattle.walk.specs.Offsets.{walkAt}
-use Rattle.walk.specs.Orders.{Ask, asking, withOffsets, standing, wrongRegisters, otherNumber, astray, atEnd, otherType, wrongStack, wrongOut, restOrder, walkOrder, stepOrder, showOrder, stepRefusal, showRefusal, restRefusal}
+use Rattle.walk.specs.Orders.{Ask, asking, withOffsets, standing, wrongRegisters, otherNumber, astray, atEnd, otherType, wrongStack, walkOrder, stepOrder, showOrder, stepRefusal, showRefusal, restRefusal}
 use Rattle.walk.specs.declared.Standing.{Standing}
 use Rattle.walk.specs.Asks.{IsStanding}
 use Rattle.walk.proofs.Opens.{standing-is}

@@ -2,7 +2,7 @@
 use mathlib.Core.Path.{_≡_, refl, sym, ap, ap₂, _∙_}
 use mathlib.Core.Bool.{Bool, true, false, _&&_, cond, not, true≢false}
 use mathlib.Core.List.{List, [], _∷_}
-use Prim.Native.Nat.{ℕ, zero, suc, _+_, _*_, _-_, _≤_, _<_}
+use Prim.Native.Nat.{ℕ, suc, _+_, _*_, _-_, _≤_, _<_}
 use native.Mathlib.Omega.{arith}
 use lib.Dec.{leb, ltb}
 use borrow.Author.Tests.{ltb-true, ltb-false, le-leb, lt-leb}
@@ -18,7 +18,7 @@ use Rattle.places.specs.Places.{generalFor, vectorFor, generals, vectors}
 use Rattle.places.specs.Recorded.{listed, asked}
 use Rattle.walk.specs.declared.Walk.{Walk}
 use Rattle.walk.specs.declared.Counts.{Counts}
-use Rattle.walk.specs.Offsets.{Offsets, Source, fromRegisters, fromStack, holds, reads, raised, readIf, stepIf, readAt, step}
+use Rattle.walk.specs.Offsets.{fromRegisters, fromStack, holds, reads, raised, readAt, step}
 use Rattle.walk.specs.Orders.{offsetsOf, withOffsets}
 use Rattle.walk.specs.Asks.{IsCounted, readFor}
 

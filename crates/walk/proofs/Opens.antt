@@ -1,15 +1,14 @@
 -- Open: which number, exactly, and the record. Assumes nothing.
-use mathlib.Core.Path.{_≡_, refl, sym, ap, _∙_}
+use mathlib.Core.Path.{_≡_, sym, ap, _∙_}
 use mathlib.Core.Logic.{_↔_, _≢_}
-use mathlib.Core.Bool.{Bool, true, false, cond, not}
-use mathlib.Core.List.{List, [], _∷_, _++_}
-use Prim.Native.Nat.{ℕ, zero, suc, _+_, _*_, _≤_, _<_}
+use mathlib.Core.Bool.{true, false, cond, not}
+use mathlib.Core.List.{List, [], _∷_}
+use Prim.Native.Nat.{ℕ, _≤_, _<_}
 use native.Mathlib.Omega.{arith}
-use lib.Dec.{eqb}
 use lib.ListN.{length, take}
 use borrow.Author.Tests.{eq-eqb, ne-eqb}
 use Rattle.description.specs.Description.{variadicIn, namedIn, argumentsIn}
-use Rattle.form.specs.Order.{Rule, rule, first, numbered}
+use Rattle.form.specs.Order.{rule, first}
 use Rattle.form.specs.Reading.{refusalOf}
 use Rattle.form.specs.declared.Refusal.{Refusal}
 use Rattle.uses.specs.Uses.{usesRefusal}
@@ -20,7 +19,7 @@ use Rattle.layout.specs.Layout.{layoutOf}
 use Rattle.layout.specs.declared.Layout.{Layout}
 use Rattle.station.specs.declared.Station.{Station}
 use Rattle.station.specs.Outcome.{NoneHolds, Answers, Positive}
-use Rattle.station.specs.Paper.{Paper, kcb, verdictOf, refusalUnder, usedAt}
+use Rattle.station.specs.Paper.{Paper, kcb, verdictOf, refusalUnder}
 use Rattle.station.specs.Attachment.{wrongSeat, described}
 use Rattle.station.proofs.Orders.{first-append, first-early, positive-numbered, accepts-exactly, refuses-exactly}
 use Rattle.station.proofs.Attachments.{under-high}

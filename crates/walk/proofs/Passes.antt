@@ -1,21 +1,19 @@
 -- What is known where a walk goes on, of any station, seat and record; and that the argument then lies within the images. Assumes nothing.
 use mathlib.Core.Path.{_≡_, refl, sym, ap, _∙_}
 use mathlib.Core.Logic.{_≢_}
-use mathlib.Core.Bool.{Bool, true, false, cond, not, _||_}
-use mathlib.Core.List.{List, [], _∷_, _++_}
-use Prim.Native.Nat.{ℕ, zero, suc, _+_, _*_, _-_, _%_, _≤_, _<_}
+use mathlib.Core.Bool.{Bool, true, false, not, _||_}
+use mathlib.Core.List.{List, [], _∷_}
+use Prim.Native.Nat.{ℕ, suc, _+_, _*_, _-_, _≤_, _<_}
 use native.Mathlib.Omega.{arith}
-use lib.Dec.{eqb}
-use lib.ListN.{length, getD, take, drop, take-append-drop}
+use lib.ListN.{length, take, drop, take-append-drop}
 use borrow.Author.Tests.{eqb-true, eqb-false, not-false}
-use Rattle.units.specs.Raise.{raise}
 use Rattle.addresses.specs.Addresses.{All}
-use Rattle.description.specs.Description.{argumentsIn, namedIn}
-use Rattle.form.specs.Order.{Rule, rule, first, numbered}
+use Rattle.description.specs.Description.{argumentsIn}
+use Rattle.form.specs.Order.{Rule, rule, first}
 use Rattle.uses.specs.Uses.{usesRefusal}
 use Rattle.places.specs.declared.Used.{Used}
-use Rattle.places.specs.Shapes.{Shape, Shaped, some?}
-use Rattle.places.specs.Places.{inRegisters, onStack, registersFor, fits, start, placeIf, place, next, fresh, after, area}
+use Rattle.places.specs.Shapes.{Shape, Shaped}
+use Rattle.places.specs.Places.{registersFor, fits, start, placeIf, place, next, fresh, after, area}
 use Rattle.places.specs.Images.{slots}
 use Rattle.places.specs.Recorded.{Small}
 use Rattle.places.proofs.Fits.{fits-true}
@@ -34,7 +32,7 @@ use Rattle.station.proofs.Kcb.{kcb-verdict, kcb-arguments, kcb-used, kcb-shape}
 use Rattle.walk.specs.declared.Walk.{Walk}
 use Rattle.walk.specs.declared.Fetch.{Fetch}
 use Rattle.walk.specs.declared.Fetch.the-variants.{One, Two, Stack}
-use Rattle.walk.specs.Offsets.{Offsets, Source, fromRegisters, fromStack, readAt, sourceOf, sourceIn, walkAt}
+use Rattle.walk.specs.Offsets.{fromRegisters, fromStack, readAt, sourceOf, sourceIn, walkAt}
 use Rattle.walk.specs.Orders.{Ask, offsetsOf, withOffsets, standing, wrongRegisters, otherNumber, astray, atEnd, otherType, wrongStack, walkOrder, showRefusal}
 use Rattle.walk.specs.Asks.{Reached, Within}
 use Rattle.walk.proofs.Agreement.{read-agrees}

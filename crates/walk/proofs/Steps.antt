@@ -3,20 +3,19 @@ use mathlib.Core.Path.{_≡_, refl, sym, ap, ap₂, _∙_}
 use mathlib.Core.Logic.{_≢_}
 use mathlib.Core.Bool.{Bool, true, false, cond, not, _||_}
 use mathlib.Core.List.{List, [], _∷_, _++_}
-use Prim.Native.Nat.{ℕ, zero, suc, _+_, _≤_, _<_}
+use Prim.Native.Nat.{ℕ, suc, _+_}
 use native.Mathlib.Omega.{arith}
 use lib.Dec.{eqb}
 use lib.ListN.{length}
 use borrow.Author.Tests.{eqb-true}
 use Rattle.addresses.specs.Addresses.{gather}
-use Rattle.form.specs.Order.{Rule, rule, first, numbered}
+use Rattle.form.specs.Order.{rule, first, numbered}
 use Rattle.form.specs.Reading.{refusalOf}
 use Rattle.form.specs.declared.Refusal.{Refusal}
 use Rattle.places.specs.declared.Shape.{Shape as Coded}
 use Rattle.places.specs.Shapes.{Shape}
 use Rattle.places.specs.Recorded.{asked, Small}
 use Rattle.station.specs.declared.Station.{Station}
-use Rattle.station.specs.Outcome.{leaves}
 use Rattle.station.specs.Paper.{Paper, kcb, refusalUnder, shapeAt}
 use Rattle.station.specs.Attachment.{wrongSeat, described}
 use Rattle.station.proofs.Attachments.{under-none, under-high}

@@ -4,7 +4,7 @@ use Rattle.places.proofs.Records.{shape-known}
 use mathlib.Core.Path.{_∙_}
 use native.Mathlib.Omega.{arith}
 use denote.Ref.{now}
-use Rattle.arguments.proofs.Bounds.{arguments-few, types-few, argument-known, type-asked, argument-small, before-room}
+use Rattle.arguments.proofs.Bounds.{arguments-few, types-few, argument-known, argument-small, before-room}
 use Rattle.arguments.proofs.Steps.{shape-of-argument, step-is}
 use Rattle.uses.proofs.Uses.{accepted-typed}
 use Rattle.argument_places.proofs.place_argument.Statement.{statement}

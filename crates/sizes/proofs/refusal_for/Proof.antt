@@ -3,7 +3,7 @@
 use borrow.Author.Needs.{needs}
 use borrow.Author.Tests.{ne-eqb}
 use native.Mathlib.Omega.{arith}
-use Rattle.form.specs.Reading.{refusalBy, refusalOf}
+use Rattle.form.specs.Reading.{refusalBy}
 use Rattle.types.specs.Wrong.{refusalFor}
 use Rattle.types.proofs.Wrong.{no-type}
 use mathlib.Core.Path.{sym, _∙_}

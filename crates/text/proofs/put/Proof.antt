@@ -4,9 +4,6 @@ use denote.Ref.{now}
 use Rattle.text.proofs.Written.{wrote-copy}
 use Rattle.text.proofs.put.Statement.{statement}
 use Rattle.text.proofs.put.Tie as tie
-use Rattle.text.proofs.put.Reads as reads
-use Rattle.text.proofs.put.Lts as lts
-use Rattle.addresses.proofs.copy.Reads as copy-reads
 
 -- src/lib.rt:14:5
 copy-requires : tie.Need-copy-requires

@@ -5,8 +5,6 @@ use Rattle.text.specs.Decimal.{digit}
 use Rattle.text.proofs.Written.{wrote-byte}
 use Rattle.text.proofs.put_digit.Statement.{statement}
 use Rattle.text.proofs.put_digit.Tie as tie
-use Rattle.text.proofs.put_digit.Reads as reads
-use Rattle.text.proofs.put_digit.Lts as lts
 
 -- src/lib.rt:23:20
 cast-out : tie.Need-cast-out

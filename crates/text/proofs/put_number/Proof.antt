@@ -5,10 +5,6 @@ use Rattle.text.proofs.Written.{wrote-join}
 use Rattle.text.proofs.Decimal.{decimal-short, wrote-five}
 use Rattle.text.proofs.put_number.Statement.{statement}
 use Rattle.text.proofs.put_number.Tie as tie
-use Rattle.text.proofs.put_number.Reads as reads
-use Rattle.text.proofs.put_number.Lts as lts
-use Rattle.text.proofs.put.Reads as put-reads
-use Rattle.text.proofs.put_decimal.Reads as put-decimal-reads
 
 -- src/lib.rt:44:9
 put-requires : tie.Need-put-requires
