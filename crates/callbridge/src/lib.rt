@@ -42,7 +42,7 @@ ghost use Rattle.listed.specs.Lists.{listGiven, flatAt};
 pub extern "C" fn cb_version() -> u32
     ensures { λ r. ⌜ r ≡ 2 ⌝ }
 {
-    flat::version()
+    interface_version::version()
 }
 
 // The verdict on a description.

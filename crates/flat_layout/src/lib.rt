@@ -26,8 +26,8 @@ fn return_number(register: Register) -> u8
 {
     match register {
         Register::General(n) => back_number(n.0),
-        Register::Vector(n) => flat::vector_number(16, n.0),
-        Register::Upper(n) => flat::vector_number(32, n.0),
+        Register::Vector(n) => flat_placements::vector_number(16, n.0),
+        Register::Upper(n) => flat_placements::vector_number(32, n.0),
     }
 }
 

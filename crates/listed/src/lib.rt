@@ -57,7 +57,7 @@ pub fn place_flat(d: &[u8], used: Used, i: usize, begun: ListBegun) -> FlatStep
     let record = step.placement;
     let after = step.used;
     FlatStep {
-        placement: flat::placement_of(record),
+        placement: flat_placements::placement_of(record),
         used: after,
     }
 }

@@ -80,7 +80,8 @@ pub mod OfLineWriting
 pub mod OfWalkLine
 pub mod OfRefusedLine
 pub mod OfListing
-pub mod OfFlat
+pub mod OfInterfaceVersion
+pub mod OfFlatPlacements
 pub mod OfFlatLayout
 pub mod OfGiven
 pub mod OfGivenClasses

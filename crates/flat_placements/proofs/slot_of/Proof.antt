@@ -1,8 +1,8 @@
 -- By the place.
 -- Assumes nothing.
 use borrow.Author.Needs.{needs}
-use Rattle.flat.proofs.slot_of.Statement.{statement}
-use Rattle.flat.proofs.slot_of.Tie as tie
+use Rattle.flat_placements.proofs.slot_of.Statement.{statement}
+use Rattle.flat_placements.proofs.slot_of.Tie as tie
 
 enum-known-place : tie.Need-enum-known-place
 enum-known-place c = search needs

@@ -1,8 +1,8 @@
 -- By the register's file.
 -- Assumes nothing.
 use borrow.Author.Needs.{needs}
-use Rattle.flat.proofs.register_number.Statement.{statement}
-use Rattle.flat.proofs.register_number.Tie as tie
+use Rattle.flat_placements.proofs.register_number.Statement.{statement}
+use Rattle.flat_placements.proofs.register_number.Tie as tie
 
 enum-known-register : tie.Need-enum-known-register
 enum-known-register c = search needs

@@ -1,9 +1,9 @@
 -- Field by field.
 -- Assumes nothing.
 use borrow.Author.Needs.{needs}
 use Rattle.flat.specs.Records.{placementOf}
-use Rattle.flat.proofs.placement_of.Statement.{statement}
-use Rattle.flat.proofs.placement_of.Tie as tie
+use Rattle.flat_placements.proofs.placement_of.Statement.{statement}
+use Rattle.flat_placements.proofs.placement_of.Tie as tie
 
 slot-of-requires : tie.Need-slot-of-requires
 slot-of-requires c κs = search needs

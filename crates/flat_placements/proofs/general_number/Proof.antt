@@ -2,9 +2,9 @@
 -- Assumes nothing.
 use borrow.Author.Needs.{needs}
 use borrow.Author.Tests.{lt-ltb, le-ltb}
 use Rattle.flat.specs.Numbers.{generalNumber}
-use Rattle.flat.proofs.general_number.Statement.{statement}
-use Rattle.flat.proofs.general_number.Tie as tie
+use Rattle.flat_placements.proofs.general_number.Statement.{statement}
+use Rattle.flat_placements.proofs.general_number.Tie as tie
 
 cast-result : tie.Need-cast-result
 cast-result c = search needs
