@@ -28,14 +28,5 @@ pub fn run_at(d: &[u8], t: u8) -> RunAnswer
 pub fn member_run(d: &[u8], t: u8) -> &[u8]
     ensures { λ r. ⌜ now r ≡ runIn (runAnswer (now (d .entry)) t) (now (d .entry)) ⌝ }
 {
-    let run = run_at(d, t);
-    match run {
-        RunAnswer::Run(offset, count) => {
-            let start = offset.0;
-            let end = start + count;
-            &d[start..end]
-        }
-        RunAnswer::NoRun => &d[..0],
-        RunAnswer::Refused(_) => &d[..0],
-    }
+    run_parts::part_in(run_at(d, t), d)
 }

@@ -23,6 +23,7 @@ pub mod OfExtentParts
 pub mod OfExtentQuestions
 pub mod OfSizeQuestions
 pub mod OfClassQuestion
+pub mod OfRunParts
 pub mod OfRunQuestions
 pub mod OfPassedTypes
 pub mod OfUnnamedTypes
