@@ -19,7 +19,7 @@ fn number(byte: u8) -> usize
 }
 
 // Size and alignment of a basic type, from the table.
-pub fn basic_extent(code: usize) -> Extent
+fn basic_extent(code: usize) -> Extent
     requires { ⌜ code < 16 ⌝ }
     ensures { λ r. ⌜ (r .size .0 ≡ basicSize lp64 code) × (r .align .0 ≡ basicAlign lp64 code) ⌝ }
 {

@@ -11,7 +11,7 @@ ghost use Rattle.return_image.specs.Image.{blankReturn, returnImage, returnValu
 ghost use Rattle.return_image.specs.Asks.{Returnable, AskPart};
 
 // Which bytes of a value of `size` bytes are moved.
-pub fn parts_of(place: ReturnPlace, size: Bytes) -> Parts
+fn parts_of(place: ReturnPlace, size: Bytes) -> Parts
     requires { ⌜ Returnable place (size .0) ⌝ }
     ensures { λ r. ⌜ r ≡ partsOf place (size .0) ⌝ }
 {

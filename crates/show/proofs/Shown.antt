@@ -37,7 +37,7 @@ use Rattle.walk.specs.Asks.{Reached, IsStanding, refusalIn}
 use Rattle.walk.proofs.Passes.{Ready, ready, room, genuine-reads}
 use Rattle.show.specs.declared.Part.{Part}
 use Rattle.show.specs.declared.ShownAnswer.{ShownAnswer}
-use Rattle.show.specs.declared.ShownAnswer.the-variants.{Registers, Stack, Apart, Refused}
+use Rattle.show.specs.declared.ShownAnswer.the-variants.{Registers, Apart, Refused}
 use Rattle.show.specs.Show.{alike, onePiece, headOf, whole, partIn, shownBytes, Lies, shownIn, shownAnswer, showPart}
 
 pub upper-never : (k : Kind) → false ≡ alike upper k
@@ -175,12 +175,6 @@ pub shows-bytes : (P : Paper) (s : Station) (seat : List ℕ) (w : Walk) (a : As
 unfolding showPart
 shows-bytes P s seat w a x e = ap (λ (y : ShownAnswer). shownBytes y (a .registers) (a .stack)) e
 
--- the part that is taken of an image has the bytes that the answer names
-module _ (registers stack : List ℕ) (x : ShownAnswer) where
-  pub bytes-registers : (p : Part) → x ≡ Registers p → take (p .offset .0 + p .length .0 - p .offset .0) (drop (p .offset .0) registers) ≡ shownBytes x registers stack
-  bytes-registers p e =
-      ap (λ (k : ℕ). take k (drop (p .offset .0) registers)) (add-sub-cancel-left (p .offset .0) (p .length .0)) ∙ sym (ap (λ (y : ShownAnswer). shownBytes y registers stack) e)
-
-  pub bytes-stack : (p : Part) → x ≡ Stack p → take (p .offset .0 + p .length .0 - p .offset .0) (drop (p .offset .0) stack) ≡ shownBytes x registers stack
-  bytes-stack p e =
-      ap (λ (k : ℕ). take k (drop (p .offset .0) stack)) (add-sub-cancel-left (p .offset .0) (p .length .0)) ∙ sym (ap (λ (y : ShownAnswer). shownBytes y registers stack) e)
+-- a part that is cut from its offset to its end has as many bytes as the part has
+pub part-cut : (image : List ℕ) (p : Part) → take (p .offset .0 + p .length .0 - p .offset .0) (drop (p .offset .0) image) ≡ take (p .length .0) (drop (p .offset .0) image)
+part-cut image p = ap (λ (k : ℕ). take k (drop (p .offset .0) image)) (add-sub-cancel-left (p .offset .0) (p .length .0))

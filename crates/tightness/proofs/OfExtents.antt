@@ -2,18 +2,9 @@
 use mathlib.Core.Path.{refl, sym, _∙_}
 use Rattle.tightness.specs.Tight.{Meets, Tight}
 use Rattle.tightness.proofs.Laws.{result, settle}
-use Rattle.extents.proofs.basic_extent
-use Rattle.extents.proofs.basic_extent.Met as basic-extent-met
-use Rattle.extents.proofs.basic_extent.Symbol as basic-extent-symbol
 use Rattle.extents.proofs.extent_of
 use Rattle.extents.proofs.extent_of.Met as extent-of-met
 use Rattle.extents.proofs.extent_of.Symbol as extent-of-symbol
-
-pub meets-extents-basic-extent : Meets basic_extent.ended (λ M. basic_extent.clauses {M = M}) basic-extent-symbol.routine
-meets-extents-basic-extent M = basic-extent-met.met
-
-pub tight-extents-basic-extent : Tight basic_extent.ended (λ M. basic_extent.clauses {M = M})
-tight-extents-basic-extent c r q w v a b = (settle (result basic_extent.ended c) (a .ensured) (b .ensured) (λ e f i. record { size = record { 0 = (e .0 ∙ sym (f .0)) i }; align = record { 0 = (e .1 ∙ sym (f .1)) i } }), refl)
 
 pub meets-extents-extent-of : Meets extent_of.ended (λ M. extent_of.clauses {M = M}) extent-of-symbol.routine
 meets-extents-extent-of M = extent-of-met.met

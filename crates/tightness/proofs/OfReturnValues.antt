@@ -2,9 +2,6 @@
 use mathlib.Core.Path.{_≡_, refl}
 use Rattle.tightness.specs.Tight.{Meets, Tight}
 use Rattle.tightness.proofs.Laws.{bytes, equal, result}
-use Rattle.return_values.proofs.parts_of
-use Rattle.return_values.proofs.parts_of.Met as parts-of-met
-use Rattle.return_values.proofs.parts_of.Symbol as parts-of-symbol
 use Rattle.return_values.proofs.put_value
 use Rattle.return_values.proofs.put_value.Met as put-value-met
 use Rattle.return_values.proofs.put_value.Symbol as put-value-symbol
@@ -14,12 +11,6 @@ use Rattle.return_values.proofs.returned_address.Symbol as returned-address-sym
 use Rattle.return_values.proofs.take_value
 use Rattle.return_values.proofs.take_value.Met as take-value-met
 use Rattle.return_values.proofs.take_value.Symbol as take-value-symbol
-
-pub meets-return-values-parts-of : Meets parts_of.ended (λ M. parts_of.clauses {M = M}) parts-of-symbol.routine
-meets-return-values-parts-of M = parts-of-met.met
-
-pub tight-return-values-parts-of : Tight parts_of.ended (λ M. parts_of.clauses {M = M})
-tight-return-values-parts-of c r q w v a b = (equal (result parts_of.ended c) (a .ensured) (b .ensured), refl)
 
 pub meets-return-values-put-value : Meets put_value.ended (λ M. put_value.clauses {M = M}) put-value-symbol.routine
 meets-return-values-put-value M = put-value-met.met

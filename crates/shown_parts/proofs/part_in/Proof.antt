@@ -2,7 +2,7 @@
 -- Assumes nothing.
 use native.Mathlib.Omega.{arith}
 use denote.Ref.{now}
-use Rattle.show.proofs.Shown.{bytes-registers, bytes-stack}
+use Rattle.show.proofs.Shown.{part-cut}
 use borrow.Author.Needs.{needs}
 use Rattle.shown_parts.proofs.part_in.Statement.{statement}
 use Rattle.shown_parts.proofs.part_in.Tie as tie
@@ -50,10 +50,10 @@ slice-aggregate-result-2 : tie.Need-slice-aggregate-result-2
 slice-aggregate-result-2 c = search needs
 
 returns : tie.Need-returns
-returns c = bytes-registers (now (c .before .before .before .before .before .args .registers)) (now (c .before .before .before .before .before .args .stack)) _ (c .before .before .before .answer .given .0 .0) (c .before .before .before .answer .given .1)
+returns c = rw (c .before .before .before .answer .given .1) (part-cut (now (c .before .before .before .before .before .args .registers)) (c .before .before .before .answer .given .0 .0))
 
 returns-2 : tie.Need-returns-2
-returns-2 c = bytes-stack (now (c .before .before .before .before .before .args .registers)) (now (c .before .before .before .before .before .args .stack)) _ (c .before .before .before .answer2 .given .0 .0) (c .before .before .before .answer2 .given .1)
+returns-2 c = rw (c .before .before .before .answer2 .given .1) (part-cut (now (c .before .before .before .before .before .args .stack)) (c .before .before .before .answer2 .given .0 .0))
 
 returns-3 : tie.Need-returns-3
 returns-3 c = search needs
