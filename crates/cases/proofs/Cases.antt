@@ -17,13 +17,13 @@ use Rattle.uses.specs.Uses.{wrongNumber, wrongReturn, wrongUse, narrow, narrowU
 use Rattle.places.specs.Shapes.{kindsOf, shapeOf}
 use Rattle.places.specs.Places.{enough, fits, start, place, next, area}
 use Rattle.places.specs.Returns.{returnOf, hiddenBy}
-use Rattle.arguments.specs.Arguments.{shapeAt, shapesFrom, isVoid, returnPlace, hidden, usedAt, areaOf}
+use Rattle.layout.specs.Arguments.{shapeAt, shapesFrom, isVoid, returnPlace, hidden, usedAt, areaOf}
 use Rattle.layout.specs.Verdict.{wideArea, verdict}
 use Rattle.layout.specs.Layout.{valuesOf, layoutOf, layoutAnswer}
-use Rattle.arguments.specs.Placements.{placementAt}
+use Rattle.layout.specs.Placements.{placementAt}
 use Rattle.layout.specs.declared.LayoutAnswer.{LayoutAnswer}
 use Rattle.layout.specs.declared.LayoutAnswer.the-variants.{Laid}
-use Rattle.arguments.specs.declared.Placement.{Placement}
+use Rattle.layout.specs.declared.placements.Placement.{Placement}
 use Rattle.cases.specs.Cases.{Case, cases}
 
 -- what the definitions say, and what the case says

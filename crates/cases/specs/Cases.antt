@@ -10,7 +10,7 @@ use Rattle.places.specs.declared.ReturnPlace.{ReturnPlace}
 use Rattle.places.specs.declared.ReturnPlace.the-variants.{Void, Memory as InMemory, One as InOne}
 use Rattle.places.specs.Cases.{rdi, rsi, rdx, rcx, r8, r9, xmm0, xmm1, xmm2, xmm3, xmm4, xmm5, xmm6, xmm7}
 use Rattle.layout.specs.declared.Layout.{Layout}
-use Rattle.arguments.specs.declared.Placement.{Placement}
+use Rattle.layout.specs.declared.placements.Placement.{Placement}
 use Rattle.cases.specs.Written.{array, struct, union, written, plain, char, int, long, int128, float, double, longDouble, m128, complexDouble}
 
 -- what is used: general registers, vector registers, stack bytes

@@ -26,13 +26,13 @@ use Rattle.places.specs.Returns.{outside, returnBy, returnOf, hiddenBy, hiddenF
 use Rattle.classify.proofs.Lengths.{length-classes}
 use Rattle.images.specs.Asks.{Inside}
 use Rattle.images.proofs.Inside.{place-inside}
-use Rattle.arguments.specs.declared.Placement.{Placement as Record}
+use Rattle.layout.specs.declared.placements.Placement.{Placement as Record}
 use Rattle.layout.specs.declared.Layout.{Layout as Whole}
-use Rattle.arguments.specs.Arguments.{shapeAt, usedAt, isVoid, returnClasses, returnPlace, hidden}
+use Rattle.layout.specs.Arguments.{shapeAt, usedAt, isVoid, returnClasses, returnPlace, hidden}
 use Rattle.layout.specs.Layout.{layoutOf as wholeOf}
-use Rattle.arguments.specs.Placements.{placementAt}
+use Rattle.layout.specs.Placements.{placementAt}
 use Rattle.layout.proofs.Verdict.{accepted-uses}
-use Rattle.arguments.proofs.Bounds.{argument-shaped}
+use Rattle.layout.proofs.Bounds.{argument-shaped}
 use Rattle.flat.specs.declared.Layout.{Layout}
 use Rattle.flat.specs.Numbers.{registerNumber, returnNumber}
 use Rattle.flat.specs.Records.{slotOf, placementOf, pairOf, layoutOf}

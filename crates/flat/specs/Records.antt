@@ -6,7 +6,7 @@ use Rattle.places.specs.declared.Place.{Place}
 use Rattle.places.specs.declared.Place.the-variants.{One, Two, Stack}
 use Rattle.places.specs.declared.ReturnPlace.{ReturnPlace}
 use Rattle.places.specs.declared.ReturnPlace.the-variants.{Void, Memory, One as InOne, Two as InTwo, St0, St0St1}
-use Rattle.arguments.specs.declared.Placement.{Placement as Record}
+use Rattle.layout.specs.declared.placements.Placement.{Placement as Record}
 use Rattle.layout.specs.declared.Layout.{Layout as Whole}
 use Rattle.flat.specs.declared.Slot.{Slot}
 use Rattle.flat.specs.declared.Pair.{Pair}

@@ -21,7 +21,7 @@ use Rattle.uses.specs.Uses.{wrongNumber, wrongReturn, wrongUse, narrow, narrowU
 use Rattle.places.specs.Shapes.{kindsOf, shapeOf}
 use Rattle.places.specs.Places.{enough, fits, start, place, next, area}
 use Rattle.places.specs.Returns.{hiddenBy}
-use Rattle.arguments.specs.Arguments.{shapeAt as layoutShape, shapesFrom, isVoid, hidden, areaOf as layoutArea}
+use Rattle.layout.specs.Arguments.{shapeAt as layoutShape, shapesFrom, isVoid, hidden, areaOf as layoutArea}
 use Rattle.layout.specs.Verdict.{wideArea}
 use Rattle.station.specs.Paper.{verdictOf, arguments, shapeAt, typeAt, usedAt, areaOf, kcb}
 use Rattle.station.specs.Attachment.{newStation, wrongSeat, described, seatOf, detachRefusal, detachStation, detachSeat, attachRefusal, attachStation, attachSeat}

@@ -9,7 +9,7 @@ use Rattle.description.specs.Description.{argumentsIn, argumentAt}
 use Rattle.uses.specs.Uses.{usesRefusal}
 use Rattle.uses.proofs.Uses.{accepted-typed}
 use Rattle.places.specs.Shapes.{Shaped}
-use Rattle.arguments.proofs.Bounds.{all-shaped}
+use Rattle.layout.proofs.Bounds.{all-shaped}
 use Rattle.layout.proofs.Verdict.{accepted-uses}
 use Rattle.station.specs.Paper.{kcb, verdictOf, arguments}
 use Rattle.station.proofs.Kcb.{kcb-verdict, kcb-arguments, kcb-short}

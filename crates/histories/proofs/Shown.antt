@@ -27,8 +27,8 @@ use Rattle.walk.specs.Orders.{Ask, offsetsOf, standing, wrongStack, stepRefusal
 use Rattle.walk.specs.Steps.{bytesAt}
 use Rattle.walk.proofs.Checks.{astray-not}
 use Rattle.walk.proofs.Passes.{show-passes, room, genuine-reads}
-use Rattle.show.specs.declared.ShownAnswer.the-variants.{Registers, Apart}
-use Rattle.show.specs.Show.{onePiece, headOf, whole, partIn, shownBytes, shownIn, shownAnswer, showPart}
+use Rattle.walk.specs.declared.showing.ShownAnswer.the-variants.{Registers, Apart}
+use Rattle.walk.specs.Show.{onePiece, headOf, whole, partIn, shownBytes, shownIn, shownAnswer, showPart}
 use Rattle.histories.specs.Calls.{Lends}
 use Rattle.histories.specs.Lawful.{Lawful, Holds}
 use Rattle.histories.specs.Values.{cut, imagesFor}

@@ -20,7 +20,7 @@ use Rattle.walk.specs.declared.Walk.{Walk}
 use Rattle.walk.specs.Offsets.{readAt}
 use Rattle.walk.specs.Orders.{Ask, offsetsOf, wrongRegisters, otherNumber, standing, openRefusal, astray, atEnd, otherType, wrongStack, wrongOut, stepRefusal, showRefusal}
 use Rattle.walk.specs.Steps.{bytesAt, stepOut}
-use Rattle.show.specs.Show.{whole, showPart}
+use Rattle.walk.specs.Show.{whole, showPart}
 use Rattle.histories.specs.Calls.{Desk, Call, attaching, detaching, opening, newDesk, call, calls, answer, Along, Stays, Until, attaches, handed, Lends, Spares, Serves, Served, asks}
 use Rattle.histories.specs.Lawful.{Holds, Sound}
 use Rattle.histories.specs.Values.{cut, joined, imagesFor, unnamed, unnamedQuestions}

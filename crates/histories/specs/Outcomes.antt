@@ -17,7 +17,7 @@ use Rattle.walk.specs.declared.OpenAnswer.the-variants.{Opened, Refused as Open
 use Rattle.walk.specs.Offsets.{sourceIn}
 use Rattle.walk.specs.Orders.{Ask, wrongRegisters, standing, openRefusal, stepRefusal, showRefusal}
 use Rattle.walk.specs.Steps.{openWalk, openAnswer}
-use Rattle.show.specs.Show.{whole, showPart}
+use Rattle.walk.specs.Show.{whole, showPart}
 use Rattle.histories.specs.Calls.{Desk, Call, attaching, detaching, opening, call, calls, Along, Stays, Lends, handed}
 use Rattle.histories.specs.Lawful.{Holds}
 use Rattle.histories.specs.Values.{imagesFor, unnamed}

@@ -3,10 +3,10 @@
 use form::Refusal;
 use libc::STDIN_FILENO;
 use libc::STDOUT_FILENO;
-use show::ShownAnswer;
 use station::Station;
 use units::Bytes;
 use walk::OpenAnswer;
+use walk::ShownAnswer;
 use walk::Walk;
 ghost use mathlib.Core.Path.{_≡_};
 ghost use mathlib.Core.Bool.{true};
@@ -331,7 +331,7 @@ fn set_stack(state: State, image: &mut [u8]) -> State {
 fn attach_lent(station: Station, seat: &mut [u8]) -> Station {
     let mut space = io::buffer();
     let n = read_sized(&mut space);
-    let done = attach::attaching(station, seat, &space[..n]);
+    let done = station::attaching(station, seat, &space[..n]);
     print_refusal(b"attach ", done.refusal);
     done.station
 }
@@ -353,7 +353,7 @@ fn detach(state: State, room: &mut [u8]) -> State {
     if room.len() < lent {
         return state;
     }
-    let done = detach::detaching(station, &mut room[..lent]);
+    let done = station::detaching(station, &mut room[..lent]);
     let next = done.station;
     print_refusal(b"detach ", done.refusal);
     print_seat(next, room);
@@ -363,7 +363,7 @@ fn detach(state: State, room: &mut [u8]) -> State {
 fn open(state: State, seat: &[u8]) -> State {
     let station = state.station;
     let slot = read_byte() as usize;
-    let answer = opening::open_walk(station, seat);
+    let answer = walk::open_walk(station, seat);
     match answer {
         OpenAnswer::Opened(walk) => {
             let next = with_walk(state, slot, walk);
@@ -391,7 +391,7 @@ fn step_into(
     let station = state.station;
     let walk = walk_in(state, slot);
     fill(out, 0xEE);
-    let after = stepping::stepping(station, seat, walk, registers, stack, asked, out);
+    let after = walk::stepping(station, seat, walk, registers, stack, asked, out);
     let next = with_walk(state, slot, after.walk);
     print_refusal(b"step ", after.refusal);
     print_bytes(out);
@@ -422,9 +422,9 @@ fn show<'a>(state: State, seat: &[u8], registers: &'a [u8], stack: &'a [u8]) {
     let slot = read_byte() as usize;
     let asked = read_byte();
     let walk = walk_in(state, slot);
-    let part = showing::show(station, seat, walk, registers, stack, asked);
+    let part = walk::show(station, seat, walk, registers, stack, asked);
     let count = part.len();
-    match showing::shown_at(station, seat, walk, registers, stack, asked) {
+    match walk::shown_at(station, seat, walk, registers, stack, asked) {
         ShownAnswer::Registers(place) => print_part(b"show registers ", place.offset, count),
         ShownAnswer::Stack(place) => print_part(b"show stack ", place.offset, count),
         ShownAnswer::Apart => print(b"show none\n"),
@@ -437,7 +437,7 @@ fn show_number(state: State, seat: &[u8], registers: &[u8], stack: &[u8]) {
     let slot = read_byte() as usize;
     let asked = read_byte();
     let walk = walk_in(state, slot);
-    let refusal = show_number::show_number(station, seat, walk, registers, stack, asked);
+    let refusal = walk::show_number(station, seat, walk, registers, stack, asked);
     print_refusal(b"number ", refusal);
     print(b"\n");
 }

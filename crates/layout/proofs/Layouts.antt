@@ -21,16 +21,16 @@ use Rattle.places.specs.declared.Used.{Used}
 use Rattle.places.specs.Places.{fresh, after, area}
 use Rattle.places.specs.Images.{total}
 use Rattle.places.proofs.Prefix.{total-append}
-use Rattle.arguments.specs.Arguments.{shapesFrom, returnPlace, hidden, usedAt, areaOf}
-use Rattle.arguments.specs.Asks.{Before, AskArguments, IsLaid}
+use Rattle.layout.specs.Arguments.{shapesFrom, returnPlace, hidden, usedAt, areaOf}
+use Rattle.layout.specs.Asks.{Before, AskArguments, IsLaid}
 use Rattle.layout.specs.Verdict.{verdict}
 use Rattle.layout.specs.Layout.{valuesOf, layoutOf, layoutAnswer, refusalIn, tableAfter}
 use Rattle.layout.specs.declared.LayoutAnswer.the-variants.{Laid, Refused}
 use Rattle.layout.specs.declared.Layout.{Layout}
-use Rattle.arguments.specs.declared.Laying.{Laying}
-use Rattle.arguments.proofs.Arguments.{shapes-none, shapes-single, shapes-split, used-none, used-next, used-split}
+use Rattle.layout.specs.declared.placements.Laying.{Laying}
+use Rattle.layout.proofs.Arguments.{shapes-none, shapes-single, shapes-split, used-none, used-next, used-split}
 use Rattle.layout.proofs.Verdict.{ten, no-ten}
-use Rattle.arguments.proofs.Bounds.{arguments-few, argument-small, before-next}
+use Rattle.layout.proofs.Bounds.{arguments-few, argument-small, before-next}
 
 pub fresh-before : (b : Bool) → Before 0 (fresh b)
 fresh-before true = omega arith

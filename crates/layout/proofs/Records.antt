@@ -17,14 +17,14 @@ use Rattle.places.specs.Images.{bytesOf, addresses}
 use Rattle.places.specs.Recorded.{placeOf}
 use Rattle.places.proofs.Records.{place-written}
 use Rattle.places.proofs.Offsets.{area-rounded}
-use Rattle.arguments.specs.Arguments.{shapeAt, shapesFrom, shapes, usedFirst, usedAt, areaOf}
+use Rattle.layout.specs.Arguments.{shapeAt, shapesFrom, shapes, usedFirst, usedAt, areaOf}
 use Rattle.layout.specs.Verdict.{verdict}
 use Rattle.layout.specs.Layout.{valuesOf}
-use Rattle.arguments.specs.Placements.{placementAt}
+use Rattle.layout.specs.Placements.{placementAt}
 use Rattle.layout.specs.Statements.{Bounded, recordAddresses}
-use Rattle.arguments.proofs.Arguments.{used-none, used-next}
+use Rattle.layout.proofs.Arguments.{used-none, used-next}
 use Rattle.layout.proofs.Verdict.{accepted-uses, accepted-area}
-use Rattle.arguments.proofs.Bounds.{argument-shaped}
+use Rattle.layout.proofs.Bounds.{argument-shaped}
 use Rattle.layout.proofs.Layouts.{asks-at, valuesAt}
 
 module _ (d : List ℕ) (right : usesRefusal d ≡ 0) where

@@ -10,7 +10,7 @@ use lib.ListN.{getD}
 use Rattle.form.specs.Order.{FirstAt}
 use Rattle.form.proofs.Order.{first-exactly, none-exactly, first-before, first-behind, none-before}
 use Rattle.uses.specs.Uses.{usesConditions, usesRefusal}
-use Rattle.arguments.specs.Arguments.{areaOf}
+use Rattle.layout.specs.Arguments.{areaOf}
 use Rattle.layout.specs.Verdict.{wideArea, verdictConditions, verdict}
 
 -- the answer is n exactly where condition n holds and no lower one does: here n is 1 + i

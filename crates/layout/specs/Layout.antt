@@ -12,7 +12,7 @@ use Rattle.types.specs.Table.{filled, sizesAfter}
 use Rattle.classify.specs.Table.{fullEntry}
 use Rattle.uses.specs.Uses.{usesRefusal}
 use Rattle.places.specs.Images.{total}
-use Rattle.arguments.specs.Arguments.{shapes, returnPlace, hidden, usedAt, areaOf}
+use Rattle.layout.specs.Arguments.{shapes, returnPlace, hidden, usedAt, areaOf}
 use Rattle.layout.specs.Verdict.{verdict}
 use Rattle.layout.specs.declared.Layout.{Layout}
 use Rattle.layout.specs.declared.LayoutAnswer.{LayoutAnswer}

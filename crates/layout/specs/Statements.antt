@@ -10,9 +10,9 @@ use Rattle.types.specs.Decode.{tyAt}
 use Rattle.places.specs.Shapes.{Alignment}
 use Rattle.places.specs.Images.{bytesOf}
 use Rattle.places.specs.Recorded.{placeOf}
-use Rattle.arguments.specs.Arguments.{shapeAt, usedAt, areaOf}
+use Rattle.layout.specs.Arguments.{shapeAt, usedAt, areaOf}
 use Rattle.layout.specs.Layout.{valuesOf}
-use Rattle.arguments.specs.Placements.{placementAt}
+use Rattle.layout.specs.Placements.{placementAt}
 
 -- the bounds of all that an accepted description can ask for
 pub record Bounded (d : List ℕ) : Type 0 where

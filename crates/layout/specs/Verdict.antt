@@ -6,7 +6,7 @@ use Prim.Native.Nat.{ℕ}
 use lib.Dec.{ltb}
 use Rattle.form.specs.Order.{first, numbered}
 use Rattle.uses.specs.Uses.{usesConditions}
-use Rattle.arguments.specs.Arguments.{areaOf}
+use Rattle.layout.specs.Arguments.{areaOf}
 
 -- 10: "rounded stack area over 16,384"
 unfoldable pub wideArea : List ℕ → Bool

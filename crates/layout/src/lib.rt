@@ -1,4 +1,21 @@
 // The layout of a call (document 01, "Places"): the verdict on a description, 1 to 10, and what all its arguments take, as definitions and laws; `deciding` works them out.
+pub use deciding::check;
+pub use deciding::layout_of;
+pub use deciding::layout_with;
+pub use deciding::refusal_in;
+pub use deciding::used_after;
+pub use lent_list::Begun;
+pub use lent_list::begin;
+pub use lent_list::begin_with;
+pub use lent_list::lay_out;
+pub use placements::Placement;
+pub use placements::Step;
+pub use placements::place_argument;
+
+mod placements; // the record of one argument, and what is used after some of them
+mod deciding; // the verdict 1 to 10, and the layout of any bytes
+mod lent_list; // one record for each argument, into a list that the caller lends; 11
+
 use form::Refusal;
 use places::ReturnPlace;
 use places::Used;

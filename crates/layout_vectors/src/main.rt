@@ -1,10 +1,10 @@
 // Lays out the descriptions that stand in tests/vectors/layouts.in, each for a list of so many records; layouts.out has what an
 // independent reading of the rules answers.
-use arguments::Placement;
-use begun::Begun;
 use form::Refusal;
+use layout::Begun;
 use layout::Layout;
 use layout::LayoutAnswer;
+use layout::Placement;
 use libc::STDIN_FILENO;
 use libc::STDOUT_FILENO;
 use places::Place;
@@ -17,7 +17,7 @@ ghost use mathlib.Core.Bool.{true};
 ghost use Prim.Native.Nat.{_<_, _≤_};
 ghost use lib.ListN.{length};
 ghost use Rattle.classify.specs.Table.{Tabled};
-ghost use Rattle.begun.specs.Lists.{begunOf};
+ghost use Rattle.layout.specs.Lists.{begunOf};
 ghost use Rattle.layout.specs.Verdict.{verdict};
 
 // More than the file has, so that the program ends whatever it reads.
@@ -180,7 +180,7 @@ fn print_records(d: &[u8], room: usize, begun: Begun, table: &[u32; 64])
     let mut used = begun.used;
     let mut i = 0;
     while i < count {
-        let step = argument_places::place_argument(d, used, i, table);
+        let step = layout::place_argument(d, used, i, table);
         let placement = step.placement;
         print_record(i, placement);
         used = step.used;
@@ -211,7 +211,7 @@ fn print_refusal(refusal: Refusal) {
 
 fn answer(d: &[u8], room: usize) {
     let mut table = [0u32; 64];
-    let begun = beginning::begin_with(d, room, &mut table);
+    let begun = layout::begin_with(d, room, &mut table);
     let answer = begun.answer;
     match answer {
         LayoutAnswer::Laid(layout) => print_laid(d, room, begun, layout, &table),

@@ -1,5 +1,9 @@
 // The lister's text (document 01, "The lister"), line after line. A record's line has at most 52 bytes and the three other lines together 124, so that with 64 records no
 // listing is over 3,452.
+
+mod place_writing; // the words of a register and of a place, written
+mod line_writing; // each line, written
+
 use layout::Layout;
 use layout::LayoutAnswer;
 ghost use mathlib.Core.Path.{_≡_};
@@ -9,8 +13,8 @@ ghost use lib.ListN.{length, drop};
 ghost use Rattle.description.specs.Description.{argumentsIn};
 ghost use Rattle.classify.specs.Table.{Tabled};
 ghost use Rattle.text.specs.Written.{Wrote};
-ghost use Rattle.lines.specs.Listing.{recordLines, laidText, listing};
-ghost use Rattle.lines.specs.Asks.{Accepted};
+ghost use Rattle.listing.specs.Listing.{recordLines, laidText, listing};
+ghost use Rattle.listing.specs.Asks.{Accepted};
 
 // A line for each argument.
 fn put_records(
@@ -23,12 +27,12 @@ fn put_records(
     requires { ⌜ (at + 3328 ≤ 4096) × Accepted (now d) layout × Tabled (now d) (now table) ⌝ }
     ensures { λ r. ⌜ Wrote 3328 (now (out .entry)) at (recordLines (now (d .entry)) 0 (argumentsIn (now (d .entry)))) (now (out .exit)) r ⌝ }
 {
-    let count = reading::byte_at(d, 8);
-    let mut used = first_used::fresh(layout.hidden);
+    let count = description::byte_at(d, 8);
+    let mut used = places::fresh(layout.hidden);
     let mut next = at;
     let mut i = 0;
     while i < count {
-        let step = argument_places::place_argument(d, used, i, table);
+        let step = layout::place_argument(d, used, i, table);
         let placement = step.placement;
         next = line_writing::put_record(out, next, i, placement);
         used = step.used;
@@ -42,16 +46,16 @@ fn put_laid(d: &[u8], out: &mut [u8; 4096], layout: Layout, table: &[u32; 64]) -
     requires { ⌜ Accepted (now d) layout × Tabled (now d) (now table) ⌝ }
     ensures { λ r. ⌜ Wrote 3452 (now (out .entry)) 0 (laidText (now (d .entry)) layout) (now (out .exit)) r ⌝ }
 {
-    let variadic = reading::byte_at(d, 6);
-    let first = reading::byte_at(d, 7);
-    let all = reading::byte_at(d, 8);
-    let k = reading::byte_at(d, 9);
+    let variadic = description::byte_at(d, 6);
+    let first = description::byte_at(d, 7);
+    let all = description::byte_at(d, 8);
+    let k = description::byte_at(d, 9);
     let returns = layout.returns;
     let named = layout.named;
-    let behind_head = head_line::put_head(out, 0, all, first, layout);
+    let behind_head = line_writing::put_head(out, 0, all, first, layout);
     let behind_records = put_records(d, out, behind_head, layout, table);
     let behind_return = line_writing::put_return(out, behind_records, k, returns);
-    walk_line::put_walk(out, behind_return, variadic, named)
+    line_writing::put_walk(out, behind_return, variadic, named)
 }
 
 // The listing of any bytes, at the start of `out`: all behind it stays. The answer is its length.
@@ -61,9 +65,9 @@ pub fn write_listing(d: &[u8], out: &mut [u8; 4096]) -> usize
 {
     text::room(out);
     let mut table = [0u32; 64];
-    let answer = deciding::layout_with(d, &mut table);
+    let answer = layout::layout_with(d, &mut table);
     match answer {
         LayoutAnswer::Laid(layout) => put_laid(d, out, layout, &table),
-        LayoutAnswer::Refused(refusal) => refused_line::put_refused(out, refusal),
+        LayoutAnswer::Refused(refusal) => line_writing::put_refused(out, refusal),
     }
 }

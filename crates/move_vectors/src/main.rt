@@ -79,14 +79,14 @@ fn answer(
     stack: &mut [u8],
     out: &mut [u8],
 ) {
-    match value_placing::place_values(d, hidden, values, registers, stack) {
+    match moving::place_values(d, hidden, values, registers, stack) {
         PlaceAnswer::Placed(count) => print_number(b"placed ", count.0 as u64),
         PlaceAnswer::Refused(refusal) => print_refusal(refusal),
     }
     print_bytes(b"registers", registers);
     print_bytes(b"stack", stack);
     fill(out);
-    match value_gathering::gather_values(d, registers, stack, out) {
+    match moving::gather_values(d, registers, stack, out) {
         GatherAnswer::Gathered(address) => print_number(b"gathered ", address),
         GatherAnswer::Refused(refusal) => print_refusal(refusal),
     }
@@ -170,7 +170,7 @@ fn answer_values(d: &[u8]) {
     let mut values = io::large_buffer();
     io::read_full(STDIN_FILENO, &mut address);
     let n = read_sized(&mut values);
-    answer_images(d, hidden_address::address_in(&address), &values[..n]);
+    answer_images(d, images::address_in(&address), &values[..n]);
 }
 
 // One record; false at the end of the input.

@@ -18,20 +18,20 @@ use Rattle.places.specs.Places.{fresh}
 use Rattle.places.specs.declared.Used.{Used}
 use Rattle.layout.specs.declared.Layout.{Layout}
 use Rattle.layout.specs.declared.LayoutAnswer.the-variants.{Laid, Refused}
-use Rattle.arguments.specs.Arguments.{hidden, usedFirst}
+use Rattle.layout.specs.Arguments.{hidden, usedFirst}
 use Rattle.layout.specs.Layout.{layoutOf, layoutAnswer}
 use Rattle.layout.specs.Verdict.{verdict}
 use Rattle.layout.proofs.Layouts.{laid-accepted, refused-verdict, refused-nonzero}
 use Rattle.images.specs.Words.{number, rdi, addressIn}
-use Rattle.filling.specs.Images.{placed, gathered, hiddenIn}
-use Rattle.lent.specs.Orders.{wrongLength, firstBroken, placeRefusal, gatherRefusal}
+use Rattle.moving.specs.Images.{placed, gathered, hiddenIn}
+use Rattle.moving.specs.Orders.{wrongLength, firstBroken, placeRefusal, gatherRefusal}
 use Rattle.moving.specs.Answers.{placeAnswer, registersAfter, stackAfter, gatherAnswer, valuesAfter}
-use Rattle.filling.specs.Asks.{Lent}
+use Rattle.moving.specs.Asks.{Lent}
 use Rattle.moving.specs.declared.PlaceAnswer.{PlaceAnswer}
 use Rattle.moving.specs.declared.PlaceAnswer.the-variants.{Placed, Refused as NotPlaced}
 use Rattle.moving.specs.declared.GatherAnswer.{GatherAnswer}
 use Rattle.moving.specs.declared.GatherAnswer.the-variants.{Gathered, Refused as NotGathered}
-use Rattle.lent.proofs.Orders.{right-lent, place-verdict, place-eleven, place-twelve, place-none, gather-verdict, gather-eleven, gather-accepted, broken-holds, broken-none}
+use Rattle.moving.proofs.Orders.{right-lent, place-verdict, place-eleven, place-twelve, place-none, gather-verdict, gather-eleven, gather-accepted, broken-holds, broken-none}
 
 -- ---- placing
 

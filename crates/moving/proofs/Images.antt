@@ -12,16 +12,16 @@ use Rattle.addresses.proofs.Scatter.{gather-scatter, scatter-gather, scatter-ab
 use Rattle.addresses.proofs.Lists.{all-map}
 use Rattle.addresses.proofs.Runs.{all-run}
 use Rattle.places.proofs.Apart.{addresses-packed, addresses-below, addresses-past, length-addresses}
-use Rattle.arguments.specs.Arguments.{shapes, hidden, usedFirst, areaOf}
+use Rattle.layout.specs.Arguments.{shapes, hidden, usedFirst, areaOf}
 use Rattle.layout.specs.Layout.{valuesOf}
 use Rattle.layout.specs.Verdict.{verdict}
-use Rattle.arguments.proofs.Bounds.{all-shaped}
+use Rattle.layout.proofs.Bounds.{all-shaped}
 use Rattle.images.specs.Words.{littleEndian, number, rdi, addressIn}
 use Rattle.images.proofs.Gathers.{getD-zeros, all-present, gather-at, all-gather}
 use Rattle.images.proofs.Words.{number-of-bytes, bytes-of-number}
-use Rattle.filling.specs.Images.{addressesOf, blankBy, blank, placed, gathered, hiddenIn}
+use Rattle.moving.specs.Images.{addressesOf, blankBy, blank, placed, gathered, hiddenIn}
 use Rattle.moving.specs.Statements.{Unused, IsImage}
-use Rattle.filling.proofs.Turns.{right}
+use Rattle.moving.proofs.Turns.{right}
 
 -- ---- the blank images
 

@@ -11,17 +11,17 @@ use lib.ListN.{length, getD, take, drop, length-take, length-drop, length-append
 use lib.Seq.{take-at, drop-at}
 use Rattle.description.specs.Description.{argumentsIn, kindAt, aAt, argumentAt, IsBytes}
 use Rattle.types.specs.Wrong.{refusalFor}
-use Rattle.arguments.specs.Arguments.{hidden, areaOf}
+use Rattle.layout.specs.Arguments.{hidden, areaOf}
 use Rattle.layout.specs.Layout.{valuesOf}
-use Rattle.filling.specs.Images.{addressesOf, valueStart, blankBy, placed, gathered, hiddenIn}
-use Rattle.lent.specs.Orders.{placeRefusal, gatherRefusal}
-use Rattle.filling.specs.Asks.{Lent}
+use Rattle.moving.specs.Images.{addressesOf, valueStart, blankBy, placed, gathered, hiddenIn}
+use Rattle.moving.specs.Orders.{placeRefusal, gatherRefusal}
+use Rattle.moving.specs.Asks.{Lent}
 use Rattle.moving.specs.Answers.{registersAfter, stackAfter, gatherAnswer, valuesAfter}
 use Rattle.moving.specs.Statements.{Unused, PlacesAll, AddressUnseen, GathersPlaced, Clean, ComesBack, PlacesGathered, UnusedUnseen, TwelveExactly, NoSharedImage}
 use Rattle.moving.specs.declared.GatherAnswer.{GatherAnswer}
 use Rattle.moving.specs.declared.GatherAnswer.the-variants.{Gathered, Refused as NotGathered}
-use Rattle.filling.proofs.Turns.{value-inside, value-some}
-use Rattle.lent.proofs.Orders.{place-accepted, gather-accepted, place-twelve, twelve-lent, place-none, broken-some, some-broken, broken-never, never-broken}
+use Rattle.moving.proofs.Turns.{value-inside, value-some}
+use Rattle.moving.proofs.Orders.{place-accepted, gather-accepted, place-twelve, twelve-lent, place-none, broken-some, some-broken, broken-never, never-broken}
 use Rattle.moving.proofs.Images.{length-placed, length-gathered, gathered-at, gathered-placed, hidden-placed, placed-image, placed-gathered, image-placed, placed-zero, own-address, gathered-same, hidden-same}
 
 -- ---- what stands in the buffers after a call that is accepted

@@ -7,9 +7,9 @@ use lib.Dec.{eqb}
 use lib.ListN.{length, take, drop}
 use Rattle.description.specs.Description.{argumentsIn}
 use Rattle.types.specs.Wrong.{refusalFor}
-use Rattle.arguments.specs.Arguments.{usedAt}
-use Rattle.filling.specs.Images.{placed, gathered, hiddenIn}
-use Rattle.lent.specs.Orders.{placeRefusal, gatherRefusal}
+use Rattle.layout.specs.Arguments.{usedAt}
+use Rattle.moving.specs.Images.{placed, gathered, hiddenIn}
+use Rattle.moving.specs.Orders.{placeRefusal, gatherRefusal}
 use Rattle.moving.specs.declared.PlaceAnswer.{PlaceAnswer}
 use Rattle.moving.specs.declared.PlaceAnswer.the-variants.{Placed, Refused as NotPlaced}
 use Rattle.moving.specs.declared.GatherAnswer.{GatherAnswer}

@@ -1,2 +1,5 @@
 pub mod Answers
 pub mod Statements
+pub mod Images
+pub mod Asks
+pub mod Orders

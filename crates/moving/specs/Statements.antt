@@ -7,12 +7,12 @@ use Prim.Native.Nat.{ℕ, _+_, _^_, _≤_, _<_}
 use lib.ListN.{length, getD}
 use Rattle.addresses.specs.Addresses.{gather, Absent}
 use Rattle.description.specs.Description.{argumentsIn, kindAt, aAt, argumentAt, IsBytes}
-use Rattle.arguments.specs.Arguments.{hidden, areaOf}
+use Rattle.layout.specs.Arguments.{hidden, areaOf}
 use Rattle.layout.specs.Layout.{valuesOf}
 use Rattle.images.specs.Words.{littleEndian, rdi}
-use Rattle.filling.specs.Images.{addressesOf, valueStart, hiddenIn}
-use Rattle.lent.specs.Orders.{BrokenAt, placeRefusal, gatherRefusal}
-use Rattle.filling.specs.Asks.{Lent}
+use Rattle.moving.specs.Images.{addressesOf, valueStart, hiddenIn}
+use Rattle.moving.specs.Orders.{BrokenAt, placeRefusal, gatherRefusal}
+use Rattle.moving.specs.Asks.{Lent}
 use Rattle.moving.specs.Answers.{gatherAnswer, registersAfter, stackAfter, valuesAfter}
 use Rattle.moving.specs.declared.GatherAnswer.the-variants.{Gathered}
 

@@ -1,4 +1,12 @@
-// Placing and gathering (document 01, "Images and moving bytes"): the bytes of all values, packed, into the two images and out again, as definitions and laws. There is no code here: `value_placing` and `value_gathering` have the calls.
+// Placing and gathering (document 01, "Images and moving bytes"): the bytes of all values, packed, into the two images and out again, as definitions and laws. There is no code here: `values` and `values` have the calls.
+pub use refusals::broken_byte;
+pub use values::gather_values;
+pub use values::place_values;
+
+mod filling; // the images filled, and the values gathered
+mod refusals; // 11 and 12
+mod values; // the calls: place_values, gather_values
+
 use form::Refusal;
 use units::Registers;
 

@@ -50,7 +50,7 @@ answered {rules = rules} {v = v} some e = record {
   );
 }
 
--- an answer that a number decides: `given` for 0, and else the refusal with that number
+-- an answer that a number decides: `flat` for 0, and else the refusal with that number
 pub decided : {R X : Type 0} (mean : R → Meaning X) (given : R) (denied : ℕ → R) (v : X) → mean given ≡ accepted v → ((n : ℕ) → mean (denied n) ≡ refused n) → (n : ℕ)
     → mean (cond (eqb n 0) given (denied n)) ≡ outcome n v
 decided mean given denied v e f zero = e

@@ -1,5 +1,5 @@
 -- Request 2026-02, cited. Assumes nothing.
-use Rattle.return_image.proofs.Cases.{image-cases}
+use Rattle.returning.proofs.Cases.{image-cases}
 use Rattle.returning.proofs.Values.{memory-hidden}
 use Rattle.returning.proofs.Theorems.{puts-all, address-unseen, takes-put, same-elsewhere, puts-taken, unused-unseen, no-shared-image, refusals-told, twelve-exactly, never-twelve}
 use Rattle.promises.specs.BringingBack.{BringingBack}

@@ -19,11 +19,11 @@ use Rattle.uses.proofs.Uses.{accepted-types}
 use Rattle.places.specs.Shapes.{shapeOf, Alignment}
 use Rattle.places.proofs.Guaranteed.{accepted-shaped}
 use Rattle.layout.specs.Verdict.{verdict}
-use Rattle.arguments.specs.Placements.{placementAt}
-use Rattle.begun.specs.Lists.{listRefusal, listCount, filled}
+use Rattle.layout.specs.Placements.{placementAt}
+use Rattle.layout.specs.Lists.{listRefusal, listCount, filled}
 use Rattle.layout.proofs.Verdict.{accepted-uses}
 use Rattle.layout.proofs.Records.{accepted-bounded}
-use Rattle.lent.specs.Orders.{placeRefusal, gatherRefusal}
+use Rattle.moving.specs.Orders.{placeRefusal, gatherRefusal}
 use Rattle.moving.specs.Answers.{registersAfter, stackAfter, valuesAfter}
 use Rattle.station.specs.Paper.{kcb, refusalUnder}
 use Rattle.station.specs.Attachment.{attachRefusal, detachRefusal}

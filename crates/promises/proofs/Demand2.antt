@@ -26,18 +26,18 @@ use Rattle.places.specs.Shapes.{shapeOf}
 use Rattle.places.specs.Statements.{RoundedUp}
 use Rattle.places.proofs.Offsets.{rounded-up, area-rounded}
 use Rattle.places.proofs.Returning.{return-cases}
-use Rattle.arguments.specs.declared.Placement.{Placement}
-use Rattle.arguments.specs.Arguments.{shapeAt, shapes, usedFirst, usedAt, areaOf}
+use Rattle.layout.specs.declared.placements.Placement.{Placement}
+use Rattle.layout.specs.Arguments.{shapeAt, shapes, usedFirst, usedAt, areaOf}
 use Rattle.layout.specs.Layout.{layoutOf}
-use Rattle.arguments.specs.Placements.{placementAt}
-use Rattle.begun.specs.Lists.{listRefusal, listCount}
-use Rattle.arguments.proofs.Arguments.{used-none}
+use Rattle.layout.specs.Placements.{placementAt}
+use Rattle.layout.specs.Lists.{listRefusal, listCount}
+use Rattle.layout.proofs.Arguments.{used-none}
 use Rattle.layout.proofs.Layouts.{asks-at}
-use Rattle.begun.proofs.Lists.{list-room}
+use Rattle.layout.proofs.Lists.{list-room}
 use Rattle.layout.proofs.Verdict.{accepted-uses}
 use Rattle.layout.specs.Verdict.{verdict}
 use Rattle.cases.proofs.Cases.{cases-hold}
-use Rattle.listing_cases.proofs.Listings.{listings-hold}
+use Rattle.cases.proofs.Listings.{listings-hold}
 use Rattle.moving.proofs.Theorems.{places-all, address-unseen, gathers-placed, places-gathered, unused-unseen, twelve-exactly}
 use Rattle.station.specs.Paper.{kcb}
 use Rattle.walk.proofs.Steps.{step-done}

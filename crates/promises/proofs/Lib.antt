@@ -10,3 +10,4 @@ pub mod BringingBack
 pub mod PlacedFor
 pub mod ValueBytes
 pub mod Demand3
+pub mod Calls

@@ -21,13 +21,13 @@ use Rattle.questions.specs.declared.ClassesAnswer.the-variants.{Refused as NoCl
 use Rattle.questions.specs.declared.RunAnswer.the-variants.{Run, NoRun, Refused as NotRun}
 use Rattle.questions.specs.Questions.{questionRefusal, extentOf, extentAnswer, sizeAnswer, alignAnswer}
 use Rattle.questions.specs.Runs.{pairOf, classesAnswer, runAnswer}
-use Rattle.arguments.specs.Arguments.{usedAt}
+use Rattle.layout.specs.Arguments.{usedAt}
 use Rattle.layout.specs.Verdict.{verdict}
 use Rattle.layout.specs.Layout.{layoutOf, layoutAnswer}
-use Rattle.begun.specs.Lists.{listRefusal, listAnswer}
+use Rattle.layout.specs.Lists.{listRefusal, listAnswer}
 use Rattle.layout.specs.declared.LayoutAnswer.the-variants.{Laid, Refused as NotLaid}
-use Rattle.filling.specs.Images.{hiddenIn}
-use Rattle.lent.specs.Orders.{placeRefusal, gatherRefusal}
+use Rattle.moving.specs.Images.{hiddenIn}
+use Rattle.moving.specs.Orders.{placeRefusal, gatherRefusal}
 use Rattle.moving.specs.Answers.{placeAnswer, gatherAnswer}
 use Rattle.moving.specs.declared.PlaceAnswer.the-variants.{Placed, Refused as NotPlaced}
 use Rattle.moving.specs.declared.GatherAnswer.the-variants.{Gathered, Refused as NotGathered}
@@ -41,8 +41,8 @@ use Rattle.walk.specs.Orders.{Ask, offsetsOf, openRefusal, showRefusal}
 use Rattle.walk.specs.Steps.{openedIf, openWalk, openAnswer}
 use Rattle.places.specs.Shapes.{Shape}
 use Rattle.station.specs.Paper.{shapeAt}
-use Rattle.show.specs.Show.{onePiece, partIn, shownIn, shownAnswer}
-use Rattle.show.specs.declared.ShownAnswer.the-variants.{Refused as NotShown}
+use Rattle.walk.specs.Show.{onePiece, partIn, shownIn, shownAnswer}
+use Rattle.walk.specs.declared.showing.ShownAnswer.the-variants.{Refused as NotShown}
 use Rattle.promises.specs.Meaning.{accepted, refused, outcome, ofReading, ofExtent, ofSize, ofAlign, ofClasses, run, none, ofRun, ofLayout, ofPlacing, ofGathering, ofOpening, ofShown, shownPart}
 use Rattle.promises.specs.Demand1.{members}
 use Rattle.promises.proofs.Answering.{decided}

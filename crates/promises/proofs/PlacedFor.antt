@@ -11,14 +11,14 @@ use Rattle.addresses.specs.Copy.{cleared}
 use Rattle.addresses.proofs.Runs.{all-run}
 use Rattle.addresses.proofs.Parts.{scatter-left}
 use Rattle.places.specs.Images.{addresses, total}
-use Rattle.arguments.specs.Arguments.{shapes, hidden, usedFirst}
+use Rattle.layout.specs.Arguments.{shapes, hidden, usedFirst}
 use Rattle.layout.specs.Layout.{valuesOf}
 use Rattle.images.specs.Words.{littleEndian, withAddress}
-use Rattle.filling.specs.Images.{addressesOf, blankBy, placed}
-use Rattle.lent.specs.Orders.{placeRefusal}
+use Rattle.moving.specs.Images.{addressesOf, blankBy, placed}
+use Rattle.moving.specs.Orders.{placeRefusal}
 use Rattle.moving.specs.Answers.{registersAfter, stackAfter}
-use Rattle.filling.proofs.Blanks.{blank-unused, blank-used}
-use Rattle.lent.proofs.Orders.{place-accepted}
+use Rattle.moving.proofs.Blanks.{blank-unused, blank-used}
+use Rattle.moving.proofs.Orders.{place-accepted}
 use Rattle.station.specs.Paper.{kcb, areaOf as paperArea}
 use Rattle.station.proofs.Kcb.{kcb-area}
 use Rattle.histories.specs.Calls.{Call, Spares}

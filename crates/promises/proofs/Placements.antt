@@ -24,11 +24,11 @@ use Rattle.places.proofs.Numbers.{kinds-kept, generals-in-order, vectors-in-ord
 use Rattle.places.proofs.Offsets.{stack-lowest, stack-rounded, after-eights}
 use Rattle.places.proofs.Records.{place-written}
 use Rattle.places.proofs.Returning.{hidden-exactly}
-use Rattle.arguments.specs.Arguments.{shapeAt, shapesFrom, shapes, isVoid, returnClasses, returnPlace, hidden, usedFirst, usedAt}
+use Rattle.layout.specs.Arguments.{shapeAt, shapesFrom, shapes, isVoid, returnClasses, returnPlace, hidden, usedFirst, usedAt}
 use Rattle.layout.specs.Verdict.{verdict}
-use Rattle.arguments.specs.Placements.{placementAt}
-use Rattle.arguments.proofs.Arguments.{used-none, used-next}
-use Rattle.arguments.proofs.Bounds.{argument-shaped}
+use Rattle.layout.specs.Placements.{placementAt}
+use Rattle.layout.proofs.Arguments.{used-none, used-next}
+use Rattle.layout.proofs.Bounds.{argument-shaped}
 use Rattle.layout.proofs.Verdict.{accepted-uses}
 use Rattle.walk.specs.Offsets.{walkAt, sourceIn, readAt, step}
 use Rattle.walk.proofs.Agreement.{read-agrees, step-agrees}

@@ -15,15 +15,15 @@ use Rattle.places.specs.Places.{Place, onStack, place, after, area}
 use Rattle.places.specs.Images.{bytesOf, addresses, total, valueOffset}
 use Rattle.places.specs.Statements.{Apart}
 use Rattle.places.proofs.Apart.{apart, address-at}
-use Rattle.arguments.specs.Arguments.{shapeAt, shapesFrom, shapes, hidden, usedFirst, usedAt, areaOf}
+use Rattle.layout.specs.Arguments.{shapeAt, shapesFrom, shapes, hidden, usedFirst, usedAt, areaOf}
 use Rattle.layout.specs.Layout.{valuesOf}
-use Rattle.arguments.specs.Placements.{placementAt}
+use Rattle.layout.specs.Placements.{placementAt}
 use Rattle.layout.specs.Verdict.{verdict}
-use Rattle.arguments.proofs.Arguments.{length-shapes, shapes-split}
-use Rattle.arguments.proofs.Bounds.{all-shaped}
+use Rattle.layout.proofs.Arguments.{length-shapes, shapes-split}
+use Rattle.layout.proofs.Bounds.{all-shaped}
 use Rattle.layout.proofs.Verdict.{accepted-uses}
-use Rattle.filling.specs.Images.{addressesOf, valueStart}
-use Rattle.filling.proofs.Turns.{value-some}
+use Rattle.moving.specs.Images.{addressesOf, valueStart}
+use Rattle.moving.proofs.Turns.{value-some}
 use Rattle.station.specs.Paper.{kcb, shapeAt as paperShape, usedAt as paperUsed}
 use Rattle.station.proofs.Kcb.{kcb-shape, kcb-used}
 use Rattle.promises.specs.Demand2.{placeAt}

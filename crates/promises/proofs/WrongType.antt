@@ -17,8 +17,8 @@ use Rattle.types.specs.Wrong.{refusalFor}
 use Rattle.types.proofs.Large.{large-first, large-least}
 use Rattle.questions.specs.Questions.{questionRefusal}
 use Rattle.layout.specs.Verdict.{verdict}
-use Rattle.begun.specs.Lists.{listRefusal}
-use Rattle.lent.specs.Orders.{placeRefusal, gatherRefusal}
+use Rattle.layout.specs.Lists.{listRefusal}
+use Rattle.moving.specs.Orders.{placeRefusal, gatherRefusal}
 use Rattle.returning.specs.Orders.{putConditions, takeConditions, putRefusal, takeRefusal}
 use Rattle.station.specs.Paper.{kcb, refusalUnder}
 use Rattle.station.specs.Attachment.{described, attachRefusal}

@@ -4,8 +4,8 @@
 use mathlib.Core.Path.{_≡_}
 use mathlib.Core.List.{List, map}
 use Rattle.addresses.specs.Addresses.{run}
-use Rattle.return_image.specs.Image.{returnImage}
-use Rattle.return_image.specs.Cases.{ImageCase, puts, hidden, imageCases}
+use Rattle.returning.specs.Image.{returnImage}
+use Rattle.returning.specs.Cases.{ImageCase, puts, hidden, imageCases}
 use Rattle.returning.specs.Statements.{PutsAll, MemoryHidden, AddressUnseen, TakesPut, SameElsewhere, PutsTaken, UnusedUnseen, RefusalsTold, TwelveExactly, NeverTwelve, NoSharedImage}
 
 -- the image of each worked case, as the definitions give it

@@ -26,14 +26,14 @@ use Rattle.questions.specs.Questions.{questionRefusal, extentAnswer, sizeAnswer
 use Rattle.questions.specs.Runs.{classesAnswer, runAnswer, runIn}
 use Rattle.uses.specs.Uses.{usesRefusal}
 use Rattle.places.specs.Shapes.{Alignment}
-use Rattle.arguments.specs.declared.Placement.{Placement}
-use Rattle.arguments.specs.Arguments.{usedAt}
+use Rattle.layout.specs.declared.placements.Placement.{Placement}
+use Rattle.layout.specs.Arguments.{usedAt}
 use Rattle.layout.specs.Verdict.{verdict}
 use Rattle.layout.specs.Layout.{layoutOf, layoutAnswer}
-use Rattle.arguments.specs.Placements.{placementAt}
-use Rattle.begun.specs.Lists.{listAnswer, listCount, filled}
+use Rattle.layout.specs.Placements.{placementAt}
+use Rattle.layout.specs.Lists.{listAnswer, listCount, filled}
 use Rattle.layout.specs.Statements.{Bounded}
-use Rattle.filling.specs.Images.{hiddenIn}
+use Rattle.moving.specs.Images.{hiddenIn}
 use Rattle.moving.specs.Answers.{placeAnswer, gatherAnswer, registersAfter, stackAfter, valuesAfter}
 use Rattle.station.specs.declared.Station.{Station}
 use Rattle.station.specs.Paper.{kcb, refusalUnder}
@@ -41,7 +41,7 @@ use Rattle.station.specs.Attachment.{described, attachRefusal, attachStation, a
 use Rattle.walk.specs.declared.Walk.{Walk}
 use Rattle.walk.specs.Orders.{Ask, stepRefusal, showRefusal}
 use Rattle.walk.specs.Steps.{openWalk, openAnswer, stepWalk, stepOut}
-use Rattle.show.specs.Show.{shownIn, shownAnswer}
+use Rattle.walk.specs.Show.{shownIn, shownAnswer}
 use Rattle.promises.specs.Meaning.{numberOf, ofNumber, ofRefusal, ofReading, ofExtent, ofSize, ofAlign, ofClasses, Members, run, none, ofRun, ofLayout, ofPlacing, ofGathering, ofOpening, ofShown, shownPart, Answered}
 use Rattle.promises.specs.Orders.{checkOrder, formOrder, typesOrder, usesOrder, questionOrder, layoutOrder, gatherOrder, placeOrder, attachOrder, detachOrder, openOrder, stepOrder, showOrder}
 

@@ -31,17 +31,17 @@ use Rattle.places.specs.Returns.{returnOf, hiddenFor}
 use Rattle.places.specs.Places.{Place, inRegisters, onStack}
 use Rattle.places.specs.Recorded.{placeOf}
 use Rattle.places.specs.Statements.{LowestOffset, RoundedUp, Lacks, Fit, generalNumber, vectorNumber, numbersIn, kindIn}
-use Rattle.arguments.specs.declared.Placement.{Placement}
+use Rattle.layout.specs.declared.placements.Placement.{Placement}
 use Rattle.layout.specs.declared.LayoutAnswer.{LayoutAnswer}
 use Rattle.layout.specs.declared.LayoutAnswer.the-variants.{Laid}
-use Rattle.arguments.specs.Arguments.{shapeAt, isVoid, returnClasses, returnPlace, hidden, usedFirst, usedAt, areaOf}
+use Rattle.layout.specs.Arguments.{shapeAt, isVoid, returnClasses, returnPlace, hidden, usedFirst, usedAt, areaOf}
 use Rattle.layout.specs.Verdict.{verdict}
 use Rattle.layout.specs.Layout.{layoutOf, layoutAnswer}
-use Rattle.arguments.specs.Placements.{placementAt}
-use Rattle.begun.specs.Lists.{listRefusal, listCount, filled}
+use Rattle.layout.specs.Placements.{placementAt}
+use Rattle.layout.specs.Lists.{listRefusal, listCount, filled}
 use Rattle.cases.specs.Cases.{Case, cases}
-use Rattle.lines.specs.Listing.{listing}
-use Rattle.listing_cases.specs.Listings.{listings}
+use Rattle.listing.specs.Listing.{listing}
+use Rattle.cases.specs.Listings.{listings}
 use Rattle.moving.specs.Statements.{PlacesAll, AddressUnseen, GathersPlaced, PlacesGathered, UnusedUnseen, TwelveExactly}
 use Rattle.station.specs.declared.Station.{Station}
 use Rattle.station.specs.Paper.{kcb}

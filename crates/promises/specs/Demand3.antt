@@ -15,13 +15,13 @@ use Rattle.addresses.specs.Addresses.{All}
 use Rattle.description.specs.Description.{IsBytes, argumentsIn}
 use Rattle.places.specs.Places.{onStack}
 use Rattle.places.specs.Images.{bytesOf}
-use Rattle.arguments.specs.Arguments.{hidden, areaOf}
+use Rattle.layout.specs.Arguments.{hidden, areaOf}
 use Rattle.layout.specs.Verdict.{verdict}
 use Rattle.layout.specs.Layout.{valuesOf}
-use Rattle.arguments.specs.Placements.{placementAt}
+use Rattle.layout.specs.Placements.{placementAt}
 use Rattle.images.specs.Words.{littleEndian}
-use Rattle.filling.specs.Images.{addressesOf, valueStart}
-use Rattle.lent.specs.Orders.{placeRefusal}
+use Rattle.moving.specs.Images.{addressesOf, valueStart}
+use Rattle.moving.specs.Orders.{placeRefusal}
 use Rattle.moving.specs.Answers.{registersAfter, stackAfter}
 use Rattle.moving.specs.Statements.{NoSharedImage}
 use Rattle.station.specs.declared.Station.{Station}

@@ -5,3 +5,4 @@ pub mod WrongType
 pub mod Demand2
 pub mod BringingBack
 pub mod Demand3
+pub mod Calls

@@ -31,8 +31,8 @@ use Rattle.station.specs.Outcome.{NoneHolds, Answers}
 use Rattle.walk.specs.declared.Walk.{Walk}
 use Rattle.walk.specs.declared.OpenAnswer.{OpenAnswer}
 use Rattle.walk.specs.declared.OpenAnswer.the-variants.{Opened, Refused as NotOpened}
-use Rattle.show.specs.declared.ShownAnswer.{ShownAnswer}
-use Rattle.show.specs.declared.ShownAnswer.the-variants.{Registers, Stack, Apart, Refused as NotShown}
+use Rattle.walk.specs.declared.showing.ShownAnswer.{ShownAnswer}
+use Rattle.walk.specs.declared.showing.ShownAnswer.the-variants.{Registers, Stack, Apart, Refused as NotShown}
 
 -- the values of an answer that accepts, or the number of a refusal: "A refusal returns its number only"
 pub data Meaning (X : Type 0) : Type 0 where

@@ -12,8 +12,8 @@ use Rattle.questions.specs.Questions.{notBelow}
 use Rattle.uses.specs.Uses.{wrongUse, narrowUnnamed}
 use Rattle.layout.specs.Verdict.{wideArea}
 use Rattle.layout.specs.Layout.{layoutOf}
-use Rattle.begun.specs.Lists.{shortList}
-use Rattle.lent.specs.Orders.{wrongBool, wrongLength as wrongLengths}
+use Rattle.layout.specs.Lists.{shortList}
+use Rattle.moving.specs.Orders.{wrongBool, wrongLength as wrongLengths}
 use Rattle.station.specs.declared.Station.{Station}
 use Rattle.station.specs.Paper.{kcb}
 use Rattle.station.specs.Attachment.{wrongSeat, described}

@@ -16,8 +16,8 @@ use Rattle.types.specs.Decode.{tyAt}
 use Rattle.types.specs.Wrong.{refusalFor}
 use Rattle.questions.specs.Questions.{questionRefusal}
 use Rattle.layout.specs.Verdict.{verdict}
-use Rattle.begun.specs.Lists.{listRefusal}
-use Rattle.lent.specs.Orders.{placeRefusal, gatherRefusal}
+use Rattle.layout.specs.Lists.{listRefusal}
+use Rattle.moving.specs.Orders.{placeRefusal, gatherRefusal}
 use Rattle.returning.specs.Orders.{putRefusal, takeRefusal}
 use Rattle.station.specs.declared.Station.{Station}
 use Rattle.station.specs.Paper.{kcb, refusalUnder}

@@ -51,14 +51,14 @@ fn print_class(class: Class) {
 }
 
 fn print_align(d: &[u8], t: u8) {
-    match size_questions::type_align(d, t) {
+    match questions::type_align(d, t) {
         AlignAnswer::Align(align) => print_number(b" align ", align.0 as u64),
         AlignAnswer::Refused(refusal) => print_refusal(refusal),
     }
 }
 
 fn print_classes(d: &[u8], t: u8) {
-    match class_question::type_classes(d, t) {
+    match questions::type_classes(d, t) {
         ClassesAnswer::Classes(first, second) => {
             print(b" classes");
             print_class(first);
@@ -70,9 +70,9 @@ fn print_classes(d: &[u8], t: u8) {
 
 // Where the run lies, and how many bytes the part has that is handed out for it.
 fn print_run(d: &[u8], t: u8) {
-    let part = run_questions::member_run(d, t);
+    let part = questions::member_run(d, t);
     let count = part.len() as u64;
-    match run_questions::run_at(d, t) {
+    match questions::run_at(d, t) {
         RunAnswer::Run(offset, _) => {
             print_number(b" run ", offset.0 as u64);
             print_number(b" ", count);
@@ -95,7 +95,7 @@ fn print_known(d: &[u8], t: u8, size: Bytes) {
 }
 
 fn answer(d: &[u8], t: u8) {
-    match size_questions::type_size(d, t) {
+    match questions::type_size(d, t) {
         SizeAnswer::Size(size) => print_known(d, t, size),
         SizeAnswer::Refused(refusal) => print_refusal(refusal),
     }

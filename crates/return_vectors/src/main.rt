@@ -72,13 +72,13 @@ fn fill(out: &mut [u8]) {
 
 // Puts, and takes from the image as it is then, whether or not putting was refused.
 fn answer(d: &[u8], hidden: u64, value: &[u8], image: &mut [u8], out: &mut [u8]) {
-    match putting::put_returned(d, hidden, value, image) {
+    match returning::put_returned(d, hidden, value, image) {
         PutAnswer::Put => print(b"put\n"),
         PutAnswer::Refused(refusal) => print_refusal(refusal),
     }
     print_bytes(b"image", image);
     fill(out);
-    match taking::take_returned(d, image, out) {
+    match returning::take_returned(d, image, out) {
         TakeAnswer::Taken(address) => print_number(b"taken ", address),
         TakeAnswer::Refused(refusal) => print_refusal(refusal),
     }
@@ -153,7 +153,7 @@ fn answer_value(d: &[u8]) {
     let mut value = io::large_buffer();
     io::read_full(STDIN_FILENO, &mut address);
     let n = read_sized(&mut value);
-    answer_image(d, hidden_address::address_in(&address), &value[..n]);
+    answer_image(d, images::address_in(&address), &value[..n]);
 }
 
 // One record; false at the end of the input.

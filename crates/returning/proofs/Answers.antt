@@ -14,13 +14,13 @@ use Rattle.types.proofs.Wrong.{no-type}
 use Rattle.places.specs.declared.ReturnPlace.{ReturnPlace}
 use Rattle.layout.specs.declared.Layout.{Layout}
 use Rattle.layout.specs.declared.LayoutAnswer.the-variants.{Laid, Refused}
-use Rattle.arguments.specs.Arguments.{isVoid, returnPlace}
+use Rattle.layout.specs.Arguments.{isVoid, returnPlace}
 use Rattle.layout.specs.Layout.{layoutOf, layoutAnswer}
 use Rattle.layout.specs.Verdict.{verdict}
 use Rattle.layout.proofs.Layouts.{laid-accepted, refused-verdict, refused-nonzero}
-use Rattle.lent.specs.Orders.{brokenByte}
-use Rattle.return_image.specs.Image.{lengthFor, returnImage, returnValue, returnedAddress}
-use Rattle.return_image.specs.Asks.{Returnable}
+use Rattle.moving.specs.Orders.{brokenByte}
+use Rattle.returning.specs.Image.{lengthFor, returnImage, returnValue, returnedAddress}
+use Rattle.returning.specs.ImageAsks.{Returnable}
 use Rattle.returning.specs.Returned.{returnedSize, returnLength}
 use Rattle.returning.specs.Orders.{wrongLength, wrongBool, putRefusal, takeRefusal}
 use Rattle.returning.specs.Answers.{putAnswer, imageAfter, takeAnswer, valueAfter}

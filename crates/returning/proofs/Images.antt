@@ -16,11 +16,11 @@ use Rattle.places.specs.declared.ReturnPlace.the-variants.{Void, Memory, One, T
 use Rattle.images.specs.Words.{littleEndian, number}
 use Rattle.images.proofs.Words.{number-of-bytes, bytes-of-number}
 use Rattle.images.proofs.Gathers.{getD-zeros, all-present, gather-at, all-gather}
-use Rattle.return_image.specs.Moved.{partsOf, sources, targets}
-use Rattle.return_image.specs.Image.{inMemory, rax, blankReturn, returnImage, returnValue, returnedAddress, trimmed}
-use Rattle.return_image.specs.Asks.{Returnable}
-use Rattle.return_image.specs.Statements.{Sound}
-use Rattle.return_image.proofs.Room.{returnable-sound}
+use Rattle.returning.specs.Moved.{partsOf, sources, targets}
+use Rattle.returning.specs.Image.{inMemory, rax, blankReturn, returnImage, returnValue, returnedAddress, trimmed}
+use Rattle.returning.specs.ImageAsks.{Returnable}
+use Rattle.returning.specs.ImageStatements.{Sound}
+use Rattle.returning.proofs.Room.{returnable-sound}
 use Rattle.returning.specs.Statements.{Unused, IsImage}
 
 -- ---- the blank image

@@ -3,3 +3,8 @@ pub mod Orders
 pub mod Answers
 pub mod Images
 pub mod Theorems
+pub mod Room
+pub mod Moves
+pub mod Long
+pub mod Fitting
+pub mod Cases

@@ -12,10 +12,10 @@ use Rattle.description.specs.Description.{returnIn, kindAt, aAt}
 use Rattle.form.specs.Order.{FirstAt}
 use Rattle.form.proofs.Order.{first-exactly, first-before, first-behind, none-before, none-holds}
 use Rattle.form.proofs.Form.{or-none}
-use Rattle.arguments.specs.Arguments.{isVoid}
+use Rattle.layout.specs.Arguments.{isVoid}
 use Rattle.layout.specs.Verdict.{verdictConditions, verdict}
-use Rattle.lent.specs.Orders.{isBool, brokenByte}
-use Rattle.lent.proofs.Orders.{none-left}
+use Rattle.moving.specs.Orders.{isBool, brokenByte}
+use Rattle.moving.proofs.Orders.{none-left}
 use Rattle.returning.specs.Returned.{returnLength}
 use Rattle.returning.specs.Orders.{wrongLength, wrongBool, furtherTaking, furtherPutting, takeConditions, putConditions, takeRefusal, putRefusal}
 use Rattle.returning.specs.Asks.{Lent}

@@ -15,10 +15,10 @@ use Rattle.types.specs.Wrong.{refusalFor}
 use Rattle.places.specs.declared.ReturnPlace.{ReturnPlace}
 use Rattle.places.specs.declared.ReturnPlace.the-variants.{Void, Memory, One, Two, St0, St0St1}
 use Rattle.places.specs.declared.Register.the-variants.{General}
-use Rattle.arguments.specs.Arguments.{returnPlace}
-use Rattle.return_image.specs.Moved.{partsOf, sources, targets}
-use Rattle.return_image.specs.Image.{inMemory, returnImage, returnValue, returnedAddress}
-use Rattle.return_image.specs.Asks.{Returnable}
+use Rattle.layout.specs.Arguments.{returnPlace}
+use Rattle.returning.specs.Moved.{partsOf, sources, targets}
+use Rattle.returning.specs.Image.{inMemory, returnImage, returnValue, returnedAddress}
+use Rattle.returning.specs.ImageAsks.{Returnable}
 use Rattle.returning.specs.Returned.{returnLength}
 use Rattle.returning.specs.Orders.{putRefusal, takeRefusal}
 use Rattle.returning.specs.Asks.{Lent}

@@ -31,12 +31,12 @@ use Rattle.places.specs.declared.ReturnPlace.the-variants.{Void, Memory, One, T
 use Rattle.places.specs.Shapes.{kindsOf}
 use Rattle.places.specs.Returns.{returnOf, hiddenFor}
 use Rattle.places.proofs.Returning.{hidden-exactly}
-use Rattle.arguments.specs.Arguments.{isVoid, returnClasses, returnPlace, hidden}
+use Rattle.layout.specs.Arguments.{isVoid, returnClasses, returnPlace, hidden}
 use Rattle.layout.specs.Verdict.{verdict}
 use Rattle.layout.proofs.Verdict.{accepted-uses}
-use Rattle.return_image.specs.Image.{lengthFor, inMemory}
-use Rattle.return_image.specs.Asks.{Returnable}
-use Rattle.return_image.proofs.Fitting.{type-suits}
+use Rattle.returning.specs.Image.{lengthFor, inMemory}
+use Rattle.returning.specs.ImageAsks.{Returnable}
+use Rattle.returning.proofs.Fitting.{type-suits}
 use Rattle.returning.specs.Returned.{returnedSize, returnLength}
 use Rattle.returning.specs.Statements.{MemoryHidden, ReturnsBool}
 

@@ -6,8 +6,8 @@ use Prim.Native.Nat.{ℕ}
 use lib.Dec.{eqb}
 use lib.ListN.{length}
 use Rattle.types.specs.Wrong.{refusalFor}
-use Rattle.arguments.specs.Arguments.{returnPlace}
-use Rattle.return_image.specs.Image.{returnImage, returnValue, returnedAddress}
+use Rattle.layout.specs.Arguments.{returnPlace}
+use Rattle.returning.specs.Image.{returnImage, returnValue, returnedAddress}
 use Rattle.returning.specs.Orders.{putRefusal, takeRefusal}
 use Rattle.returning.specs.declared.PutAnswer.{PutAnswer}
 use Rattle.returning.specs.declared.PutAnswer.the-variants.{Put, Refused as NotPut}

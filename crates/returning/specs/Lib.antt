@@ -3,3 +3,8 @@ pub mod Orders
 pub mod Answers
 pub mod Asks
 pub mod Statements
+pub mod Moved
+pub mod Image
+pub mod ImageAsks
+pub mod ImageStatements
+pub mod Cases

@@ -7,9 +7,9 @@ use lib.Dec.{eqb}
 use lib.ListN.{length, getD}
 use Rattle.description.specs.Description.{returnIn}
 use Rattle.form.specs.Order.{first, numbered}
-use Rattle.arguments.specs.Arguments.{isVoid}
+use Rattle.layout.specs.Arguments.{isVoid}
 use Rattle.layout.specs.Verdict.{verdictConditions}
-use Rattle.lent.specs.Orders.{brokenByte}
+use Rattle.moving.specs.Orders.{brokenByte}
 use Rattle.returning.specs.Returned.{returnLength}
 
 -- 11: a value that has not exactly n bytes, or an image that has not exactly 80

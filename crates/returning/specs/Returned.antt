@@ -6,8 +6,8 @@ use Rattle.description.specs.Description.{returnIn}
 use Rattle.types.specs.Basic.{lp64}
 use Rattle.types.specs.Size.{sizeTy}
 use Rattle.types.specs.Decode.{tyAt}
-use Rattle.arguments.specs.Arguments.{isVoid, returnPlace}
-use Rattle.return_image.specs.Image.{lengthFor}
+use Rattle.layout.specs.Arguments.{isVoid, returnPlace}
+use Rattle.returning.specs.Image.{lengthFor}
 
 -- the size of the returned type; void has none
 unfoldable pub returnedSize : List ℕ → ℕ

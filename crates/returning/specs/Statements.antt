@@ -8,10 +8,10 @@ use lib.ListN.{length, getD}
 use Rattle.addresses.specs.Addresses.{gather, Absent}
 use Rattle.description.specs.Description.{returnIn, kindAt, aAt, IsBytes}
 use Rattle.places.specs.declared.ReturnPlace.{ReturnPlace}
-use Rattle.arguments.specs.Arguments.{returnPlace, hidden}
+use Rattle.layout.specs.Arguments.{returnPlace, hidden}
 use Rattle.images.specs.Words.{littleEndian}
-use Rattle.return_image.specs.Moved.{sources, targets}
-use Rattle.return_image.specs.Image.{inMemory, onX87, rax, returnedAddress, trimmed}
+use Rattle.returning.specs.Moved.{sources, targets}
+use Rattle.returning.specs.Image.{inMemory, onX87, rax, returnedAddress, trimmed}
 use Rattle.returning.specs.Returned.{returnLength}
 use Rattle.returning.specs.Orders.{putRefusal, takeRefusal}
 use Rattle.returning.specs.Answers.{putAnswer, imageAfter, takeAnswer, valueAfter, putNumber, takeNumber}

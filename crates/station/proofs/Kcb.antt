@@ -10,9 +10,9 @@ use Rattle.form.proofs.Form.{accepted-length}
 use Rattle.types.specs.Wrong.{refusalFor}
 use Rattle.types.proofs.Large.{accepted-form}
 use Rattle.uses.proofs.Uses.{accepted-types}
-use Rattle.arguments.specs.Arguments.{shapeAt as layoutShape, shapesFrom, usedAt as layoutUsed, areaOf as layoutArea}
+use Rattle.layout.specs.Arguments.{shapeAt as layoutShape, shapesFrom, usedAt as layoutUsed, areaOf as layoutArea}
 use Rattle.layout.specs.Verdict.{verdict}
-use Rattle.arguments.proofs.Arguments.{length-shapes, shapes-split}
+use Rattle.layout.proofs.Arguments.{length-shapes, shapes-split}
 use Rattle.layout.proofs.Verdict.{accepted-uses}
 use Rattle.places.specs.Shapes.{Shape}
 use Rattle.places.specs.Places.{fresh, after}

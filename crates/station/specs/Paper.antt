@@ -15,7 +15,7 @@ use Rattle.types.specs.Large.{firstLarge}
 use Rattle.places.specs.declared.Used.{Used}
 use Rattle.places.specs.Shapes.{Shape}
 use Rattle.places.specs.Places.{fresh, after, area}
-use Rattle.arguments.specs.Arguments.{shapes as layoutShapes, hidden as layoutHidden}
+use Rattle.layout.specs.Arguments.{shapes as layoutShapes, hidden as layoutHidden}
 use Rattle.layout.specs.Verdict.{verdictConditions}
 
 pub record Paper : Type 0 where

@@ -1,9 +1,12 @@
 // The station and its seat (document 01, "Station and walk").
+use form::Refusal;
 use units::Bytes;
 ghost use mathlib.Core.Path.{_≡_};
 ghost use Prim.Native.Nat.{_≤_};
 ghost use lib.ListN.{length};
-ghost use Rattle.station.specs.Attachment.{newStation, wrongSeat, seatOf};
+ghost use Rattle.station.specs.Attachment.{newStation, wrongSeat, seatOf, attachRefusal, attachStation, attachSeat, detachRefusal, detachStation, detachSeat};
+ghost use Rattle.station.specs.Paper.{kcb, refusalUnder};
+ghost use Rattle.form.specs.Reading.{refusalOf};
 
 // What the host keeps of a seat: whether a description is attached there, how long it is, and the number of the last attachment.
 #[repr(C)]
@@ -36,10 +39,125 @@ pub fn wrong_seat(station: Station, seat: &[u8]) -> bool
 }
 
 // The seat: "the description, then zeros".
-pub fn fill(seat: &mut [u8], d: &[u8])
+fn fill(seat: &mut [u8], d: &[u8])
     requires { ⌜ (length (now seat) ≡ 586) × (length (now d) ≤ 586) ⌝ }
     ensures { λ _. ⌜ now (seat .exit) ≡ seatOf (now (d .entry)) ⌝ }
 {
     addresses::clear(seat);
     addresses::copy(seat, 0, d, 0, d.len());
+}
+
+// Attaching a description to a station (document 01, "Station and walk"), by value and lent.
+
+// The station after an attach, and the refusal, number 0 for none.
+pub struct Attached {
+    pub station: Station,
+    pub refusal: Refusal,
+}
+
+// Which of 11, 14, 15, 1..10 refuses an attach.
+fn attach_refusal(station: Station, seat: &[u8], d: &[u8]) -> Refusal
+    ensures { λ r. ⌜ r ≡ refusalUnder kcb (now (d .entry)) (attachRefusal kcb station (now (seat .entry)) (now (d .entry))) ⌝ }
+{
+    if wrong_seat(station, seat) {
+        return form::refusal_of(11);
+    }
+    if station.attached {
+        return form::refusal_of(14);
+    }
+    if station.number == 4294967295 {
+        return form::refusal_of(15);
+    }
+    layout::check(d)
+}
+
+// Attaches, by value: the station counts up and the seat is filled, or both stay.
+pub fn attaching(station: Station, seat: &mut [u8], d: &[u8]) -> Attached
+    ensures { λ r. ⌜ (r .refusal ≡ refusalUnder kcb (now (d .entry)) (attachRefusal kcb station (now (seat .entry)) (now (d .entry))))
+        × (r .station ≡ attachStation kcb station (now (seat .entry)) (now (d .entry)))
+        × (now (seat .exit) ≡ attachSeat kcb station (now (seat .entry)) (now (d .entry))) ⌝ }
+{
+    let refusal = attach_refusal(station, seat, d);
+    if refusal.number != 0 {
+        return Attached {
+            station: station,
+            refusal: refusal,
+        };
+    }
+    fill(seat, d);
+    Attached {
+        station: Station {
+            attached: true,
+            length: Bytes(d.len()),
+            number: station.number + 1,
+        },
+        refusal: refusal,
+    }
+}
+
+// Attaches to the station and the seat that the host lends.
+pub fn attach(station: &mut Station, seat: &mut [u8], d: &[u8]) -> Refusal
+    ensures { λ r. ⌜ (r ≡ refusalUnder kcb (now (d .entry)) (attachRefusal kcb (now (station .entry)) (now (seat .entry)) (now (d .entry))))
+        × (now (station .exit) ≡ attachStation kcb (now (station .entry)) (now (seat .entry)) (now (d .entry)))
+        × (now (seat .exit) ≡ attachSeat kcb (now (station .entry)) (now (seat .entry)) (now (d .entry))) ⌝ }
+{
+    let after = attaching(*station, seat, d);
+    *station = after.station;
+    after.refusal
+}
+
+// Detaching from a station (document 01, "Station and walk"), by value and lent.
+
+// The station after a detach, and the refusal, number 0 for none.
+pub struct Detached {
+    pub station: Station,
+    pub refusal: Refusal,
+}
+
+// Which of 11, 13 refuses a detach.
+fn detach_refusal(station: Station, seat: &[u8]) -> Refusal
+    ensures { λ r. ⌜ r ≡ refusalOf (detachRefusal station (now (seat .entry))) ⌝ }
+{
+    if wrong_seat(station, seat) {
+        return form::refusal_of(11);
+    }
+    if !station.attached {
+        return form::refusal_of(13);
+    }
+    form::refusal_of(0)
+}
+
+// Detaches, by value: the seat and the length are zeroed and the number stays, or all of them do.
+pub fn detaching(station: Station, seat: &mut [u8]) -> Detached
+    ensures { λ r. ⌜ (r .refusal ≡ refusalOf (detachRefusal station (now (seat .entry))))
+        × (r .station ≡ detachStation station (now (seat .entry)))
+        × (now (seat .exit) ≡ detachSeat station (now (seat .entry))) ⌝ }
+{
+    let refusal = detach_refusal(station, seat);
+    if refusal.number != 0 {
+        return Detached {
+            station: station,
+            refusal: refusal,
+        };
+    }
+    addresses::clear(seat);
+    Detached {
+        station: Station {
+            attached: false,
+            length: Bytes(0),
+            number: station.number,
+        },
+        refusal: refusal,
+    }
+}
+
+// Detaches from the station and the seat that the host lends.
+pub fn detach(station: &mut Station, seat: &mut [u8]) -> Refusal
+    ensures { λ r. ⌜ (r ≡ refusalOf (detachRefusal (now (station .entry)) (now (seat .entry))))
+        × (now (station .exit) ≡ detachStation (now (station .entry)) (now (seat .entry)))
+        × (now (seat .exit) ≡ detachSeat (now (station .entry)) (now (seat .entry))) ⌝ }
+{
+    let after = detaching(*station, seat);
+    *station = after.station;
+    after.refusal
 }

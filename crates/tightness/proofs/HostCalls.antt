@@ -1,43 +1,43 @@
 -- "Each public call accepts all inputs": the contracts of the calls that hosts use ask nothing, one theorem for each. Assumes nothing.
 use mathlib.Core.Path.{refl}
 use Rattle.tightness.specs.Tight.{Total}
-use Rattle.form_reading.proofs.read_form
-use Rattle.form_reading.proofs.form_refusal
+use Rattle.form.proofs.read_form
+use Rattle.form.proofs.form_refusal
 use Rattle.form.proofs.refusal_of
-use Rattle.sizes.proofs.types_refusal
-use Rattle.question_refusals.proofs.question_refusal
-use Rattle.size_questions.proofs.type_size
-use Rattle.size_questions.proofs.type_align
-use Rattle.extent_questions.proofs.type_extent
-use Rattle.class_question.proofs.type_classes
-use Rattle.run_questions.proofs.run_at
-use Rattle.run_questions.proofs.member_run
-use Rattle.judging.proofs.uses_refusal
-use Rattle.checking.proofs.check
-use Rattle.deciding.proofs.layout_of
-use Rattle.lists.proofs.lay_out
-use Rattle.lists.proofs.begin
-use Rattle.value_placing.proofs.place_values
-use Rattle.value_gathering.proofs.gather_values
-use Rattle.putting.proofs.put_returned
-use Rattle.taking.proofs.take_returned
+use Rattle.types.proofs.types_refusal
+use Rattle.questions.proofs.question_refusal
+use Rattle.questions.proofs.type_size
+use Rattle.questions.proofs.type_align
+use Rattle.questions.proofs.type_extent
+use Rattle.questions.proofs.type_classes
+use Rattle.questions.proofs.run_at
+use Rattle.questions.proofs.member_run
+use Rattle.uses.proofs.uses_refusal
+use Rattle.layout.proofs.check
+use Rattle.layout.proofs.layout_of
+use Rattle.layout.proofs.lay_out
+use Rattle.layout.proofs.begin
+use Rattle.moving.proofs.place_values
+use Rattle.moving.proofs.gather_values
+use Rattle.returning.proofs.put_returned
+use Rattle.returning.proofs.take_returned
 use Rattle.station.proofs.new_station
-use Rattle.attach.proofs.attach
-use Rattle.attach.proofs.attaching
-use Rattle.detach.proofs.detach
-use Rattle.detach.proofs.detaching
+use Rattle.station.proofs.attach
+use Rattle.station.proofs.attaching
+use Rattle.station.proofs.detach
+use Rattle.station.proofs.detaching
 use Rattle.station.proofs.wrong_seat
-use Rattle.opening.proofs.open_walk
-use Rattle.standing.proofs.checked
-use Rattle.step.proofs.step
-use Rattle.stepping.proofs.stepping
-use Rattle.showing.proofs.shown_at
-use Rattle.showing.proofs.show
-use Rattle.show_number.proofs.show_number
+use Rattle.walk.proofs.open_walk
+use Rattle.walk.proofs.checked
+use Rattle.walk.proofs.step
+use Rattle.walk.proofs.stepping
+use Rattle.walk.proofs.shown_at
+use Rattle.walk.proofs.show
+use Rattle.walk.proofs.show_number
 use Rattle.listing.proofs.write_listing
-use Rattle.first_used.proofs.fresh
-use Rattle.return_places.proofs.return_place
-use Rattle.return_places.proofs.hidden_for
+use Rattle.places.proofs.fresh
+use Rattle.places.proofs.return_place
+use Rattle.places.proofs.hidden_for
 use Rattle.addresses.proofs.clear
 use Rattle.callbridge.proofs.cb_version
 use Rattle.callbridge.proofs.cb_check
@@ -58,116 +58,116 @@ use Rattle.callbridge.proofs.cb_open_walk
 use Rattle.callbridge.proofs.cb_step
 use Rattle.callbridge.proofs.cb_show
 
-pub total-form-reading-read-form : Total read_form.ended (λ M. read_form.clauses {M = M})
-total-form-reading-read-form c g = refl
+pub total-form-read-form : Total read_form.ended (λ M. read_form.clauses {M = M})
+total-form-read-form c g = refl
 
-pub total-form-reading-form-refusal : Total form_refusal.ended (λ M. form_refusal.clauses {M = M})
-total-form-reading-form-refusal c g = refl
+pub total-form-form-refusal : Total form_refusal.ended (λ M. form_refusal.clauses {M = M})
+total-form-form-refusal c g = refl
 
 pub total-form-refusal-of : Total refusal_of.ended (λ M. refusal_of.clauses {M = M})
 total-form-refusal-of c g = refl
 
-pub total-sizes-types-refusal : Total types_refusal.ended (λ M. types_refusal.clauses {M = M})
-total-sizes-types-refusal c g = refl
+pub total-types-types-refusal : Total types_refusal.ended (λ M. types_refusal.clauses {M = M})
+total-types-types-refusal c g = refl
 
-pub total-question-refusals-question-refusal : Total question_refusal.ended (λ M. question_refusal.clauses {M = M})
-total-question-refusals-question-refusal c g = refl
+pub total-questions-question-refusal : Total question_refusal.ended (λ M. question_refusal.clauses {M = M})
+total-questions-question-refusal c g = refl
 
-pub total-size-questions-type-size : Total type_size.ended (λ M. type_size.clauses {M = M})
-total-size-questions-type-size c g = refl
+pub total-questions-type-size : Total type_size.ended (λ M. type_size.clauses {M = M})
+total-questions-type-size c g = refl
 
-pub total-size-questions-type-align : Total type_align.ended (λ M. type_align.clauses {M = M})
-total-size-questions-type-align c g = refl
+pub total-questions-type-align : Total type_align.ended (λ M. type_align.clauses {M = M})
+total-questions-type-align c g = refl
 
-pub total-extent-questions-type-extent : Total type_extent.ended (λ M. type_extent.clauses {M = M})
-total-extent-questions-type-extent c g = refl
+pub total-questions-type-extent : Total type_extent.ended (λ M. type_extent.clauses {M = M})
+total-questions-type-extent c g = refl
 
-pub total-class-question-type-classes : Total type_classes.ended (λ M. type_classes.clauses {M = M})
-total-class-question-type-classes c g = refl
+pub total-questions-type-classes : Total type_classes.ended (λ M. type_classes.clauses {M = M})
+total-questions-type-classes c g = refl
 
-pub total-run-questions-run-at : Total run_at.ended (λ M. run_at.clauses {M = M})
-total-run-questions-run-at c g = refl
+pub total-questions-run-at : Total run_at.ended (λ M. run_at.clauses {M = M})
+total-questions-run-at c g = refl
 
-pub total-run-questions-member-run : Total member_run.ended (λ M. member_run.clauses {M = M})
-total-run-questions-member-run c g = refl
+pub total-questions-member-run : Total member_run.ended (λ M. member_run.clauses {M = M})
+total-questions-member-run c g = refl
 
-pub total-judging-uses-refusal : Total uses_refusal.ended (λ M. uses_refusal.clauses {M = M})
-total-judging-uses-refusal c g = refl
+pub total-uses-uses-refusal : Total uses_refusal.ended (λ M. uses_refusal.clauses {M = M})
+total-uses-uses-refusal c g = refl
 
-pub total-checking-check : Total check.ended (λ M. check.clauses {M = M})
-total-checking-check c g = refl
+pub total-layout-check : Total check.ended (λ M. check.clauses {M = M})
+total-layout-check c g = refl
 
-pub total-deciding-layout-of : Total layout_of.ended (λ M. layout_of.clauses {M = M})
-total-deciding-layout-of c g = refl
+pub total-layout-layout-of : Total layout_of.ended (λ M. layout_of.clauses {M = M})
+total-layout-layout-of c g = refl
 
-pub total-lists-lay-out : Total lay_out.ended (λ M. lay_out.clauses {M = M})
-total-lists-lay-out c g = refl
+pub total-layout-lay-out : Total lay_out.ended (λ M. lay_out.clauses {M = M})
+total-layout-lay-out c g = refl
 
-pub total-lists-begin : Total begin.ended (λ M. begin.clauses {M = M})
-total-lists-begin c g = refl
+pub total-layout-begin : Total begin.ended (λ M. begin.clauses {M = M})
+total-layout-begin c g = refl
 
-pub total-value-placing-place-values : Total place_values.ended (λ M. place_values.clauses {M = M})
-total-value-placing-place-values c g = refl
+pub total-moving-place-values : Total place_values.ended (λ M. place_values.clauses {M = M})
+total-moving-place-values c g = refl
 
-pub total-value-gathering-gather-values : Total gather_values.ended (λ M. gather_values.clauses {M = M})
-total-value-gathering-gather-values c g = refl
+pub total-moving-gather-values : Total gather_values.ended (λ M. gather_values.clauses {M = M})
+total-moving-gather-values c g = refl
 
-pub total-putting-put-returned : Total put_returned.ended (λ M. put_returned.clauses {M = M})
-total-putting-put-returned c g = refl
+pub total-returning-put-returned : Total put_returned.ended (λ M. put_returned.clauses {M = M})
+total-returning-put-returned c g = refl
 
-pub total-taking-take-returned : Total take_returned.ended (λ M. take_returned.clauses {M = M})
-total-taking-take-returned c g = refl
+pub total-returning-take-returned : Total take_returned.ended (λ M. take_returned.clauses {M = M})
+total-returning-take-returned c g = refl
 
 pub total-station-new-station : Total new_station.ended (λ M. new_station.clauses {M = M})
 total-station-new-station c g = refl
 
-pub total-attach-attach : Total attach.ended (λ M. attach.clauses {M = M})
-total-attach-attach c g = refl
+pub total-station-attach : Total attach.ended (λ M. attach.clauses {M = M})
+total-station-attach c g = refl
 
-pub total-attach-attaching : Total attaching.ended (λ M. attaching.clauses {M = M})
-total-attach-attaching c g = refl
+pub total-station-attaching : Total attaching.ended (λ M. attaching.clauses {M = M})
+total-station-attaching c g = refl
 
-pub total-detach-detach : Total detach.ended (λ M. detach.clauses {M = M})
-total-detach-detach c g = refl
+pub total-station-detach : Total detach.ended (λ M. detach.clauses {M = M})
+total-station-detach c g = refl
 
-pub total-detach-detaching : Total detaching.ended (λ M. detaching.clauses {M = M})
-total-detach-detaching c g = refl
+pub total-station-detaching : Total detaching.ended (λ M. detaching.clauses {M = M})
+total-station-detaching c g = refl
 
 pub total-station-wrong-seat : Total wrong_seat.ended (λ M. wrong_seat.clauses {M = M})
 total-station-wrong-seat c g = refl
 
-pub total-opening-open-walk : Total open_walk.ended (λ M. open_walk.clauses {M = M})
-total-opening-open-walk c g = refl
+pub total-walk-open-walk : Total open_walk.ended (λ M. open_walk.clauses {M = M})
+total-walk-open-walk c g = refl
 
-pub total-standing-checked : Total checked.ended (λ M. checked.clauses {M = M})
-total-standing-checked c g = refl
+pub total-walk-checked : Total checked.ended (λ M. checked.clauses {M = M})
+total-walk-checked c g = refl
 
-pub total-step-step : Total step.ended (λ M. step.clauses {M = M})
-total-step-step c g = refl
+pub total-walk-step : Total step.ended (λ M. step.clauses {M = M})
+total-walk-step c g = refl
 
-pub total-stepping-stepping : Total stepping.ended (λ M. stepping.clauses {M = M})
-total-stepping-stepping c g = refl
+pub total-walk-stepping : Total stepping.ended (λ M. stepping.clauses {M = M})
+total-walk-stepping c g = refl
 
-pub total-showing-shown-at : Total shown_at.ended (λ M. shown_at.clauses {M = M})
-total-showing-shown-at c g = refl
+pub total-walk-shown-at : Total shown_at.ended (λ M. shown_at.clauses {M = M})
+total-walk-shown-at c g = refl
 
-pub total-showing-show : Total show.ended (λ M. show.clauses {M = M})
-total-showing-show c g = refl
+pub total-walk-show : Total show.ended (λ M. show.clauses {M = M})
+total-walk-show c g = refl
 
-pub total-show-number-show-number : Total show_number.ended (λ M. show_number.clauses {M = M})
-total-show-number-show-number c g = refl
+pub total-walk-show-number : Total show_number.ended (λ M. show_number.clauses {M = M})
+total-walk-show-number c g = refl
 
 pub total-listing-write-listing : Total write_listing.ended (λ M. write_listing.clauses {M = M})
 total-listing-write-listing c g = refl
 
-pub total-first-used-fresh : Total fresh.ended (λ M. fresh.clauses {M = M})
-total-first-used-fresh c g = refl
+pub total-places-fresh : Total fresh.ended (λ M. fresh.clauses {M = M})
+total-places-fresh c g = refl
 
-pub total-return-places-return-place : Total return_place.ended (λ M. return_place.clauses {M = M})
-total-return-places-return-place c g = refl
+pub total-places-return-place : Total return_place.ended (λ M. return_place.clauses {M = M})
+total-places-return-place c g = refl
 
-pub total-return-places-hidden-for : Total hidden_for.ended (λ M. hidden_for.clauses {M = M})
-total-return-places-hidden-for c g = refl
+pub total-places-hidden-for : Total hidden_for.ended (λ M. hidden_for.clauses {M = M})
+total-places-hidden-for c g = refl
 
 pub total-addresses-clear : Total clear.ended (λ M. clear.clauses {M = M})
 total-addresses-clear c g = refl

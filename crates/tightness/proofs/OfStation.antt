@@ -1,16 +1,26 @@
 -- Each public function of `station` meets its contract, and the contract is tight. Assumes nothing.
-use mathlib.Core.Path.{_≡_, refl}
+use mathlib.Core.Path.{_≡_, refl, sym, _∙_}
 use Rattle.tightness.specs.Tight.{Meets, Tight}
-use Rattle.tightness.proofs.Laws.{bytes, equal, result}
-use Rattle.station.proofs.fill
-use Rattle.station.proofs.fill.Met as fill-met
-use Rattle.station.proofs.fill.Symbol as fill-symbol
+use Rattle.tightness.proofs.Laws.{bytes, equal, result, settle}
 use Rattle.station.proofs.new_station
 use Rattle.station.proofs.new_station.Met as new-station-met
 use Rattle.station.proofs.new_station.Symbol as new-station-symbol
 use Rattle.station.proofs.wrong_seat
 use Rattle.station.proofs.wrong_seat.Met as wrong-seat-met
 use Rattle.station.proofs.wrong_seat.Symbol as wrong-seat-symbol
+use Rattle.station.proofs.Station
+use Rattle.station.proofs.attach
+use Rattle.station.proofs.attach.Met as attach-met
+use Rattle.station.proofs.attach.Symbol as attach-symbol
+use Rattle.station.proofs.attaching
+use Rattle.station.proofs.attaching.Met as attaching-met
+use Rattle.station.proofs.attaching.Symbol as attaching-symbol
+use Rattle.station.proofs.detach
+use Rattle.station.proofs.detach.Met as detach-met
+use Rattle.station.proofs.detach.Symbol as detach-symbol
+use Rattle.station.proofs.detaching
+use Rattle.station.proofs.detaching.Met as detaching-met
+use Rattle.station.proofs.detaching.Symbol as detaching-symbol
 
 pub meets-station-new-station : Meets new_station.ended (λ M. new_station.clauses {M = M}) new-station-symbol.routine
 meets-station-new-station M = new-station-met.met
@@ -24,11 +34,44 @@ meets-station-wrong-seat M = wrong-seat-met.met
 pub tight-station-wrong-seat : Tight wrong_seat.ended (λ M. wrong_seat.clauses {M = M})
 tight-station-wrong-seat c r q w v a b = (equal (result wrong_seat.ended c) (a .ensured) (b .ensured), refl)
 
-pub meets-station-fill : Meets fill.ended (λ M. fill.clauses {M = M}) fill-symbol.routine
-meets-station-fill M = fill-met.met
+pub meets-station-attaching : Meets attaching.ended (λ M. attaching.clauses {M = M}) attaching-symbol.routine
+meets-station-attaching M = attaching-met.met
 
-pub tight-station-fill : Tight fill.ended (λ M. fill.clauses {M = M})
-tight-station-fill c r q w v a b = (refl, λ i. (seat i, (tt, tt)))
+pub tight-station-attaching : Tight attaching.ended (λ M. attaching.clauses {M = M})
+tight-station-attaching c r q w v a b = (settle (result attaching.ended c) (a .ensured) (b .ensured) (λ e f i. record { refusal = (e .0 ∙ sym (f .0)) i; station = (e .1 ∙ sym (f .1)) i }), λ i. (tt, (seat i, (tt, tt))))
   where
-    seat : w .0 ≡ v .0
-    seat = equal bytes (a .ensured) (b .ensured)
+    seat : w .1 .0 ≡ v .1 .0
+    seat = settle bytes (a .ensured) (b .ensured) (λ e f. e .2 ∙ sym (f .2))
+
+pub meets-station-attach : Meets attach.ended (λ M. attach.clauses {M = M}) attach-symbol.routine
+meets-station-attach M = attach-met.met
+
+pub tight-station-attach : Tight attach.ended (λ M. attach.clauses {M = M})
+tight-station-attach c r q w v a b = (settle (result attach.ended c) (a .ensured) (b .ensured) (λ e f. e .0 ∙ sym (f .0)), λ i. (station i, (seat i, (tt, tt))))
+  where
+    station : w .0 ≡ v .0
+    station = settle (Station.the-row .coded) (a .ensured) (b .ensured) (λ e f. e .1 ∙ sym (f .1))
+
+    seat : w .1 .0 ≡ v .1 .0
+    seat = settle bytes (a .ensured) (b .ensured) (λ e f. e .2 ∙ sym (f .2))
+
+pub meets-station-detaching : Meets detaching.ended (λ M. detaching.clauses {M = M}) detaching-symbol.routine
+meets-station-detaching M = detaching-met.met
+
+pub tight-station-detaching : Tight detaching.ended (λ M. detaching.clauses {M = M})
+tight-station-detaching c r q w v a b = (settle (result detaching.ended c) (a .ensured) (b .ensured) (λ e f i. record { refusal = (e .0 ∙ sym (f .0)) i; station = (e .1 ∙ sym (f .1)) i }), λ i. (tt, (seat i, tt)))
+  where
+    seat : w .1 .0 ≡ v .1 .0
+    seat = settle bytes (a .ensured) (b .ensured) (λ e f. e .2 ∙ sym (f .2))
+
+pub meets-station-detach : Meets detach.ended (λ M. detach.clauses {M = M}) detach-symbol.routine
+meets-station-detach M = detach-met.met
+
+pub tight-station-detach : Tight detach.ended (λ M. detach.clauses {M = M})
+tight-station-detach c r q w v a b = (settle (result detach.ended c) (a .ensured) (b .ensured) (λ e f. e .0 ∙ sym (f .0)), λ i. (station i, (seat i, tt)))
+  where
+    station : w .0 ≡ v .0
+    station = settle (Station.the-row .coded) (a .ensured) (b .ensured) (λ e f. e .1 ∙ sym (f .1))
+
+    seat : w .1 .0 ≡ v .1 .0
+    seat = settle bytes (a .ensured) (b .ensured) (λ e f. e .2 ∙ sym (f .2))

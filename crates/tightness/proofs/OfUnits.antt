@@ -1,7 +1,7 @@
 -- Each public function of `units` meets its contract, and the contract is tight. Assumes nothing.
 use mathlib.Core.Path.{refl, sym, _∙_}
 use Rattle.tightness.specs.Tight.{Meets, Tight}
-use Rattle.tightness.proofs.Laws.{bytes, equal, result, settle}
+use Rattle.tightness.proofs.Laws.{equal, result, settle}
 use Rattle.units.proofs.at_most
 use Rattle.units.proofs.at_most.Met as at-most-met
 use Rattle.units.proofs.at_most.Symbol as at-most-symbol

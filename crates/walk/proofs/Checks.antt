@@ -26,14 +26,14 @@ use Rattle.types.specs.Decode.{tyAt}
 use Rattle.layout.specs.declared.Layout.{Layout}
 use Rattle.layout.specs.declared.LayoutAnswer.{LayoutAnswer}
 use Rattle.layout.specs.declared.LayoutAnswer.the-variants.{Laid, Refused as Not}
-use Rattle.arguments.specs.Arguments.{shapesFrom, hidden, usedAt as layoutUsed}
+use Rattle.layout.specs.Arguments.{shapesFrom, hidden, usedAt as layoutUsed}
 use Rattle.layout.specs.Verdict.{verdict}
 use Rattle.layout.specs.Layout.{layoutOf, layoutAnswer, refusalIn}
 use Rattle.layout.proofs.Verdict.{accepted-uses}
-use Rattle.arguments.proofs.Bounds.{argument-known, type-asked}
+use Rattle.layout.proofs.Bounds.{argument-known, type-asked}
 use Rattle.classify.specs.Asks.{AskType}
 use Rattle.layout.proofs.Layouts.{laid-accepted, refused-verdict, refused-nonzero}
-use Rattle.arguments.proofs.Steps.{shape-of-argument}
+use Rattle.layout.proofs.Steps.{shape-of-argument}
 use Rattle.station.specs.declared.Station.{Station}
 use Rattle.station.specs.Outcome.{NoneHolds, Answers, Positive}
 use Rattle.station.specs.Paper.{Paper, kcb, verdictOf, refusalUnder, arguments, shapeAt}

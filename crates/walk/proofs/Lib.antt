@@ -4,3 +4,5 @@ pub mod Checks
 pub mod Opens
 pub mod Passes
 pub mod Steps
+pub mod Copies
+pub mod Shown

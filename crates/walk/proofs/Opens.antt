@@ -14,7 +14,7 @@ use Rattle.form.specs.declared.Refusal.{Refusal}
 use Rattle.uses.specs.Uses.{usesRefusal}
 use Rattle.uses.proofs.Uses.{accepted-typed}
 use Rattle.places.specs.declared.Used.{Used}
-use Rattle.arguments.specs.Arguments.{usedAt as layoutUsed}
+use Rattle.layout.specs.Arguments.{usedAt as layoutUsed}
 use Rattle.layout.specs.Layout.{layoutOf}
 use Rattle.layout.specs.declared.Layout.{Layout}
 use Rattle.station.specs.declared.Station.{Station}

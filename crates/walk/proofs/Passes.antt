@@ -20,9 +20,9 @@ use Rattle.places.proofs.Fits.{fits-true}
 use Rattle.places.proofs.Prefix.{after-append, after-at}
 use Rattle.places.proofs.Apart.{length-slots, slots-inside, stack-room, after-grows}
 use Rattle.places.proofs.Offsets.{after-eights, area-rounded}
-use Rattle.arguments.specs.Arguments.{usedAt as layoutUsed}
+use Rattle.layout.specs.Arguments.{usedAt as layoutUsed}
 use Rattle.layout.proofs.Verdict.{accepted-uses}
-use Rattle.arguments.proofs.Bounds.{arguments-few, argument-small, argument-shaped}
+use Rattle.layout.proofs.Bounds.{arguments-few, argument-small, argument-shaped}
 use Rattle.layout.proofs.Layouts.{asks-at}
 use Rattle.station.specs.declared.Station.{Station}
 use Rattle.station.specs.Paper.{Paper, kcb, verdictOf, arguments, shapeAt, typeAt, usedAt, areaOf}

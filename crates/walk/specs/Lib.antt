@@ -2,3 +2,4 @@ pub mod Offsets
 pub mod Orders
 pub mod Steps
 pub mod Asks
+pub mod Show

@@ -44,17 +44,17 @@ use Rattle.station.specs.Paper.{kcb, refusalUnder}
 use Rattle.station.specs.Attachment.{attachRefusal, attachStation, attachSeat}
 use Rattle.station.specs.declared.Station.{Station}
 use Rattle.form.specs.declared.Refusal.{Refusal}
-use Rattle.attach.specs.declared.Attached.{Attached}
+use Rattle.station.specs.declared.Attached.{Attached}
 use Rattle.station.proofs.Station as T-Station
 use Rattle.station.proofs.Station.Laws as T′-Station
 use Rattle.form.proofs.Refusal as T-Refusal
 use Rattle.form.proofs.Refusal.Laws as T′-Refusal
-use Rattle.attach.proofs.Attached as U
-use Rattle.attach.proofs.Attached.Laws as U′
-use Rattle.attach.proofs.attaching as g
-use Rattle.attach.proofs.attaching.Symbol as g-def
-use Rattle.attach.proofs.attaching.Symbol.{name as #attach·attaching}
-use Rattle.attach.proofs.attaching.Met as g-thm
+use Rattle.station.proofs.Attached as U
+use Rattle.station.proofs.Attached.Laws as U′
+use Rattle.station.proofs.attaching as g
+use Rattle.station.proofs.attaching.Symbol as g-def
+use Rattle.station.proofs.attaching.Symbol.{name as #station·attaching}
+use Rattle.station.proofs.attaching.Met as g-thm
 use Rattle.callbridge.proofs.cb_attach.Key.{name as #callbridge·cb-attach}
 use Rattle.callbridge.proofs.cb_attach as f
 use Rattle.callbridge.proofs.cb_attach.Statement as stated
@@ -122,7 +122,7 @@ module _ {M : Type 1} (𝓤 : URA M) (H : Heap 𝓤) (A : Atoms 𝓤) (W : Given
       nothing ! $ move ! (7 ∷ 0 ∷ []) $ join ! $ move ! (6 ∷ 0 ∷ []) $ join ! $ move ! (5 ∷ 0 ∷ []) $ join ! $ frame ! $
       nothing ! $ move ! (4 ∷ 0 ∷ []) $ fjoin ! $ move ! (3 ∷ 0 ∷ []) $ fjoin ! $ move ! (1 ∷ 2 ∷ 0 ∷ []) $ feqI ! (List Val) (vptr b0 o0 ∷ []) (vptr b0 o0 ∷ []) refl $ fjoin3 ! $ fjoin ! $ frame ! $ owned ! T-Refusal.the-row (Is T-Refusal.the-row) (LL.makes T-Refusal.the-type T′-Refusal.the-plain 𝓤 H A) (r .refusal) (mach-Refusal (r .refusal)) fits $ done !
 
-  module _ (C : Calls 𝓤 H) (Λ : Loops 𝓤 H) (fm : FmC 𝓤 H (W .laws) C) (known : Triple 𝓤 (C #attach·attaching) (Callee 𝓤 H A at-mem run)) where
+  module _ (C : Calls 𝓤 H) (Λ : Loops 𝓤 H) (fm : FmC 𝓤 H (W .laws) C) (known : Triple 𝓤 (C #station·attaching) (Callee 𝓤 H A at-mem run)) where
     walk : Room u8 (length (seat .now)) → Room u8 (length (d .now)) → ent 𝓤 (onEntry 𝓤 H A f.signature (κ₀, (κ₁, (κ₂, tt))) (q₀, (q₁, (q₂, tt))) a vals) (WpFn 𝓤 H C Λ code.function (vptr b0 o0 ∷ v1 ∷ v2 ∷ []) Post)
     walk room1 room2 =
         qed W ((‵ (flft κ₀ q₀) ⊛ ‵ (flft κ₁ q₁) ⊛ ‵ (flft κ₂ q₂) ⊛ ‵ ftrue) ∷ ‵ (owns (MutRef (named 0) κ₀ T-Station.the-row ∷ MutSlice (named 1) κ₁ u8 ∷ ShrSlice (named 2) κ₂ u8 ∷ []) a vals) ∷ []) ∵ enter ! C Λ code.function (vptr b0 o0 ∷ v1 ∷ v2 ∷ []) _ $
@@ -148,14 +148,14 @@ module _ {M : Type 1} (𝓤 : URA M) (H : Heap 𝓤) (A : Atoms 𝓤) (W : Given
         keep ! (0 ∷ 1 ∷ 7 ∷ 10 ∷ 2 ∷ 6 ∷ 5 ∷ []) $ by ! (exits r (zs .1 .0) e l1 (LL.owed U.the-type U′.the-laws r _ is .1 .0))))))))))))))))))
 
 module _ {M : Type 1} (𝓤 : URA M) (H : Heap 𝓤) (A : Atoms 𝓤) (W : Given 𝓤 H A) (mem : Memory → SProp 𝓤) (run : Routine → Fun 𝓤) where
-  cb-attach-walks : (C : Calls 𝓤 H) (Λ : Loops 𝓤 H) → FmC 𝓤 H (W .laws) C → Triple 𝓤 (C #attach·attaching) (Callee 𝓤 H A mem run) → Walks 𝓤 H A f.ended stayed (WpFn 𝓤 H C Λ code.function) (f.clauses 𝓤 H A mem run)
+  cb-attach-walks : (C : Calls 𝓤 H) (Λ : Loops 𝓤 H) → FmC 𝓤 H (W .laws) C → Triple 𝓤 (C #station·attaching) (Callee 𝓤 H A mem run) → Walks 𝓤 H A f.ended stayed (WpFn 𝓤 H C Λ code.function) (f.clauses 𝓤 H A mem run)
   cb-attach-walks C Λ fm known = walked 𝓤 H A f.ended stayed (f.clauses 𝓤 H A mem run) (WpFn 𝓤 H C Λ code.function) (λ κs. (ptr-vals, (slice-vals, (slice-vals, tt)))) (λ κs. (mut-tells (named 0) (κs .0) T-Station.the-row, (mut-slice-tells (named 1) (κs .1 .0) u8, (shr-slice-tells (named 2) (κs .1 .1 .0) u8, tt))))
       (λ κs qs bounds a _ are. via 𝓤 _ (fst∗ 𝓤 _ (emp 𝓤)) (walk 𝓤 H A W mem run (κs .0) (κs .1 .0) (κs .1 .1 .0) (qs .0) (qs .1 .0) (qs .1 .1 .0) (a .0 .ptr .0) (a .0 .ptr .1) (a .0 .name) (a .0 .now) (a .1 .0) (a .1 .1 .0) C Λ fm known (are .1 .0 .0 .1) (are .1 .1 .0 .0 .1)))
 
   goes : AllGo 𝓤 H A W 3 (f.signature .params) (f.ended .kept) stayed
   goes = (goes-ref 𝓤 H A W 3 0 tt (plain (λ _. T-Station.the-row)), (goes-gave-slice 𝓤 H A W 3 1 tt (plain (λ _. u8)), (goes-none-slice 𝓤 H A W 3 (2 ∷ []) tt (plain (λ _. u8)) yes, tt)))
 
-cb-attach-meets : {M : Type 1} (𝓤 : URA M) (H : Heap 𝓤) (A : Atoms 𝓤) → Given 𝓤 H A → (mem : Memory → SProp 𝓤) (run : Routine → Fun 𝓤) (𝓣 : Tables 𝓤 H) → Triple 𝓤 (𝓣 .C #attach·attaching) (Callee 𝓤 H A mem run)
+cb-attach-meets : {M : Type 1} (𝓤 : URA M) (H : Heap 𝓤) (A : Atoms 𝓤) → Given 𝓤 H A → (mem : Memory → SProp 𝓤) (run : Routine → Fun 𝓤) (𝓣 : Tables 𝓤 H) → Triple 𝓤 (𝓣 .C #station·attaching) (Callee 𝓤 H A mem run)
     → Meets 𝓤 H A f.signature (WpFn 𝓤 H (𝓣 .C) (𝓣 .Λ) code.function) (f.spec 𝓤 H A mem run)
 cb-attach-meets 𝓤 H A W mem run 𝓣 known = walk-meets 𝓤 H A f.ended stayed W (goes 𝓤 H A W mem run) (f.clauses 𝓤 H A mem run) (WpFn 𝓤 H (𝓣 .C) (𝓣 .Λ) code.function) (WpFn-mono 𝓤 H (W .laws) 𝓣 code.function) (cb-attach-walks 𝓤 H A W mem run (𝓣 .C) (𝓣 .Λ) (fmOf 𝓤 H (W .laws) 𝓣) known)
 
@@ -165,4 +165,4 @@ cb-attach-spec 𝓤 H 𝓜 𝓖 𝓡 =
     entered 𝓤 H (tripleOf 𝓤 H (𝓖 .A) f.signature (f.spec 𝓤 H (𝓖 .A) (𝓜 .mem) (𝓡 .run)))
     (tables 𝓤 H 𝓜 𝓡 code.env .C) (tables 𝓤 H 𝓜 𝓡 code.env .Λ) #callbridge·cb-attach code.function (code.unfolded 𝓤 H 𝓜 𝓡)
     (cb-attach-meets 𝓤 H (𝓖 .A) (givenOf 𝓤 H 𝓜 𝓖) (𝓜 .mem) (𝓡 .run) (tablesOf 𝓤 H 𝓜 (tables 𝓤 H 𝓜 𝓡 code.env))
-    (cited 𝓤 H (Callee 𝓤 H (𝓖 .A) (𝓜 .mem) (𝓡 .run)) 𝓜 𝓡 code.env #attach·attaching g-def.routine code.calls-attach·attaching (g-thm.met 𝓤 H 𝓜 𝓖 𝓡)))
+    (cited 𝓤 H (Callee 𝓤 H (𝓖 .A) (𝓜 .mem) (𝓡 .run)) 𝓜 𝓡 code.env #station·attaching g-def.routine code.calls-station·attaching (g-thm.met 𝓤 H 𝓜 𝓖 𝓡)))

@@ -43,17 +43,17 @@ use Rattle.form.specs.Reading.{refusalOf}
 use Rattle.station.specs.Attachment.{detachRefusal, detachStation, detachSeat}
 use Rattle.station.specs.declared.Station.{Station}
 use Rattle.form.specs.declared.Refusal.{Refusal}
-use Rattle.detach.specs.declared.Detached.{Detached}
+use Rattle.station.specs.declared.Detached.{Detached}
 use Rattle.station.proofs.Station as T-Station
 use Rattle.station.proofs.Station.Laws as T′-Station
 use Rattle.form.proofs.Refusal as T-Refusal
 use Rattle.form.proofs.Refusal.Laws as T′-Refusal
-use Rattle.detach.proofs.Detached as U
-use Rattle.detach.proofs.Detached.Laws as U′
-use Rattle.detach.proofs.detaching as g
-use Rattle.detach.proofs.detaching.Symbol as g-def
-use Rattle.detach.proofs.detaching.Symbol.{name as #detach·detaching}
-use Rattle.detach.proofs.detaching.Met as g-thm
+use Rattle.station.proofs.Detached as U
+use Rattle.station.proofs.Detached.Laws as U′
+use Rattle.station.proofs.detaching as g
+use Rattle.station.proofs.detaching.Symbol as g-def
+use Rattle.station.proofs.detaching.Symbol.{name as #station·detaching}
+use Rattle.station.proofs.detaching.Met as g-thm
 use Rattle.callbridge.proofs.cb_detach.Key.{name as #callbridge·cb-detach}
 use Rattle.callbridge.proofs.cb_detach as f
 use Rattle.callbridge.proofs.cb_detach.Statement as stated
@@ -115,7 +115,7 @@ module _ {M : Type 1} (𝓤 : URA M) (H : Heap 𝓤) (A : Atoms 𝓤) (W : Given
       nothing ! $ move ! (5 ∷ 0 ∷ []) $ join ! $ move ! (4 ∷ 0 ∷ []) $ join ! $ frame ! $
       nothing ! $ move ! (3 ∷ 0 ∷ []) $ fjoin ! $ move ! (1 ∷ 2 ∷ 0 ∷ []) $ feqI ! (List Val) (vptr b0 o0 ∷ []) (vptr b0 o0 ∷ []) refl $ fjoin3 ! $ fjoin ! $ frame ! $ owned ! T-Refusal.the-row (Is T-Refusal.the-row) (LL.makes T-Refusal.the-type T′-Refusal.the-plain 𝓤 H A) (r .refusal) (mach-Refusal (r .refusal)) fits $ done !
 
-  module _ (C : Calls 𝓤 H) (Λ : Loops 𝓤 H) (fm : FmC 𝓤 H (W .laws) C) (known : Triple 𝓤 (C #detach·detaching) (Callee 𝓤 H A at-mem run)) where
+  module _ (C : Calls 𝓤 H) (Λ : Loops 𝓤 H) (fm : FmC 𝓤 H (W .laws) C) (known : Triple 𝓤 (C #station·detaching) (Callee 𝓤 H A at-mem run)) where
     walk : Room u8 (length (seat .now)) → ent 𝓤 (onEntry 𝓤 H A f.signature (κ₀, (κ₁, tt)) (q₀, (q₁, tt)) a vals) (WpFn 𝓤 H C Λ code.function (vptr b0 o0 ∷ v1 ∷ []) Post)
     walk room1 =
         qed W ((‵ (flft κ₀ q₀) ⊛ ‵ (flft κ₁ q₁) ⊛ ‵ ftrue) ∷ ‵ (owns (MutRef (named 0) κ₀ T-Station.the-row ∷ MutSlice (named 1) κ₁ u8 ∷ []) a vals) ∷ []) ∵ enter ! C Λ code.function (vptr b0 o0 ∷ v1 ∷ []) _ $
@@ -141,14 +141,14 @@ module _ {M : Type 1} (𝓤 : URA M) (H : Heap 𝓤) (A : Atoms 𝓤) (W : Given
         keep ! (0 ∷ 1 ∷ 6 ∷ 2 ∷ 5 ∷ []) $ by ! (exits r (zs .1 .0) e l1 (LL.owed U.the-type U′.the-laws r _ is .1 .0)))))))))))))))))
 
 module _ {M : Type 1} (𝓤 : URA M) (H : Heap 𝓤) (A : Atoms 𝓤) (W : Given 𝓤 H A) (mem : Memory → SProp 𝓤) (run : Routine → Fun 𝓤) where
-  cb-detach-walks : (C : Calls 𝓤 H) (Λ : Loops 𝓤 H) → FmC 𝓤 H (W .laws) C → Triple 𝓤 (C #detach·detaching) (Callee 𝓤 H A mem run) → Walks 𝓤 H A f.ended stayed (WpFn 𝓤 H C Λ code.function) (f.clauses 𝓤 H A mem run)
+  cb-detach-walks : (C : Calls 𝓤 H) (Λ : Loops 𝓤 H) → FmC 𝓤 H (W .laws) C → Triple 𝓤 (C #station·detaching) (Callee 𝓤 H A mem run) → Walks 𝓤 H A f.ended stayed (WpFn 𝓤 H C Λ code.function) (f.clauses 𝓤 H A mem run)
   cb-detach-walks C Λ fm known = walked 𝓤 H A f.ended stayed (f.clauses 𝓤 H A mem run) (WpFn 𝓤 H C Λ code.function) (λ κs. (ptr-vals, (slice-vals, tt))) (λ κs. (mut-tells (named 0) (κs .0) T-Station.the-row, (mut-slice-tells (named 1) (κs .1 .0) u8, tt)))
       (λ κs qs bounds a _ are. via 𝓤 _ (fst∗ 𝓤 _ (emp 𝓤)) (walk 𝓤 H A W mem run (κs .0) (κs .1 .0) (qs .0) (qs .1 .0) (a .0 .ptr .0) (a .0 .ptr .1) (a .0 .name) (a .0 .now) (a .1 .0) C Λ fm known (are .1 .0 .0 .1)))
 
   goes : AllGo 𝓤 H A W 2 (f.signature .params) (f.ended .kept) stayed
   goes = (goes-ref 𝓤 H A W 2 0 tt (plain (λ _. T-Station.the-row)), (goes-gave-slice 𝓤 H A W 2 1 tt (plain (λ _. u8)), tt))
 
-cb-detach-meets : {M : Type 1} (𝓤 : URA M) (H : Heap 𝓤) (A : Atoms 𝓤) → Given 𝓤 H A → (mem : Memory → SProp 𝓤) (run : Routine → Fun 𝓤) (𝓣 : Tables 𝓤 H) → Triple 𝓤 (𝓣 .C #detach·detaching) (Callee 𝓤 H A mem run)
+cb-detach-meets : {M : Type 1} (𝓤 : URA M) (H : Heap 𝓤) (A : Atoms 𝓤) → Given 𝓤 H A → (mem : Memory → SProp 𝓤) (run : Routine → Fun 𝓤) (𝓣 : Tables 𝓤 H) → Triple 𝓤 (𝓣 .C #station·detaching) (Callee 𝓤 H A mem run)
     → Meets 𝓤 H A f.signature (WpFn 𝓤 H (𝓣 .C) (𝓣 .Λ) code.function) (f.spec 𝓤 H A mem run)
 cb-detach-meets 𝓤 H A W mem run 𝓣 known = walk-meets 𝓤 H A f.ended stayed W (goes 𝓤 H A W mem run) (f.clauses 𝓤 H A mem run) (WpFn 𝓤 H (𝓣 .C) (𝓣 .Λ) code.function) (WpFn-mono 𝓤 H (W .laws) 𝓣 code.function) (cb-detach-walks 𝓤 H A W mem run (𝓣 .C) (𝓣 .Λ) (fmOf 𝓤 H (W .laws) 𝓣) known)
 
@@ -158,4 +158,4 @@ cb-detach-spec 𝓤 H 𝓜 𝓖 𝓡 =
     entered 𝓤 H (tripleOf 𝓤 H (𝓖 .A) f.signature (f.spec 𝓤 H (𝓖 .A) (𝓜 .mem) (𝓡 .run)))
     (tables 𝓤 H 𝓜 𝓡 code.env .C) (tables 𝓤 H 𝓜 𝓡 code.env .Λ) #callbridge·cb-detach code.function (code.unfolded 𝓤 H 𝓜 𝓡)
     (cb-detach-meets 𝓤 H (𝓖 .A) (givenOf 𝓤 H 𝓜 𝓖) (𝓜 .mem) (𝓡 .run) (tablesOf 𝓤 H 𝓜 (tables 𝓤 H 𝓜 𝓡 code.env))
-    (cited 𝓤 H (Callee 𝓤 H (𝓖 .A) (𝓜 .mem) (𝓡 .run)) 𝓜 𝓡 code.env #detach·detaching g-def.routine code.calls-detach·detaching (g-thm.met 𝓤 H 𝓜 𝓖 𝓡)))
+    (cited 𝓤 H (Callee 𝓤 H (𝓖 .A) (𝓜 .mem) (𝓡 .run)) 𝓜 𝓡 code.env #station·detaching g-def.routine code.calls-station·detaching (g-thm.met 𝓤 H 𝓜 𝓖 𝓡)))

@@ -40,26 +40,26 @@ use denote.Triple.Clauses.{ensured, lasts}
 use denote.Triple.Table.{entered, cited}
 use denote.Triple.Walked.{says, Stays, stay-ref, stay-none-ref, stay-none-slice, walkOf, AllGo, goes-ref, goes-none-ref, goes-none-slice, Walks, ends-at, walked, walk-meets}
 use denote.Exit.{yes}
-use Rattle.outcomes.specs.Outcome.{refusalIn, leftIn}
+use Rattle.flat.specs.Outcome.{refusalIn, leftIn}
 use Rattle.station.specs.Paper.{kcb}
-use Rattle.walked.specs.Walked.{openGiven}
+use Rattle.flat.specs.Walked.{openGiven}
 use Rattle.walk.specs.Steps.{openAnswer}
 use Rattle.station.specs.declared.Station.{Station}
 use Rattle.walk.specs.declared.Walk.{Walk}
 use Rattle.form.specs.declared.Refusal.{Refusal}
-use Rattle.walked.specs.declared.GivenWalk.{GivenWalk}
+use Rattle.flat.specs.declared.walk_calls.GivenWalk.{GivenWalk}
 use Rattle.station.proofs.Station as T-Station
 use Rattle.station.proofs.Station.Laws as T′-Station
 use Rattle.walk.proofs.Walk as T-Walk
 use Rattle.walk.proofs.Walk.Laws as T′-Walk
 use Rattle.form.proofs.Refusal as T-Refusal
 use Rattle.form.proofs.Refusal.Laws as T′-Refusal
-use Rattle.walked.proofs.GivenWalk as U
-use Rattle.walked.proofs.GivenWalk.Laws as U′
-use Rattle.walking.proofs.give_walk as g
-use Rattle.walking.proofs.give_walk.Symbol as g-def
-use Rattle.walking.proofs.give_walk.Symbol.{name as #walking·give-walk}
-use Rattle.walking.proofs.give_walk.Met as g-thm
+use Rattle.flat.proofs.walk_calls.GivenWalk as U
+use Rattle.flat.proofs.walk_calls.GivenWalk.Laws as U′
+use Rattle.flat.proofs.give_walk as g
+use Rattle.flat.proofs.give_walk.Symbol as g-def
+use Rattle.flat.proofs.give_walk.Symbol.{name as #flat·give-walk}
+use Rattle.flat.proofs.give_walk.Met as g-thm
 use Rattle.callbridge.proofs.cb_open_walk.Key.{name as #callbridge·cb-open-walk}
 use Rattle.callbridge.proofs.cb_open_walk as f
 use Rattle.callbridge.proofs.cb_open_walk.Statement as stated
@@ -127,7 +127,7 @@ module _ {M : Type 1} (𝓤 : URA M) (H : Heap 𝓤) (A : Atoms 𝓤) (W : Given
       nothing ! $ move ! (8 ∷ 0 ∷ []) $ join ! $ move ! (7 ∷ 0 ∷ []) $ join ! $ move ! (6 ∷ 0 ∷ []) $ join ! $ frame ! $
       nothing ! $ move ! (4 ∷ 5 ∷ 0 ∷ []) $ feqI ! (List Val) (vptr b2 o2 ∷ []) (vptr b2 o2 ∷ []) refl $ fjoin3 ! $ fjoin ! $ move ! (3 ∷ 0 ∷ []) $ fjoin ! $ move ! (1 ∷ 2 ∷ 0 ∷ []) $ feqI ! (List Val) (vptr b0 o0 ∷ []) (vptr b0 o0 ∷ []) refl $ fjoin3 ! $ fjoin ! $ frame ! $ owned ! T-Refusal.the-row (Is T-Refusal.the-row) (LL.makes T-Refusal.the-type T′-Refusal.the-plain 𝓤 H A) (r .refusal) (mach-Refusal (r .refusal)) fits $ done !
 
-  module _ (C : Calls 𝓤 H) (Λ : Loops 𝓤 H) (fm : FmC 𝓤 H (W .laws) C) (known : Triple 𝓤 (C #walking·give-walk) (Callee 𝓤 H A at-mem run)) where
+  module _ (C : Calls 𝓤 H) (Λ : Loops 𝓤 H) (fm : FmC 𝓤 H (W .laws) C) (known : Triple 𝓤 (C #flat·give-walk) (Callee 𝓤 H A at-mem run)) where
     goes-through : Room u8 (length (seat .now)) → ent 𝓤 (onEntry 𝓤 H A f.signature (κ₀, (κ₁, (κ₂, tt))) (q₀, (q₁, (q₂, tt))) a vals) (WpFn 𝓤 H C Λ code.function (vptr b0 o0 ∷ v1 ∷ vptr b2 o2 ∷ []) Post)
     goes-through room1 =
         qed W ((‵ (flft κ₀ q₀) ⊛ ‵ (flft κ₁ q₁) ⊛ ‵ (flft κ₂ q₂) ⊛ ‵ ftrue) ∷ ‵ (owns (ShrRef (named 0) κ₀ T-Station.the-row ∷ ShrSlice (named 1) κ₁ u8 ∷ MutRef (named 2) κ₂ T-Walk.the-row ∷ []) a vals) ∷ []) ∵ enter ! C Λ code.function (vptr b0 o0 ∷ v1 ∷ vptr b2 o2 ∷ []) _ $
@@ -153,14 +153,14 @@ module _ {M : Type 1} (𝓤 : URA M) (H : Heap 𝓤) (A : Atoms 𝓤) (W : Given
         keep ! (11 ∷ 10 ∷ 7 ∷ 0 ∷ 1 ∷ 8 ∷ 5 ∷ 2 ∷ []) $ by ! (exits r e (LL.owed U.the-type U′.the-laws r _ is .1 .0))))))))))))))))))
 
 module _ {M : Type 1} (𝓤 : URA M) (H : Heap 𝓤) (A : Atoms 𝓤) (W : Given 𝓤 H A) (mem : Memory → SProp 𝓤) (run : Routine → Fun 𝓤) where
-  cb-open-walk-walks : (C : Calls 𝓤 H) (Λ : Loops 𝓤 H) → FmC 𝓤 H (W .laws) C → Triple 𝓤 (C #walking·give-walk) (Callee 𝓤 H A mem run) → Walks 𝓤 H A f.ended stayed (WpFn 𝓤 H C Λ code.function) (f.clauses 𝓤 H A mem run)
+  cb-open-walk-walks : (C : Calls 𝓤 H) (Λ : Loops 𝓤 H) → FmC 𝓤 H (W .laws) C → Triple 𝓤 (C #flat·give-walk) (Callee 𝓤 H A mem run) → Walks 𝓤 H A f.ended stayed (WpFn 𝓤 H C Λ code.function) (f.clauses 𝓤 H A mem run)
   cb-open-walk-walks C Λ fm known = walked 𝓤 H A f.ended stayed (f.clauses 𝓤 H A mem run) (WpFn 𝓤 H C Λ code.function) (λ κs. (ptr-vals, (slice-vals, (ptr-vals, tt)))) (λ κs. (shr-tells (named 0) (κs .0) T-Station.the-row, (shr-slice-tells (named 1) (κs .1 .0) u8, (mut-tells (named 2) (κs .1 .1 .0) T-Walk.the-row, tt))))
       (λ κs qs bounds a _ are. via 𝓤 _ (fst∗ 𝓤 _ (emp 𝓤)) (goes-through 𝓤 H A W mem run (κs .0) (κs .1 .0) (κs .1 .1 .0) (qs .0) (qs .1 .0) (qs .1 .1 .0) (a .0 .ptr .0) (a .0 .ptr .1) (a .0 .name) (a .0 .now) (a .1 .0) (a .1 .1 .0 .ptr .0) (a .1 .1 .0 .ptr .1) (a .1 .1 .0 .name) (a .1 .1 .0 .now) C Λ fm known (are .1 .0 .0 .1)))
 
   goes : AllGo 𝓤 H A W 3 (f.signature .params) (f.ended .kept) stayed
   goes = (goes-none-ref 𝓤 H A W 3 (0 ∷ []) tt (plain (λ _. T-Station.the-row)) yes, (goes-none-slice 𝓤 H A W 3 (1 ∷ []) tt (plain (λ _. u8)) yes, (goes-ref 𝓤 H A W 3 2 tt (plain (λ _. T-Walk.the-row)), tt)))
 
-cb-open-walk-meets : {M : Type 1} (𝓤 : URA M) (H : Heap 𝓤) (A : Atoms 𝓤) → Given 𝓤 H A → (mem : Memory → SProp 𝓤) (run : Routine → Fun 𝓤) (𝓣 : Tables 𝓤 H) → Triple 𝓤 (𝓣 .C #walking·give-walk) (Callee 𝓤 H A mem run)
+cb-open-walk-meets : {M : Type 1} (𝓤 : URA M) (H : Heap 𝓤) (A : Atoms 𝓤) → Given 𝓤 H A → (mem : Memory → SProp 𝓤) (run : Routine → Fun 𝓤) (𝓣 : Tables 𝓤 H) → Triple 𝓤 (𝓣 .C #flat·give-walk) (Callee 𝓤 H A mem run)
     → Meets 𝓤 H A f.signature (WpFn 𝓤 H (𝓣 .C) (𝓣 .Λ) code.function) (f.spec 𝓤 H A mem run)
 cb-open-walk-meets 𝓤 H A W mem run 𝓣 known = walk-meets 𝓤 H A f.ended stayed W (goes 𝓤 H A W mem run) (f.clauses 𝓤 H A mem run) (WpFn 𝓤 H (𝓣 .C) (𝓣 .Λ) code.function) (WpFn-mono 𝓤 H (W .laws) 𝓣 code.function) (cb-open-walk-walks 𝓤 H A W mem run (𝓣 .C) (𝓣 .Λ) (fmOf 𝓤 H (W .laws) 𝓣) known)
 
@@ -170,4 +170,4 @@ cb-open-walk-spec 𝓤 H 𝓜 𝓖 𝓡 =
     entered 𝓤 H (tripleOf 𝓤 H (𝓖 .A) f.signature (f.spec 𝓤 H (𝓖 .A) (𝓜 .mem) (𝓡 .run)))
     (tables 𝓤 H 𝓜 𝓡 code.env .C) (tables 𝓤 H 𝓜 𝓡 code.env .Λ) #callbridge·cb-open-walk code.function (code.unfolded 𝓤 H 𝓜 𝓡)
     (cb-open-walk-meets 𝓤 H (𝓖 .A) (givenOf 𝓤 H 𝓜 𝓖) (𝓜 .mem) (𝓡 .run) (tablesOf 𝓤 H 𝓜 (tables 𝓤 H 𝓜 𝓡 code.env))
-    (cited 𝓤 H (Callee 𝓤 H (𝓖 .A) (𝓜 .mem) (𝓡 .run)) 𝓜 𝓡 code.env #walking·give-walk g-def.routine code.calls-walking·give-walk (g-thm.met 𝓤 H 𝓜 𝓖 𝓡)))
+    (cited 𝓤 H (Callee 𝓤 H (𝓖 .A) (𝓜 .mem) (𝓡 .run)) 𝓜 𝓡 code.env #flat·give-walk g-def.routine code.calls-flat·give-walk (g-thm.met 𝓤 H 𝓜 𝓖 𝓡)))

@@ -40,22 +40,22 @@ use denote.Triple.Clauses.{ensured, lasts}
 use denote.Triple.Table.{entered, cited}
 use denote.Triple.Walked.{says, Stays, stay-ref, gave-slice, stay-none-slice, walkOf, AllGo, goes-ref, goes-gave-slice, goes-none-slice, Walks, ends-at, walked, walk-meets}
 use denote.Exit.{yes}
-use Rattle.outcomes.specs.Outcome.{refusalIn, leftIn}
-use Rattle.brought.specs.Brought.{takenGiven}
+use Rattle.flat.specs.Outcome.{refusalIn, leftIn}
+use Rattle.flat.specs.Brought.{takenGiven}
 use Rattle.returning.specs.Answers.{takeAnswer, valueAfter}
-use Rattle.handed.specs.declared.Gathered.{Gathered}
+use Rattle.flat.specs.declared.moving_calls.Gathered.{Gathered}
 use Rattle.form.specs.declared.Refusal.{Refusal}
-use Rattle.handed.specs.declared.GivenGathered.{GivenGathered}
-use Rattle.handed.proofs.Gathered as T-Gathered
-use Rattle.handed.proofs.Gathered.Laws as T′-Gathered
+use Rattle.flat.specs.declared.moving_calls.GivenGathered.{GivenGathered}
+use Rattle.flat.proofs.moving_calls.Gathered as T-Gathered
+use Rattle.flat.proofs.moving_calls.Gathered.Laws as T′-Gathered
 use Rattle.form.proofs.Refusal as T-Refusal
 use Rattle.form.proofs.Refusal.Laws as T′-Refusal
-use Rattle.handed.proofs.GivenGathered as U
-use Rattle.handed.proofs.GivenGathered.Laws as U′
-use Rattle.bringing.proofs.give_taken as g
-use Rattle.bringing.proofs.give_taken.Symbol as g-def
-use Rattle.bringing.proofs.give_taken.Symbol.{name as #bringing·give-taken}
-use Rattle.bringing.proofs.give_taken.Met as g-thm
+use Rattle.flat.proofs.moving_calls.GivenGathered as U
+use Rattle.flat.proofs.moving_calls.GivenGathered.Laws as U′
+use Rattle.flat.proofs.give_taken as g
+use Rattle.flat.proofs.give_taken.Symbol as g-def
+use Rattle.flat.proofs.give_taken.Symbol.{name as #flat·give-taken}
+use Rattle.flat.proofs.give_taken.Met as g-thm
 use Rattle.callbridge.proofs.cb_take_returned.Key.{name as #callbridge·cb-take-returned}
 use Rattle.callbridge.proofs.cb_take_returned as f
 use Rattle.callbridge.proofs.cb_take_returned.Statement as stated
@@ -129,7 +129,7 @@ module _ {M : Type 1} (𝓤 : URA M) (H : Heap 𝓤) (A : Atoms 𝓤) (W : Given
       nothing ! $ move ! (9 ∷ 0 ∷ []) $ join ! $ move ! (8 ∷ 0 ∷ []) $ join ! $ move ! (7 ∷ 0 ∷ []) $ join ! $ move ! (6 ∷ 0 ∷ []) $ join ! $ frame ! $
       nothing ! $ move ! (4 ∷ 5 ∷ 0 ∷ []) $ feqI ! (List Val) (vptr b3 o3 ∷ []) (vptr b3 o3 ∷ []) refl $ fjoin3 ! $ fjoin ! $ move ! (3 ∷ 0 ∷ []) $ fjoin ! $ move ! (2 ∷ 0 ∷ []) $ fjoin ! $ move ! (1 ∷ 0 ∷ []) $ fjoin ! $ frame ! $ owned ! T-Refusal.the-row (Is T-Refusal.the-row) (LL.makes T-Refusal.the-type T′-Refusal.the-plain 𝓤 H A) (r .refusal) (mach-Refusal (r .refusal)) fits $ done !
 
-  module _ (C : Calls 𝓤 H) (Λ : Loops 𝓤 H) (fm : FmC 𝓤 H (W .laws) C) (known : Triple 𝓤 (C #bringing·give-taken) (Callee 𝓤 H A at-mem run)) where
+  module _ (C : Calls 𝓤 H) (Λ : Loops 𝓤 H) (fm : FmC 𝓤 H (W .laws) C) (known : Triple 𝓤 (C #flat·give-taken) (Callee 𝓤 H A at-mem run)) where
     walk : Room u8 (length (d .now)) → Room u8 (length (image .now)) → Room u8 (length (value .now)) → ent 𝓤 (onEntry 𝓤 H A f.signature (κ₀, (κ₁, (κ₂, (κ₃, tt)))) (q₀, (q₁, (q₂, (q₃, tt)))) a vals) (WpFn 𝓤 H C Λ code.function (v0 ∷ v1 ∷ v2 ∷ vptr b3 o3 ∷ []) Post)
     walk room0 room1 room2 =
         qed W ((‵ (flft κ₀ q₀) ⊛ ‵ (flft κ₁ q₁) ⊛ ‵ (flft κ₂ q₂) ⊛ ‵ (flft κ₃ q₃) ⊛ ‵ ftrue) ∷ ‵ (owns (ShrSlice (named 0) κ₀ u8 ∷ ShrSlice (named 1) κ₁ u8 ∷ MutSlice (named 2) κ₂ u8 ∷ MutRef (named 3) κ₃ T-Gathered.the-row ∷ []) a vals) ∷ []) ∵ enter ! C Λ code.function (v0 ∷ v1 ∷ v2 ∷ vptr b3 o3 ∷ []) _ $
@@ -155,14 +155,14 @@ module _ {M : Type 1} (𝓤 : URA M) (H : Heap 𝓤) (A : Atoms 𝓤) (W : Given
         keep ! (12 ∷ 13 ∷ 8 ∷ 0 ∷ 1 ∷ 7 ∷ 6 ∷ 5 ∷ 2 ∷ []) $ by ! (exits r (zs .1 .1 .0) e l2 (LL.owed U.the-type U′.the-laws r _ is .1 .0)))))))))))))))))))
 
 module _ {M : Type 1} (𝓤 : URA M) (H : Heap 𝓤) (A : Atoms 𝓤) (W : Given 𝓤 H A) (mem : Memory → SProp 𝓤) (run : Routine → Fun 𝓤) where
-  cb-take-returned-walks : (C : Calls 𝓤 H) (Λ : Loops 𝓤 H) → FmC 𝓤 H (W .laws) C → Triple 𝓤 (C #bringing·give-taken) (Callee 𝓤 H A mem run) → Walks 𝓤 H A f.ended stayed (WpFn 𝓤 H C Λ code.function) (f.clauses 𝓤 H A mem run)
+  cb-take-returned-walks : (C : Calls 𝓤 H) (Λ : Loops 𝓤 H) → FmC 𝓤 H (W .laws) C → Triple 𝓤 (C #flat·give-taken) (Callee 𝓤 H A mem run) → Walks 𝓤 H A f.ended stayed (WpFn 𝓤 H C Λ code.function) (f.clauses 𝓤 H A mem run)
   cb-take-returned-walks C Λ fm known = walked 𝓤 H A f.ended stayed (f.clauses 𝓤 H A mem run) (WpFn 𝓤 H C Λ code.function) (λ κs. (slice-vals, (slice-vals, (slice-vals, (ptr-vals, tt))))) (λ κs. (shr-slice-tells (named 0) (κs .0) u8, (shr-slice-tells (named 1) (κs .1 .0) u8, (mut-slice-tells (named 2) (κs .1 .1 .0) u8, (mut-tells (named 3) (κs .1 .1 .1 .0) T-Gathered.the-row, tt)))))
       (λ κs qs bounds a _ are. via 𝓤 _ (fst∗ 𝓤 _ (emp 𝓤)) (walk 𝓤 H A W mem run (κs .0) (κs .1 .0) (κs .1 .1 .0) (κs .1 .1 .1 .0) (qs .0) (qs .1 .0) (qs .1 .1 .0) (qs .1 .1 .1 .0) (a .0) (a .1 .0) (a .1 .1 .0) (a .1 .1 .1 .0 .ptr .0) (a .1 .1 .1 .0 .ptr .1) (a .1 .1 .1 .0 .name) (a .1 .1 .1 .0 .now) C Λ fm known (are .0 .0 .1) (are .1 .0 .0 .1) (are .1 .1 .0 .0 .1)))
 
   goes : AllGo 𝓤 H A W 4 (f.signature .params) (f.ended .kept) stayed
   goes = (goes-none-slice 𝓤 H A W 4 (0 ∷ []) tt (plain (λ _. u8)) yes, (goes-none-slice 𝓤 H A W 4 (1 ∷ []) tt (plain (λ _. u8)) yes, (goes-gave-slice 𝓤 H A W 4 2 tt (plain (λ _. u8)), (goes-ref 𝓤 H A W 4 3 tt (plain (λ _. T-Gathered.the-row)), tt))))
 
-cb-take-returned-meets : {M : Type 1} (𝓤 : URA M) (H : Heap 𝓤) (A : Atoms 𝓤) → Given 𝓤 H A → (mem : Memory → SProp 𝓤) (run : Routine → Fun 𝓤) (𝓣 : Tables 𝓤 H) → Triple 𝓤 (𝓣 .C #bringing·give-taken) (Callee 𝓤 H A mem run)
+cb-take-returned-meets : {M : Type 1} (𝓤 : URA M) (H : Heap 𝓤) (A : Atoms 𝓤) → Given 𝓤 H A → (mem : Memory → SProp 𝓤) (run : Routine → Fun 𝓤) (𝓣 : Tables 𝓤 H) → Triple 𝓤 (𝓣 .C #flat·give-taken) (Callee 𝓤 H A mem run)
     → Meets 𝓤 H A f.signature (WpFn 𝓤 H (𝓣 .C) (𝓣 .Λ) code.function) (f.spec 𝓤 H A mem run)
 cb-take-returned-meets 𝓤 H A W mem run 𝓣 known = walk-meets 𝓤 H A f.ended stayed W (goes 𝓤 H A W mem run) (f.clauses 𝓤 H A mem run) (WpFn 𝓤 H (𝓣 .C) (𝓣 .Λ) code.function) (WpFn-mono 𝓤 H (W .laws) 𝓣 code.function) (cb-take-returned-walks 𝓤 H A W mem run (𝓣 .C) (𝓣 .Λ) (fmOf 𝓤 H (W .laws) 𝓣) known)
 
@@ -172,4 +172,4 @@ cb-take-returned-spec 𝓤 H 𝓜 𝓖 𝓡 =
     entered 𝓤 H (tripleOf 𝓤 H (𝓖 .A) f.signature (f.spec 𝓤 H (𝓖 .A) (𝓜 .mem) (𝓡 .run)))
     (tables 𝓤 H 𝓜 𝓡 code.env .C) (tables 𝓤 H 𝓜 𝓡 code.env .Λ) #callbridge·cb-take-returned code.function (code.unfolded 𝓤 H 𝓜 𝓡)
     (cb-take-returned-meets 𝓤 H (𝓖 .A) (givenOf 𝓤 H 𝓜 𝓖) (𝓜 .mem) (𝓡 .run) (tablesOf 𝓤 H 𝓜 (tables 𝓤 H 𝓜 𝓡 code.env))
-    (cited 𝓤 H (Callee 𝓤 H (𝓖 .A) (𝓜 .mem) (𝓡 .run)) 𝓜 𝓡 code.env #bringing·give-taken g-def.routine code.calls-bringing·give-taken (g-thm.met 𝓤 H 𝓜 𝓖 𝓡)))
+    (cited 𝓤 H (Callee 𝓤 H (𝓖 .A) (𝓜 .mem) (𝓡 .run)) 𝓜 𝓡 code.env #flat·give-taken g-def.routine code.calls-flat·give-taken (g-thm.met 𝓤 H 𝓜 𝓖 𝓡)))

@@ -5,10 +5,10 @@ use Prim.Native.Nat.{_-_}
 use native.Mathlib.Omega.{arith}
 use borrow.Author.Needs.{needs}
 use denote.Ref.{now}
-use Rattle.begun.specs.Lists.{listUsed, begunOf}
-use Rattle.begun.proofs.Lists.{begun-count, begun-used, turn-accepted, turn-asks, turn-used}
-use Rattle.begun.specs.declared.Begun.{Begun}
-use Rattle.arguments.specs.declared.Step.{Step}
+use Rattle.layout.specs.Lists.{listUsed, begunOf}
+use Rattle.layout.proofs.Lists.{begun-count, begun-used, turn-accepted, turn-asks, turn-used}
+use Rattle.layout.specs.declared.lent_list.Begun.{Begun}
+use Rattle.layout.specs.declared.placements.Step.{Step}
 use Rattle.layout_vectors.proofs.print_records.Statement.{statement}
 use Rattle.layout_vectors.proofs.print_records.Tie as tie
 

@@ -3,8 +3,8 @@
 use native.Mathlib.Omega.{arith}
 use borrow.Author.Needs.{needs}
 use denote.Ref.{now}
-use Rattle.lines.proofs.Lines.{laid-is}
-use Rattle.lines.proofs.Small.{headed, layout-small, named-small}
+use Rattle.listing.proofs.Lines.{laid-is}
+use Rattle.listing.proofs.Small.{headed, layout-small, named-small}
 use Rattle.listing.proofs.put_laid.Statement.{statement}
 use Rattle.listing.proofs.put_laid.Tie as tie
 

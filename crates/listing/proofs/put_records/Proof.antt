@@ -4,8 +4,8 @@ use Prim.Native.Nat.{_-_, _<_}
 use native.Mathlib.Omega.{arith}
 use borrow.Author.Needs.{needs}
 use denote.Ref.{now}
-use Rattle.lines.proofs.Lines.{Going, going-first, going-asks, going-record, going-next, going-last}
-use Rattle.lines.proofs.Small.{record-small, few-records, headed}
+use Rattle.listing.proofs.Lines.{Going, going-first, going-asks, going-record, going-next, going-last}
+use Rattle.listing.proofs.Small.{record-small, few-records, headed}
 use Rattle.description.specs.Description.{argumentsIn}
 use Rattle.places.specs.Places.{next}
 use Rattle.listing.proofs.put_records.Statement.{statement}

@@ -7,7 +7,7 @@ use lib.ListN.{length}
 use denote.Ref.{now}
 use Rattle.text.proofs.Written.{wrote-more}
 use Rattle.layout.proofs.Layouts.{laid-accepted}
-use Rattle.lines.proofs.Lines.{accepted-laid, listing-length, listing-short, listing-bytes}
+use Rattle.listing.proofs.Lines.{accepted-laid, listing-length, listing-short, listing-bytes}
 use Rattle.layout.specs.declared.LayoutAnswer.the-variants.{Laid, Refused}
 use Rattle.listing.proofs.write_listing.Statement.{statement}
 use Rattle.listing.proofs.write_listing.Tie as tie

@@ -1,4 +1,0 @@
-pub mod Arguments
-pub mod Bounds
-pub mod Steps
-pub mod Loop

@@ -1,3 +1,0 @@
-pub mod Arguments
-pub mod Placements
-pub mod Asks

@@ -1,0 +1,94 @@
+// The classes of all types of a description (document 01, "Classes of aggregates"), put into the table of types.
+// They are worked out from number 0 upward, and each answer that is finished is looked up from then on: no description takes long.
+use crate::aggregates;
+use crate::words;
+use classes::Class;
+use units::Bytes;
+ghost use mathlib.Core.Path.{_≡_};
+ghost use Prim.Native.Nat.{_<_};
+ghost use Rattle.description.specs.Description.{typesIn, kindAt};
+ghost use Rattle.types.specs.Asks.{Sized};
+ghost use Rattle.types.specs.Decode.{tyAt};
+ghost use Rattle.types.specs.Large.{typesRefusal};
+ghost use Rattle.types.specs.Table.{filled, Sizes};
+ghost use Rattle.classify.specs.Classify.{classesOf};
+ghost use Rattle.classify.specs.Asks.{AskType};
+ghost use Rattle.classify.specs.Table.{wordOf, Right, Ready, fullEntry, Tabled};
+
+// The classes of type k and what they ask for, in one number, of an aggregate: "Over 16 bytes: MEMORY".
+fn aggregate_word(d: &[u8], k: usize, table: &[u32; 64], finished: &[u8; 512]) -> u32
+    requires { ⌜ AskType (now d) k 0 × (kindAt (now d) k ≡ 0 → ⊥) × Ready (now d) (now table) (now finished) k ⌝ }
+    ensures { λ r. ⌜ r ≡ wordOf (classesOf (tyAt (now (d .entry)) k)) ⌝ }
+{
+    let extent = types::extent_in(table, k);
+    if units::over(extent.size, Bytes(16)) {
+        return words::word_of([Class::Memory, Class::NoClass]);
+    }
+    let classes = aggregates::work_out(d, k, Bytes(0), table, finished, k);
+    words::word_of(classes)
+}
+
+// The same of any type.
+fn word_at(d: &[u8], k: usize, table: &[u32; 64], finished: &[u8; 512]) -> u32
+    requires { ⌜ AskType (now d) k 0 × Ready (now d) (now table) (now finished) k ⌝ }
+    ensures { λ r. ⌜ r ≡ wordOf (classesOf (tyAt (now (d .entry)) k)) ⌝ }
+{
+    let kind = description::kind_at(d, k);
+    if kind != 0 {
+        return aggregate_word(d, k, table, finished);
+    }
+    let code = description::a_at(d, k);
+    words::basic_word(code)
+}
+
+// The finished answer for type k at offset `at`.
+fn finish_at(d: &[u8], k: usize, at: usize, table: &[u32; 64], finished: &mut [u8; 512])
+    requires { ⌜ AskType (now d) k at × (at < 8) × Ready (now d) (now table) (now finished) k ⌝ }
+    ensures { λ _. ⌜ Right (now (d .entry)) (now (finished .exit)) ⌝ }
+{
+    let classes = aggregates::work_out(d, k, Bytes(at), table, finished, k);
+    finished[8 * k + at] = words::pack(classes);
+}
+
+// The finished answers for type k: at each offset at which it lies in both eightbytes; a basic type needs none.
+fn finish(d: &[u8], k: usize, table: &[u32; 64], finished: &mut [u8; 512])
+    requires { ⌜ Sized (now d) k × Ready (now d) (now table) (now finished) k ⌝ }
+    ensures { λ _. ⌜ Right (now (d .entry)) (now (finished .exit)) ⌝ }
+{
+    if description::kind_at(d, k) == 0 {
+        return;
+    }
+    let extent = types::extent_in(table, k);
+    let size = extent.size.0;
+    let step = extent.align.0;
+    let mut at = step;
+    while at < 8 {
+        let here = at;
+        at += step;
+        if here + size <= 8 {
+            continue;
+        }
+        if 16 < here + size {
+            continue;
+        }
+        finish_at(d, k, here, table, finished);
+    }
+}
+
+// Works out the classes of each type, from number 0 upward, and puts them into the table.
+pub fn fill_classes(d: &[u8], table: &mut [u32; 64])
+    requires { ⌜ (typesRefusal (now d) ≡ 0) × Sizes (now d) (typesIn (now d)) (now table) ⌝ }
+    ensures { λ _. ⌜ (now (table .exit) ≡ filled (fullEntry (now (d .entry))) (typesIn (now (d .entry))) (now (table .entry)))
+        × Tabled (now (d .entry)) (now (table .exit)) ⌝ }
+{
+    types::entries(table);
+    let types = description::byte_at(d, 5);
+    let mut finished = [0u8; 512];
+    let mut k = 0;
+    while k < types {
+        finish(d, k, table, &mut finished);
+        let word = word_at(d, k, table, &finished);
+        table[k] = words::with_word(table[k], word);
+        k += 1;
+    }
+}

@@ -1,0 +1,38 @@
+-- cb_lay_out: the lent list of flat records. Assumes nothing: these are definitions.
+use mathlib.Core.List.{List}
+use Prim.Native.Nat.{ℕ}
+use Rattle.description.specs.Description.{argumentsIn}
+use lib.ListN.{replicate}
+use Rattle.layout.specs.Layout.{tableAfter}
+use Rattle.places.specs.declared.Used.{Used}
+use Rattle.layout.specs.Placements.{stepAt, placementAt}
+use Rattle.layout.specs.Lists.{listAnswer, listCount, listUsed}
+use Rattle.flat.specs.declared.Layout.{Layout}
+use Rattle.flat.specs.declared.Placement.{Placement}
+use Rattle.flat.specs.Records.{placementOf}
+use Rattle.flat.specs.declared.layout_calls.ListBegun.{ListBegun}
+use Rattle.flat.specs.declared.layout_calls.FlatStep.{FlatStep}
+use Rattle.flat.specs.Outcome.{Outcome, refusalIn, leftIn}
+use Rattle.flat.specs.Given.{layoutGiven}
+
+-- the summary, for a list of so many records
+unfoldable pub listGiven : List ℕ → ℕ → Outcome Layout
+listGiven d room = layoutGiven (argumentsIn d) (listAnswer d room)
+
+-- the flat record of argument i
+unfoldable pub flatAt : List ℕ → ℕ → Placement
+flatAt d i = placementOf (placementAt d i)
+
+-- what is decided before the first record
+unfoldable pub listBegun : List ℕ → Layout → ℕ → ListBegun
+listBegun d before room = record {
+  layout = leftIn (listGiven d room) before;
+  refusal = refusalIn (listGiven d room);
+  count = listCount d room;
+  used = listUsed d room 0;
+  table = tableAfter d (replicate 64 0);
+}
+
+-- one record where u is used before it, and what is used after it
+unfoldable pub flatStep : List ℕ → Used → ℕ → FlatStep
+flatStep d u i = record { placement = placementOf (stepAt d u i .placement); used = stepAt d u i .used }

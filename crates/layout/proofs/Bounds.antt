@@ -1,0 +1,61 @@
+-- What bounds everything that an accepted description asks (A6), and the steps of the loop that lays it out. Assumes nothing.
+use mathlib.Core.Path.{_≡_}
+use mathlib.Core.List.{List}
+use Prim.Native.Nat.{ℕ, zero, suc, _+_, _-_, _≤_, _<_}
+use native.Mathlib.Omega.{arith}
+use Rattle.addresses.specs.Addresses.{All}
+use Rattle.description.specs.Description.{typesIn, argumentsIn, argumentAt}
+use Rattle.form.proofs.Form.{accepted-counts}
+use Rattle.types.proofs.Large.{accepted-form, accepted-small, accepted-sized}
+use Rattle.classify.specs.Asks.{AskType}
+use Rattle.uses.specs.Uses.{usesRefusal}
+use Rattle.uses.proofs.Uses.{accepted-types, accepted-typed}
+use Rattle.places.specs.declared.Used.{Used}
+use Rattle.places.specs.Shapes.{Shaped}
+use Rattle.places.specs.Places.{next}
+use Rattle.places.specs.Recorded.{Small, Room}
+use Rattle.places.proofs.Fits.{next-bounds}
+use Rattle.places.proofs.Offsets.{next-room}
+use Rattle.places.proofs.Guaranteed.{accepted-shaped, accepted-small-shape}
+use Rattle.layout.specs.Arguments.{shapeAt, shapesFrom, shapes}
+use Rattle.layout.specs.Asks.{Before}
+
+module _ (d : List ℕ) (right : usesRefusal d ≡ 0) where
+  pub arguments-few : argumentsIn d ≤ 64
+  arguments-few = accepted-counts d (accepted-form d (accepted-types d right)) .arguments
+
+  pub types-few : typesIn d ≤ 64
+  types-few = accepted-counts d (accepted-form d (accepted-types d right)) .types
+
+  pub argument-known : (i : ℕ) → i < argumentsIn d → argumentAt d i < typesIn d
+  argument-known i h = accepted-typed d right .below i h
+
+  -- a type below T can be classified as a whole
+  pub type-asked : (k : ℕ) → k < typesIn d → AskType d k 0
+  type-asked k h = record { sized = accepted-sized d (accepted-types d right) k h; fits = omega (arith, accepted-small d (accepted-types d right) k h) }
+
+  pub argument-small : (i : ℕ) → i < argumentsIn d → Small (shapeAt d i)
+  unfolding shapeAt
+  argument-small i h = accepted-small-shape d (accepted-types d right) (argumentAt d i) (argument-known i h)
+
+  pub argument-shaped : (i : ℕ) → i < argumentsIn d → Shaped (shapeAt d i)
+  unfolding shapeAt
+  argument-shaped i h = accepted-shaped d (accepted-types d right) (argumentAt d i) (argument-known i h)
+
+  -- each of the arguments asks for what classification guarantees
+  pub shapes-shaped : (n i : ℕ) → i + n ≤ argumentsIn d → All Shaped (shapesFrom d i n)
+  unfolding shapesFrom
+  shapes-shaped zero i h = tt
+  shapes-shaped (suc n) i h = (argument-shaped i (omega arith), shapes-shaped n (i + 1) (omega arith))
+
+  pub all-shaped : All Shaped (shapes d)
+  all-shaped = shapes-shaped (argumentsIn d) 0 (omega arith)
+
+  pub before-next : (i : ℕ) (u : Used) → i < argumentsIn d → Before i u → Before (i + 1) (next u (shapeAt d i))
+  before-next i u h b =
+      let k = next-bounds u (shapeAt d i) (b .general) (b .vector) in
+      record { general = k .0; vector = k .1; stack = omega (arith, next-room u (shapeAt d i) (argument-small i h), b .stack) }
+
+-- what place_next asks
+pub before-room : (i : ℕ) (u : Used) → i ≤ 64 → Before i u → Room u
+before-room i u h b = record { general = b .general; vector = b .vector; stack = omega (arith, b .stack) }

@@ -1,0 +1,119 @@
+// Before the first record of a list that the caller lends (document 01, "Places"): whether it is filled, 1 to 11, and how many records there are, as definitions and laws;
+// `lent_list` works them out.
+use crate::LayoutAnswer;
+use crate::deciding;
+use crate::placements;
+use crate::placements::Placement;
+use crate::placements::Step;
+use places::Used;
+ghost use mathlib.Core.Path.{_≡_};
+ghost use Prim.Native.Nat.{_≤_};
+ghost use Rattle.classify.specs.Table.{Tabled};
+ghost use Rattle.layout.specs.Verdict.{verdict};
+ghost use Rattle.layout.specs.Layout.{tableAfter};
+ghost use Rattle.layout.specs.Placements.{stepAt, placementAt};
+ghost use Rattle.layout.specs.Asks.{AskArgument};
+ghost use Rattle.layout.specs.Lists.{begunOf, openedOf, listAnswer, listCount, filled};
+ghost use lib.ListN.{length};
+
+// Before the first record: the answer, how many records there are, none for a refusal, and what is used.
+pub struct Begun {
+    pub answer: LayoutAnswer,
+    pub count: usize,
+    pub used: Used,
+}
+
+// The same, and the table that the records are made by.
+pub struct Opened {
+    pub answer: LayoutAnswer,
+    pub count: usize,
+    pub used: Used,
+    pub table: [u32; 64],
+}
+
+// Whether a list that the caller lends is filled, and the record of each argument (document 01, "Places").
+
+// Decides whether a list of `room` records is to be filled: 1 to 10, then 11 for a list that is shorter than A. With
+// `place_argument` it serves a caller that has no list to lend: that caller's table has what the records are made of.
+pub fn begin_with(d: &[u8], room: usize, table: &mut [u32; 64]) -> Begun
+    ensures { λ r. ⌜ (r ≡ begunOf (now (d .entry)) room) × (r .count ≤ room)
+        × (now (table .exit) ≡ tableAfter (now (d .entry)) (now (table .entry)))
+        × (verdict (now (d .entry)) ≡ 0 → Tabled (now (d .entry)) (now (table .exit))) ⌝ }
+{
+    let answer = deciding::layout_with(d, table);
+    let LayoutAnswer::Laid(layout) = answer else {
+        return Begun {
+            answer: answer,
+            count: 0,
+            used: places::fresh(false),
+        };
+    };
+    let arguments = description::byte_at(d, 8);
+    if room < arguments {
+        return Begun {
+            answer: LayoutAnswer::Refused(form::refusal_of(11)),
+            count: 0,
+            used: places::fresh(false),
+        };
+    }
+    Begun {
+        answer: answer,
+        count: arguments,
+        used: places::fresh(layout.hidden),
+    }
+}
+
+// The decision, with the table by value.
+pub fn open_list(d: &[u8], room: usize) -> Opened
+    ensures { λ r. ⌜ (r ≡ openedOf (now (d .entry)) room) × (r .count ≤ room)
+        × (verdict (now (d .entry)) ≡ 0 → Tabled (now (d .entry)) (r .table)) ⌝ }
+{
+    let mut table = [0u32; 64];
+    let head = begin_with(d, room, &mut table);
+    let answer = head.answer;
+    let used = head.used;
+    Opened {
+        answer: answer,
+        count: head.count,
+        used: used,
+        table: table,
+    }
+}
+
+// The record of argument i, and what is used after it, by a table by value.
+pub fn place_by(d: &[u8], used: Used, i: usize, opened: Opened) -> Step
+    requires { ⌜ AskArgument (now d) i used × Tabled (now d) (opened .table) ⌝ }
+    ensures { λ r. ⌜ r ≡ stepAt (now (d .entry)) used i ⌝ }
+{
+    let table = opened.table;
+    placements::place_argument(d, used, i, &table)
+}
+
+// The list of placement records that the caller lends (document 01, "Places"), filled.
+
+// Decides whether a list of `room` records is to be filled.
+pub fn begin(d: &[u8], room: usize) -> Begun
+    ensures { λ r. ⌜ (r ≡ begunOf (now (d .entry)) room) × (r .count ≤ room) ⌝ }
+{
+    let mut table = [0u32; 64];
+    begin_with(d, room, &mut table)
+}
+
+// Fills the list that the caller lends with one record for each argument; entries past A stay, and so does the whole list where
+// the answer is a refusal.
+pub fn lay_out(d: &[u8], list: &mut [Placement]) -> LayoutAnswer
+    ensures { λ r. ⌜ (r ≡ listAnswer (now (d .entry)) (length (now (list .entry))))
+        × (now (list .exit) ≡ filled (placementAt (now (d .entry))) (listCount (now (d .entry)) (length (now (list .entry)))) (now (list .entry))) ⌝ }
+{
+    let opened = open_list(d, list.len());
+    let n = opened.count;
+    let mut used = opened.used;
+    let mut i = 0;
+    while i < n {
+        let step = place_by(d, used, i, opened);
+        list[i] = step.placement;
+        used = step.used;
+        i += 1;
+    }
+    opened.answer
+}

@@ -1,1 +1,0 @@
-// What is judged of the lent buffers (document 01, "Refusal numbers"): 11 by their lengths, 12 by the bytes of _Bool arguments, as definitions and laws. There is no code here: `lent_lengths` judges the lengths, `bool_bytes` a byte, `broken_bools` those of all arguments.

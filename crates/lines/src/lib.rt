@@ -1,1 +1,0 @@
-// The lister's text (document 01, "The lister"), line after line, as definitions and laws. There is no code here: `head_line`, `line_writing`, `walk_line` and `refused_line` write them, `listing` the whole.

@@ -1,0 +1,4 @@
+pub mod Words
+pub mod PlaceWords
+pub mod Listing
+pub mod Asks

@@ -1,0 +1,118 @@
+// The lister's text (document 01, "The lister"), line after line, as definitions and laws. There is no code here: `line_writing`, `line_writing`, `line_writing` and `line_writing` write them, `listing` the whole.
+use crate::place_writing;
+use form::Refusal;
+use layout::Layout;
+use layout::Placement;
+use places::ReturnPlace;
+use places::Used;
+ghost use Prim.Native.Nat.{_+_, _≤_, _<_};
+ghost use Rattle.text.specs.Written.{Wrote};
+ghost use Rattle.listing.specs.Listing.{headLine, recordLine, typeWords, returnLine, walkLine, namesType, refusedLine};
+ghost use Rattle.listing.specs.Asks.{SmallLayout, SmallRecord, SmallUsed};
+ghost use lib.Dec.{eqb};
+ghost use mathlib.Core.Path.{_≡_};
+
+// The first line of the lister's text (document 01, "The lister"), written into a lent buffer from index `at` on; the answer is the index behind.
+
+// "Line one: version, A, N, registers used (hidden address included), vector count, area".
+pub fn put_head(out: &mut [u8; 4096], at: usize, all: usize, first: usize, layout: Layout) -> usize
+    requires { ⌜ (at + 60 ≤ 4096) × (all < 256) × (first < 256) × SmallLayout layout ⌝ }
+    ensures { λ r. ⌜ Wrote 60 (now (out .entry)) at (headLine all first layout) (now (out .exit)) r ⌝ }
+{
+    let general = layout.used.general;
+    let vector = layout.used.vector;
+    let area = layout.area;
+    let behind_all = text::put_number(out, at, b"KCB 1 args ", all);
+    let behind_named = text::put_number(out, behind_all, b" named ", first);
+    let behind_general = text::put_number(out, behind_named, b" gp ", general.0);
+    let behind_vector = text::put_number(out, behind_general, b" vec ", vector.0);
+    let behind_area = text::put_number(out, behind_vector, b" stack ", area.0);
+    text::put(out, behind_area, b"\n")
+}
+
+// The lines of the lister's text between the first and the last (document 01, "The lister"): that of an argument and that of the returned value, each written into a lent buffer: each function stores from index `at` on and
+// answers the index behind. `line_writing` has the first line, `line_writing` the last.
+
+// "Then per argument: position, type, size, alignment, place".
+pub fn put_record(out: &mut [u8; 4096], at: usize, i: usize, placement: Placement) -> usize
+    requires { ⌜ (at + 52 ≤ 4096) × (i < 64) × SmallRecord placement ⌝ }
+    ensures { λ r. ⌜ Wrote 52 (now (out .entry)) at (recordLine i placement) (now (out .exit)) r ⌝ }
+{
+    let ty = placement.ty as usize;
+    let size = placement.size;
+    let align = placement.align;
+    let place = placement.place;
+    let behind_position = text::put_number(out, at, b"", i);
+    let behind_type = text::put_number(out, behind_position, b" type ", ty);
+    let behind_size = text::put_number(out, behind_type, b" size ", size.0);
+    let behind_align = text::put_number(out, behind_size, b" align ", align.0);
+    let behind_place = place_writing::put_place(out, behind_align, place);
+    text::put(out, behind_place, b"\n")
+}
+
+// The returned type, where there is one: 255 is void.
+fn put_type(out: &mut [u8; 4096], at: usize, k: usize) -> usize
+    requires { ⌜ (at + 11 ≤ 4096) × (k < 256) ⌝ }
+    ensures { λ r. ⌜ Wrote 11 (now (out .entry)) at (typeWords (eqb k 255) k) (now (out .exit)) r ⌝ }
+{
+    if k == 255 {
+        return at;
+    }
+    text::put_number(out, at, b" type ", k)
+}
+
+// "`return void` or `return type K memory`".
+pub fn put_return(out: &mut [u8; 4096], at: usize, k: usize, place: ReturnPlace) -> usize
+    requires { ⌜ (at + 30 ≤ 4096) × (k < 256) ⌝ }
+    ensures { λ r. ⌜ Wrote 30 (now (out .entry)) at (returnLine k place) (now (out .exit)) r ⌝ }
+{
+    let next = text::put(out, at, b"return");
+    let behind_type = put_type(out, next, k);
+    let behind_place = place_writing::put_return_place(out, behind_type, place);
+    text::put(out, behind_place, b"\n")
+}
+
+// The last line of the lister's text, where a walk starts (document 01, "The lister"), written into a lent buffer from index `at` on; the answer is the index behind.
+
+// gp_offset, fp_offset and the overflow offset where a walk starts; "a plain function ends with `walk none`".
+pub fn put_walk(out: &mut [u8; 4096], at: usize, variadic: usize, named: Used) -> usize
+    requires { ⌜ (at + 34 ≤ 4096) × SmallUsed named ⌝ }
+    ensures { λ r. ⌜ Wrote 34 (now (out .entry)) at (walkLine variadic named) (now (out .exit)) r ⌝ }
+{
+    if variadic == 0 {
+        return text::put(out, at, b"walk none\n");
+    }
+    let general = units::general_bytes(named.general);
+    let vector = units::vector_bytes(named.vector);
+    let stack = named.stack;
+    let behind_general = text::put_number(out, at, b"walk gp ", general.0);
+    let behind_vector = text::put_number(out, behind_general, b" fp ", 48 + vector.0);
+    let behind_stack = text::put_number(out, behind_vector, b" over ", stack.0);
+    text::put(out, behind_stack, b"\n")
+}
+
+// The line of a refusal (document 01, "The lister"), written into a lent buffer.
+
+// Whether a refusal with this number names a type.
+fn names_type(number: u8) -> bool
+    ensures { λ r. ⌜ r ≡ namesType number ⌝ }
+{
+    if number == 6 {
+        return true;
+    }
+    number == 7
+}
+
+// The line of a refusal: `refused 8`, or `refused 6 type 12`. The number decides, since the type can be 0.
+pub fn put_refused(out: &mut [u8; 4096], refusal: Refusal) -> usize
+    ensures { λ r. ⌜ Wrote 25 (now (out .entry)) 0 (refusedLine refusal) (now (out .exit)) r ⌝ }
+{
+    let number = refusal.number;
+    let ty = refusal.ty;
+    let behind_number = text::put_number(out, 0, b"refused ", number as usize);
+    if names_type(number) {
+        let behind_type = text::put_number(out, behind_number, b" type ", ty as usize);
+        return text::put(out, behind_type, b"\n");
+    }
+    text::put(out, behind_number, b"\n")
+}

@@ -1,0 +1,75 @@
+-- `place_all` meets its contract. The invariant: what is left to place comes to what was to be placed at first.
+-- Assumes nothing.
+use mathlib.Core.Path.{_≡_}
+use Prim.Native.Nat.{_-_}
+use native.Mathlib.Omega.{arith}
+use Rattle.description.specs.Description.{argumentsIn}
+use Rattle.moving.proofs.Loops.{Placing, placing-first, placing-next, placing-last}
+use Rattle.moving.proofs.Turns.{whole, turn-type, turn-room-left, turn-small, turn-step, turn-move, turn-room}
+use Rattle.moving.proofs.filling.place_all.Statement.{statement}
+use Rattle.moving.proofs.filling.place_all.Tie as tie
+
+abbrev Inv-loop : tie.InvT-loop
+Inv-loop d values registers₀ stack₀ table arguments used₀ start₀ i₀ registers stack used start i = Placing d values registers₀ stack₀ registers stack used (start .0) i × (arguments ≡ argumentsIn d)
+
+abbrev μ-loop : tie.MeasureT-loop
+μ-loop d values registers₀ stack₀ table arguments used₀ start₀ i₀ registers stack used start i = arguments - i
+
+byte-at-requires : tie.Need-byte-at-requires Inv-loop μ-loop
+byte-at-requires c κs = omega (arith, whole _ (c .before .before .before .before .pre .0 .accepted) .headed)
+
+loop-holds : tie.Need-loop-holds Inv-loop μ-loop
+loop-holds c = (placing-first _ _ _ _ _ (c .before .before .before .before .before .pre .0) (c .before .before .before .before .before .pre .1), c .byte-at .ensures .0)
+
+argument-at-requires : tie.Need-argument-at-requires Inv-loop μ-loop
+argument-at-requires c κs = (whole _ (c .before .before .before .before .before .before .before .pre .0 .accepted), omega (arith, c .loop-test .taken, c .before .loop .inv .1))
+
+extent-in-requires : tie.Need-extent-in-requires Inv-loop μ-loop
+extent-in-requires c κs = turn-type _ _ _ _ (omega (arith, c .before .loop-test .taken, c .before .before .loop .inv .1)) (c .before .before .loop .inv .0 .turn) (c .before .before .before .before .before .before .before .before .pre .0 .accepted) _ (c .argument-at .ensures)
+
+next-place-requires : tie.Need-next-place-requires Inv-loop μ-loop
+next-place-requires c κs = (turn-type _ _ _ _ (omega (arith, c .before .before .before .loop-test .taken, c .before .before .before .before .loop .inv .1)) (c .before .before .before .before .loop .inv .0 .turn) (c .before .before .before .before .before .before .before .before .before .before .pre .0 .accepted) _ (c .before .before .argument-at .ensures), turn-room-left _ _ _ _ (omega (arith, c .before .before .before .loop-test .taken, c .before .before .before .before .loop .inv .1)) (c .before .before .before .before .loop .inv .0 .turn) _ (c .before .before .before .before .before .before .before .before .before .before .pre .2) (c .before .before .before .before .before .before .before .before .before .before .pre .0 .accepted) _ (c .before .before .argument-at .ensures), turn-small _ _ _ _ (omega (arith, c .before .before .before .loop-test .taken, c .before .before .before .before .loop .inv .1)) (c .before .before .before .before .loop .inv .0 .turn) _ (c .before .before .before .before .before .before .before .before .before .before .pre .2) (c .before .before .before .before .before .before .before .before .before .before .pre .0 .accepted) _ (c .before .before .argument-at .ensures), c .before .extent-in .ensures)
+
+place-one-requires : tie.Need-place-one-requires Inv-loop μ-loop
+place-one-requires c κs = turn-move _ _ _ _ (omega (arith, c .before .before .before .before .before .before .loop-test .taken, c .before .before .before .before .before .before .before .loop .inv .1)) (c .before .before .before .before .before .before .before .loop .inv .0 .turn) _ (turn-step _ _ _ _ (omega (arith, c .before .before .before .before .before .before .loop-test .taken, c .before .before .before .before .before .before .before .loop .inv .1)) (c .before .before .before .before .before .before .before .loop .inv .0 .turn) _ (c .before .before .before .before .before .before .before .before .before .before .before .before .before .pre .2) (c .before .before .before .before .before .before .before .before .before .before .before .before .before .pre .0 .accepted) _ (c .before .before .before .before .before .argument-at .ensures) (c .before .before .before .before .extent-in .result) (c .before .before .before .before .extent-in .ensures) (c .before .before .next-place .result) (c .before .before .next-place .ensures)) _ _ _ (c .before .before .before .before .before .before .before .loop .inv .0 .lent)
+
+plus-requires : tie.Need-plus-requires Inv-loop μ-loop
+plus-requires c κs = turn-room _ _ _ _ (omega (arith, c .before .before .before .before .before .before .before .before .before .before .before .loop-test .taken, c .before .before .before .before .before .before .before .before .before .before .before .before .loop .inv .1)) (c .before .before .before .before .before .before .before .before .before .before .before .before .loop .inv .0 .turn) _ (turn-step _ _ _ _ (omega (arith, c .before .before .before .before .before .before .before .before .before .before .before .loop-test .taken, c .before .before .before .before .before .before .before .before .before .before .before .before .loop .inv .1)) (c .before .before .before .before .before .before .before .before .before .before .before .before .loop .inv .0 .turn) _ (c .before .before .before .before .before .before .before .before .before .before .before .before .before .before .before .before .before .before .pre .2) (c .before .before .before .before .before .before .before .before .before .before .before .before .before .before .before .before .before .before .pre .0 .accepted) _ (c .before .before .before .before .before .before .before .before .before .before .argument-at .ensures) (c .before .before .before .before .before .before .before .before .before .extent-in .result) (c .before .before .before .before .before .before .before .before .before .extent-in .ensures) (c .before .before .before .before .before .before .before .next-place .result) (c .before .before .before .before .before .before .before .next-place .ensures)) _ _ _ (c .before .before .before .before .before .before .before .before .before .before .before .before .loop .inv .0 .lent)
+
+add-i : tie.Need-add-i Inv-loop μ-loop
+add-i c = omega arith
+
+loop-less : tie.Need-loop-less Inv-loop μ-loop
+loop-less c = omega arith
+
+loop-again : tie.Need-loop-again Inv-loop μ-loop
+loop-again c = (placing-next _ _ _ _ _ _ _ _ _ (omega (arith, c .before .before .before .before .before .before .before .before .before .before .before .before .before .loop-test .taken, c .before .before .before .before .before .before .before .before .before .before .before .before .before .before .loop .inv .1)) (c .before .before .before .before .before .before .before .before .before .before .before .before .before .before .loop .inv .0) _ (turn-step _ _ _ _ (omega (arith, c .before .before .before .before .before .before .before .before .before .before .before .before .before .loop-test .taken, c .before .before .before .before .before .before .before .before .before .before .before .before .before .before .loop .inv .1)) (c .before .before .before .before .before .before .before .before .before .before .before .before .before .before .loop .inv .0 .turn) _ (c .before .before .before .before .before .before .before .before .before .before .before .before .before .before .before .before .before .before .before .before .pre .2) (c .before .before .before .before .before .before .before .before .before .before .before .before .before .before .before .before .before .before .before .before .pre .0 .accepted) _ (c .before .before .before .before .before .before .before .before .before .before .before .before .argument-at .ensures) (c .before .before .before .before .before .before .before .before .before .before .before .extent-in .result) (c .before .before .before .before .before .before .before .before .before .before .before .extent-in .ensures) (c .before .before .before .before .before .before .before .before .before .next-place .result) (c .before .before .before .before .before .before .before .before .before .next-place .ensures)) _ (c .before .plus .ensures) _ _ (omega arith) (omega arith) (c .before .before .before .before .before .before .place-one .ensures), c .before .before .before .before .before .before .before .before .before .before .before .before .before .before .loop .inv .1)
+
+same-length : tie.Need-same-length Inv-loop μ-loop
+same-length c = omega arith
+
+same-length-2 : tie.Need-same-length-2 Inv-loop μ-loop
+same-length-2 c = omega arith
+
+returns : tie.Need-returns Inv-loop μ-loop
+returns c = placing-last _ _ _ _ _ _ _ _ _ (omega (arith, c .loop-test .left, c .before .loop .inv .1)) (c .before .loop .inv .0)
+
+pub place-all-spec : {M : Type 1} → statement M
+place-all-spec =
+    tie.close
+    (tie.spec
+    Inv-loop
+    μ-loop
+    byte-at-requires
+    loop-holds
+    argument-at-requires
+    extent-in-requires
+    next-place-requires
+    place-one-requires
+    plus-requires
+    add-i
+    loop-less
+    loop-again
+    same-length
+    same-length-2
+    returns)

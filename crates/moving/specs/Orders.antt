@@ -1,0 +1,62 @@
+-- When placing and gathering are refused: document 01, "Refusal numbers", "Placing and gathering: 1..10, 11, then 12 (placing only)".
+-- Of any bytes. Assumes nothing: these are definitions.
+use mathlib.Core.Path.{_≡_}
+use mathlib.Core.Bool.{Bool, not, _&&_, _||_}
+use mathlib.Core.List.{List, [], _∷_, _++_}
+use Prim.Native.Nat.{ℕ, _<_}
+use lib.Dec.{ltb, eqb}
+use lib.ListN.{length, getD}
+use Rattle.description.specs.Description.{argumentsIn, kindAt, aAt, argumentAt}
+use Rattle.form.specs.Search.{firstFrom}
+use Rattle.form.specs.Order.{first, numbered}
+use Rattle.layout.specs.declared.Layout.{Layout}
+use Rattle.layout.specs.Verdict.{verdictConditions}
+use Rattle.layout.specs.Layout.{layoutOf}
+use Rattle.moving.specs.Images.{valueStart}
+
+-- 11: "a lent buffer of wrong length". The values are those of all arguments, "the register image is 176 bytes", "the stack image is
+-- the rounded area"; neither less nor more
+unfoldable pub wrongLength : Layout → ℕ → ℕ → ℕ → Bool
+wrongLength l values registers stack = not (eqb values (l .values .0)) || (not (eqb registers 176) || not (eqb stack (l .area .0)))
+
+-- a type whose own record is that of _Bool: kind 0, code 0
+unfoldable pub isBool : List ℕ → ℕ → Bool
+isBool d k = eqb (kindAt d k) 0 && eqb (aAt d k) 0
+
+-- "A _Bool argument's byte must be 0 or 1; one inside an aggregate may be anything": of type k, and neither; and of argument i
+unfoldable pub brokenByte : List ℕ → ℕ → ℕ → Bool
+brokenByte d k byte = isBool d k && ltb 1 byte
+
+abbrev pub brokenBool : List ℕ → List ℕ → ℕ → Bool
+brokenBool d vals i = brokenByte d (argumentAt d i) (getD vals (valueStart d i) 0)
+
+-- the first such argument, or A where there is none
+abbrev pub firstBroken : List ℕ → List ℕ → ℕ
+firstBroken d vals = firstFrom (brokenBool d vals) 0 (argumentsIn d)
+
+-- 12: "_Bool argument byte not 0 or 1"
+unfoldable pub wrongBool : List ℕ → List ℕ → Bool
+wrongBool d vals = ltb (firstBroken d vals) (argumentsIn d)
+
+-- argument i's own record is that of _Bool, and its byte is neither 0 nor 1
+pub record BrokenAt (d vals : List ℕ) (i : ℕ) : Type 0 where
+  pub there : i < argumentsIn d
+  pub kind : kindAt d (argumentAt d i) ≡ 0
+  pub code : aAt d (argumentAt d i) ≡ 0
+  pub byte : 1 < getD vals (valueStart d i) 0
+
+-- 1 to 11
+abbrev pub gatherConditions : List ℕ → ℕ → ℕ → ℕ → List Bool
+gatherConditions d values registers stack = verdictConditions d ++ wrongLength (layoutOf d) values registers stack ∷ []
+
+-- 1 to 12
+abbrev pub placeConditions : List ℕ → List ℕ → ℕ → ℕ → List Bool
+placeConditions d vals registers stack = verdictConditions d ++ wrongLength (layoutOf d) (length vals) registers stack ∷ wrongBool d vals ∷ []
+
+-- which of them refuses gathering into so many value bytes, from images of these lengths; or 0
+unfoldable pub gatherRefusal : List ℕ → ℕ → ℕ → ℕ → ℕ
+gatherRefusal d values registers stack = first (numbered 1 (gatherConditions d values registers stack))
+
+-- and placing these values
+unfoldable pub placeRefusal : List ℕ → List ℕ → ℕ → ℕ → ℕ
+placeRefusal d vals registers stack = first (numbered 1 (placeConditions d vals registers stack))

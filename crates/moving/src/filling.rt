@@ -1,0 +1,107 @@
+// What placing leaves in the two images and gathering takes out of them (document 01, "Images and moving bytes"), as definitions and laws; `filling` does it.
+use places::Used;
+use units::Bytes;
+ghost use mathlib.Core.Path.{_≡_};
+ghost use mathlib.Core.List.{_++_};
+ghost use lib.ListN.{length};
+ghost use Rattle.moving.specs.Images.{blankBy, addressesOf, placed, gathered};
+ghost use Rattle.addresses.specs.Addresses.{scatter};
+ghost use Rattle.classify.specs.Table.{Tabled};
+ghost use Rattle.layout.specs.Arguments.{hidden, usedFirst};
+ghost use Rattle.moving.specs.Asks.{Lent};
+
+// The two images before any argument is placed (document 01, "Images and moving bytes": bytes that nothing uses are zero).
+
+// Zeros, and the hidden address in rdi where it is used.
+pub fn blank_images(used: bool, address: u64, registers: &mut [u8], stack: &mut [u8])
+    requires { ⌜ length (now registers) ≡ 176 ⌝ }
+    ensures { λ _. ⌜ now (registers .exit) ++ now (stack .exit) ≡ blankBy used address (length (now (stack .entry))) ⌝ }
+{
+    addresses::clear(registers);
+    addresses::clear(stack);
+    if !used {
+        return;
+    }
+    images::put_address(registers, address);
+}
+
+// All arguments' bytes into the two images, every byte of which is written, and out of them again (document 01, "Images and moving bytes").
+
+// Places every argument into the images, over what stands there; `first` is what is used before the first.
+fn place_all(
+    d: &[u8],
+    first: Used,
+    values: &[u8],
+    registers: &mut [u8],
+    stack: &mut [u8],
+    table: &[u32; 64],
+)
+    requires { ⌜ Lent (now d) (length (now values)) (length (now registers)) (length (now stack)) × (first ≡ usedFirst (now d))
+        × Tabled (now d) (now table) ⌝ }
+    ensures { λ _. ⌜ now (registers .exit) ++ now (stack .exit)
+        ≡ scatter (now (registers .entry) ++ now (stack .entry)) (addressesOf (now (d .entry))) (now (values .entry)) ⌝ }
+{
+    let arguments = description::byte_at(d, 8);
+    let mut used = first;
+    let mut start = Bytes(0);
+    let mut i = 0;
+    while i < arguments {
+        let k = description::argument_at(d, i);
+        let extent = types::extent_in(table, k);
+        let size = extent.size;
+        let placed = places::next_place(used, table, k, extent);
+        let place = placed.place;
+        images::place_one(registers, stack, place, size, values, start);
+        start = units::plus(start, size);
+        used = placed.used;
+        i += 1;
+    }
+}
+
+// Every byte of both images: blank, and over that the values.
+pub fn fill_images(
+    d: &[u8],
+    used: bool,
+    address: u64,
+    values: &[u8],
+    registers: &mut [u8],
+    stack: &mut [u8],
+    table: &[u32; 64],
+)
+    requires { ⌜ Lent (now d) (length (now values)) (length (now registers)) (length (now stack)) × (used ≡ hidden (now d))
+        × Tabled (now d) (now table) ⌝ }
+    ensures { λ _. ⌜ now (registers .exit) ++ now (stack .exit) ≡ placed (now (d .entry)) address (now (values .entry)) ⌝ }
+{
+    blank_images(used, address, registers, stack);
+    place_all(d, places::fresh(used), values, registers, stack, table);
+}
+
+// Gathers every argument out of the images.
+pub fn gather_all(
+    d: &[u8],
+    first: Used,
+    registers: &[u8],
+    stack: &[u8],
+    values: &mut [u8],
+    table: &[u32; 64],
+)
+    requires { ⌜ Lent (now d) (length (now values)) (length (now registers)) (length (now stack)) × (first ≡ usedFirst (now d))
+        × Tabled (now d) (now table) ⌝ }
+    ensures { λ _. ⌜ now (values .exit) ≡ gathered (now (d .entry)) (now (registers .entry) ++ now (stack .entry)) ⌝ }
+{
+    let arguments = description::byte_at(d, 8);
+    let mut used = first;
+    let mut start = Bytes(0);
+    let mut i = 0;
+    while i < arguments {
+        let k = description::argument_at(d, i);
+        let extent = types::extent_in(table, k);
+        let size = extent.size;
+        let placed = places::next_place(used, table, k, extent);
+        let place = placed.place;
+        images::gather_one(registers, stack, place, size, values, start);
+        start = units::plus(start, size);
+        used = placed.used;
+        i += 1;
+    }
+}

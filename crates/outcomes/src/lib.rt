@@ -1,1 +1,0 @@
-// What a call of the C interface answers and leaves in the lent record (document 01, "A refusal returns its number only and writes nothing"), as definitions. There is no code here: `given`, `handed`, `brought`, `walked` and `listed` say it of their calls.

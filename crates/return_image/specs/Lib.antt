@@ -1,5 +1,0 @@
-pub mod Moved
-pub mod Image
-pub mod Asks
-pub mod Statements
-pub mod Cases

@@ -1,0 +1,123 @@
+-- The bytes that are moved lie within the value and within the image, and no byte is moved twice. Assumes nothing.
+use mathlib.Core.Path.{_≡_, sym, ap₂, _∙_}
+use mathlib.Core.Bool.{true, false≢true}
+use mathlib.Core.Logic.{_⊎_, inl, inr}
+use mathlib.Core.List.{_++_}
+use Prim.Native.Nat.{ℕ, _+_, _-_, _≤_, _<_}
+use native.Mathlib.Omega.{arith}
+use lib.ListN.{length, length-append}
+use Rattle.addresses.specs.Addresses.{run, All, NoDup, Below, Stretch}
+use Rattle.addresses.proofs.Lists.{all-append, nodup-append}
+use Rattle.addresses.proofs.Runs.{length-run, all-run, nodup-run}
+use Rattle.places.specs.declared.Register.{Register}
+use Rattle.places.specs.declared.Register.the-variants.{General, Vector, Upper}
+use Rattle.places.specs.declared.ReturnPlace.{ReturnPlace}
+use Rattle.places.specs.declared.ReturnPlace.the-variants.{Void, Memory, One, Two, St0, St0St1}
+use Rattle.returning.specs.declared.image.Parts.{Parts}
+use Rattle.returning.specs.Moved.{returnAddress, partsOf, sources, targets}
+use Rattle.returning.specs.Image.{inMemory}
+use Rattle.returning.specs.ImageAsks.{Returning, Apart, Returnable, AskPart}
+use Rattle.returning.specs.ImageStatements.{Sound}
+
+-- ---- two runs of addresses
+
+-- one ends before the other begins
+abbrev pub Disjoint : ℕ → ℕ → ℕ → ℕ → Type 0
+Disjoint p n q m = (p + n ≤ q) ⊎ (q + m ≤ p)
+
+disjoint-runs : (p n q m : ℕ) → Disjoint p n q m → NoDup (run p n ++ run q m)
+disjoint-runs p n q m d =
+    nodup-append {P = Stretch p n} {Q = Stretch q m} (clash d) (run p n) (run q m) (nodup-run p n) (nodup-run q m)
+    (all-run {P = Stretch p n} p n (λ k l h. (l, h))) (all-run {P = Stretch q m} q m (λ k l h. (l, h)))
+  where
+    clash : Disjoint p n q m → (k : ℕ) → Stretch p n k → Stretch q m k → ⊥
+    clash (inl l) k a b = omega (arith, a .0, a .1, b .0, b .1)
+    clash (inr l) k a b = omega (arith, a .0, a .1, b .0, b .1)
+
+below-runs : (p n q m bound : ℕ) → p + n ≤ bound → q + m ≤ bound → Below bound (run p n ++ run q m)
+below-runs p n q m bound g h =
+    all-append (λ k. k < bound) (run p n) (run q m) (all-run {P = λ k. k < bound} p n (λ k l e. omega arith)) (all-run {P = λ k. k < bound} q m (λ k l e. omega arith))
+
+length-runs : (p n q m : ℕ) → length (run p n ++ run q m) ≡ n + m
+length-runs p n q m = length-append (run p n) (run q m) ∙ ap₂ _+_ (length-run p n) (length-run q m)
+
+-- ---- the parts of a value
+
+pub record Room (p : Parts) (n : ℕ) : Type 0 where
+  pub low : AskPart (p .low) n 80
+  pub high : AskPart (p .high) n 80
+  pub sources : Disjoint (p .low .from .0) (p .low .count .0) (p .high .from .0) (p .high .count .0)
+  pub targets : Disjoint (p .low .to .0) (p .low .count .0) (p .high .to .0) (p .high .count .0)
+
+address-inside : (a : Register) → Returning a → returnAddress a + 8 ≤ 48
+address-inside (General n) h = omega arith
+address-inside (Vector n) h = omega arith
+address-inside (Upper n) h = omega arith
+
+pub returnable-room : (place : ReturnPlace) (n : ℕ) → Returnable place n → Room (partsOf place n) n
+unfolding Returnable partsOf
+returnable-room Void n h = record {
+  low = record { source = omega arith; target = omega arith };
+  high = record { source = omega arith; target = omega arith };
+  sources = inl (omega arith);
+  targets = inl (omega arith);
+}
+returnable-room Memory n h = record {
+  low = record { source = omega arith; target = omega arith };
+  high = record { source = omega arith; target = omega arith };
+  sources = inl (omega arith);
+  targets = inl (omega arith);
+}
+returnable-room (One a) n h = record {
+  low = record { source = omega arith; target = omega (arith, address-inside a (h .0), h .1) };
+  high = record { source = omega arith; target = omega arith };
+  sources = inr (omega arith);
+  targets = inr (omega arith);
+}
+returnable-room (Two a b) n h = record {
+  low = record { source = omega (arith, h .1 .1 .1 .0); target = omega (arith, address-inside a (h .0)) };
+  high = record { source = omega (arith, h .1 .1 .1 .0); target = omega (arith, address-inside b (h .1 .0), h .1 .1 .1 .1) };
+  sources = inl (omega arith);
+  targets = by (h .1 .1 .0);
+}
+  where
+    by : Apart a b → Disjoint (returnAddress a) 8 (returnAddress b) (n - 8)
+    by (inl l) = inl l
+    by (inr l) = inr (omega (arith, h .1 .1 .1 .1))
+returnable-room St0 n h = record {
+  low = record { source = omega arith; target = omega arith };
+  high = record { source = omega arith; target = omega arith };
+  sources = inr (omega arith);
+  targets = inr (omega arith);
+}
+returnable-room St0St1 n h = record {
+  low = record { source = omega arith; target = omega arith };
+  high = record { source = omega arith; target = omega arith };
+  sources = inl (omega arith);
+  targets = inl (omega arith);
+}
+
+memory-past : (place : ReturnPlace) (n : ℕ) → inMemory place ≡ true → All (λ k. 8 ≤ k) (targets place n)
+unfolding targets partsOf
+memory-past Void n e = absurd (false≢true e)
+memory-past Memory n e = tt
+memory-past (One a) n e = absurd (false≢true e)
+memory-past (Two a b) n e = absurd (false≢true e)
+memory-past St0 n e = absurd (false≢true e)
+memory-past St0St1 n e = absurd (false≢true e)
+
+pub returnable-sound : (place : ReturnPlace) (n : ℕ) → Returnable place n → Sound place n
+unfolding sources targets
+returnable-sound place n h =
+    let p = partsOf place n in
+    let r = returnable-room place n h in
+    record {
+      pairs =
+          length-runs (p .low .to .0) (p .low .count .0) (p .high .to .0) (p .high .count .0)
+          ∙ sym (length-runs (p .low .from .0) (p .low .count .0) (p .high .from .0) (p .high .count .0));
+      once = disjoint-runs _ _ _ _ (r .targets);
+      inside = below-runs _ _ _ _ 80 (r .low .target) (r .high .target);
+      apart = disjoint-runs _ _ _ _ (r .sources);
+      within = below-runs _ _ _ _ n (r .low .source) (r .high .source);
+      past = memory-past place n;
+    }

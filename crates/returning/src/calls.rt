@@ -1,0 +1,54 @@
+// Putting a returned value into the return image (document 02, request 2026-02), with its refusals.
+use crate::PutAnswer;
+use crate::TakeAnswer;
+use crate::image;
+use crate::refusals;
+use layout::LayoutAnswer;
+use units::Bytes;
+ghost use mathlib.Core.Path.{_≡_};
+ghost use lib.ListN.{length};
+ghost use Rattle.returning.specs.Answers.{putAnswer, imageAfter, takeAnswer, valueAfter};
+
+// Puts a returned value into the return image: every byte of it is written, or none. The hidden address is looked at only where
+// the value is in memory.
+pub fn put_returned(d: &[u8], hidden: u64, value: &[u8], image: &mut [u8]) -> PutAnswer
+    ensures { λ r. ⌜ (r ≡ putAnswer (now (d .entry)) (now (value .entry)) (length (now (image .entry))))
+        × (now (image .exit) ≡ imageAfter (now (d .entry)) hidden (now (value .entry)) (now (image .entry))) ⌝ }
+{
+    let mut table = [0u32; 64];
+    let answer = layout::layout_with(d, &mut table);
+    let LayoutAnswer::Laid(layout) = answer else {
+        return PutAnswer::Refused(layout::refusal_in(answer));
+    };
+    let place = layout.returns;
+    let right = image::length_for(place, refusals::returned_size(d, &table));
+    if refusals::wrong_length(right, Bytes(value.len()), Bytes(image.len())) {
+        return PutAnswer::Refused(form::refusal_of(11));
+    }
+    if refusals::wrong_bool(d, value) {
+        return PutAnswer::Refused(form::refusal_of(12));
+    }
+    image::put_value(place, hidden, value, image);
+    PutAnswer::Put
+}
+
+// Taking a returned value out of the return image (document 02, request 2026-02), with its refusals.
+
+// Takes the returned value out of the return image, and answers the hidden address.
+pub fn take_returned(d: &[u8], image: &[u8], value: &mut [u8]) -> TakeAnswer
+    ensures { λ r. ⌜ (r ≡ takeAnswer (now (d .entry)) (now (image .entry)) (length (now (value .entry))))
+        × (now (value .exit) ≡ valueAfter (now (d .entry)) (now (image .entry)) (now (value .entry))) ⌝ }
+{
+    let mut table = [0u32; 64];
+    let answer = layout::layout_with(d, &mut table);
+    let LayoutAnswer::Laid(layout) = answer else {
+        return TakeAnswer::Refused(layout::refusal_in(answer));
+    };
+    let place = layout.returns;
+    let right = image::length_for(place, refusals::returned_size(d, &table));
+    if refusals::wrong_length(right, Bytes(value.len()), Bytes(image.len())) {
+        return TakeAnswer::Refused(form::refusal_of(11));
+    }
+    image::take_value(place, image, value);
+    TakeAnswer::Taken(image::returned_address(place, image))
+}

@@ -1,0 +1,45 @@
+// Refusal 11 of putting and taking (document 02, request 2026-02): the size of the returned type, and the lengths of the lent buffers.
+use units::Bytes;
+ghost use mathlib.Core.Path.{_≡_};
+ghost use Rattle.classify.specs.Table.{Tabled};
+ghost use Rattle.layout.specs.Verdict.{verdict};
+ghost use Rattle.returning.specs.Returned.{returnedSize, returnLength};
+ghost use Rattle.returning.specs.Orders.{wrongLength, wrongBool};
+ghost use lib.ListN.{length};
+
+// The size of the returned type, by the table. Void has none.
+pub fn returned_size(d: &[u8], table: &[u32; 64]) -> Bytes
+    requires { ⌜ (verdict (now d) ≡ 0) × Tabled (now d) (now table) ⌝ }
+    ensures { λ r. ⌜ r .0 ≡ returnedSize (now (d .entry)) ⌝ }
+{
+    let k = description::byte_at(d, 9);
+    if k == 255 {
+        return Bytes(0);
+    }
+    types::extent_in(table, k).size
+}
+
+// 11: whether the value has not exactly so many bytes, or the image not exactly 80.
+pub fn wrong_length(right: Bytes, value: Bytes, image: Bytes) -> bool
+    ensures { λ r. ⌜ r ≡ wrongLength (right .0) (value .0) (image .0) ⌝ }
+{
+    if !units::same(value, right) {
+        return true;
+    }
+    !units::same(image, Bytes(80))
+}
+
+// Refusal 12 of putting (document 02, request 2026-02): a returned _Bool whose byte is not 0 or 1.
+
+// 12: whether a _Bool is returned whose byte is not 0 or 1. Void and a value in memory have no byte.
+pub fn wrong_bool(d: &[u8], value: &[u8]) -> bool
+    requires { ⌜ (verdict (now d) ≡ 0) × (length (now value) ≡ returnLength (now d)) ⌝ }
+    ensures { λ r. ⌜ r ≡ wrongBool (now (d .entry)) (now (value .entry)) ⌝ }
+{
+    if value.len() == 0 {
+        return false;
+    }
+    let k = description::byte_at(d, 9);
+    let byte = description::byte_at(value, 0);
+    moving::broken_byte(d, k, byte)
+}

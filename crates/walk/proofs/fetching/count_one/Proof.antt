@@ -1,0 +1,43 @@
+-- The registers of one eightbyte more.
+-- Assumes nothing.
+use native.Mathlib.Omega.{arith}
+use borrow.Author.Needs.{needs}
+use Rattle.walk.proofs.fetching.count_one.Statement.{statement}
+use Rattle.walk.proofs.fetching.count_one.Tie as tie
+
+enum-told : tie.Need-enum-told
+enum-told c = search needs
+
+one-more-requires : tie.Need-one-more-requires
+one-more-requires c κs = search needs
+
+enum-told-2 : tie.Need-enum-told-2
+enum-told-2 c = search needs
+
+one-more-requires-2 : tie.Need-one-more-requires-2
+one-more-requires-2 c κs = search needs
+
+enum-told-3 : tie.Need-enum-told-3
+enum-told-3 c = search needs
+
+returns : tie.Need-returns
+returns c = rw (c .before .enum-told .given .1) (c .one-more .ensures, omega arith)
+
+returns-2 : tie.Need-returns-2
+returns-2 c = rw (c .before .enum-told2 .given .1) (omega arith, c .one-more2 .ensures)
+
+returns-3 : tie.Need-returns-3
+returns-3 c = rw (c .enum-told3 .given .1) (omega arith, omega arith)
+
+pub count-one-spec : {M : Type 1} → statement M
+count-one-spec =
+    tie.close
+    (tie.spec
+    enum-told
+    one-more-requires
+    enum-told-2
+    one-more-requires-2
+    enum-told-3
+    returns
+    returns-2
+    returns-3)
