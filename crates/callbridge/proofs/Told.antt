@@ -121,5 +121,5 @@ shown-told s seat w a =
     told _ d (showRefusal kcb s seat w a) _
     (through shownGiven (eqb (showRefusal kcb s seat w a) 0) _ _
     ∙ ap₂ (λ (o : Outcome Part) (r : Refusal). cond (eqb (showRefusal kcb s seat w a) 0) o (refuses r))
-    (part-given (readAt (offsetsOf w) (shapeAt kcb d (w .position))) (shapeAt kcb d (w .position)))
+    (part-given (readAt (kcb .slot) (offsetsOf w) (shapeAt kcb d (w .position))) (shapeAt kcb d (w .position)))
     (kcb-refusal d (showRefusal kcb s seat w a)))

@@ -21,7 +21,7 @@ use Rattle.places.specs.declared.Place.the-variants.{One, Two, Stack}
 use Rattle.places.specs.declared.ReturnPlace.{ReturnPlace}
 use Rattle.places.specs.declared.ReturnPlace.the-variants.{Void, Memory as InMemory, One as InOne, Two as InTwo, St0, St0St1}
 use Rattle.places.specs.Shapes.{kindOf, kindsIn, kindsOf}
-use Rattle.places.specs.Places.{registerFor, place, next, generalFor, vectorFor}
+use Rattle.places.specs.Places.{eights, registerFor, place, next, generalFor, vectorFor}
 use Rattle.places.specs.Returns.{outside, returnBy, returnOf, hiddenBy, hiddenFor}
 use Rattle.classify.proofs.Lengths.{length-classes}
 use Rattle.images.specs.Asks.{Inside}
@@ -58,8 +58,8 @@ placement-meant p n h =
 pub placements-mean : PlacementsMean
 unfolding placementAt
 placements-mean d v i h =
-    placement-meant (placementAt d i) (next (usedAt d i) (shapeAt d i) .stack .0)
-    (place-inside (usedAt d i) (shapeAt d i) (next (usedAt d i) (shapeAt d i) .stack .0) (argument-shaped d (accepted-uses d v) i h) (omega arith) .1)
+    placement-meant (placementAt d i) (next eights (usedAt d i) (shapeAt d i) .stack .0)
+    (place-inside (usedAt d i) (shapeAt d i) (next eights (usedAt d i) (shapeAt d i) .stack .0) (argument-shaped d (accepted-uses d v) i h) (omega arith) .1)
 
 -- ---- the call as a whole
 

@@ -98,7 +98,7 @@ module _ (P : Paper) where
   until-left Q [] ys k h s = tt
   until-left Q (x ∷ xs) ys k h s = (h .0, until-left Q xs ys (call P k x) (h .1 (s .0)) (s .1))
 
-  serve-served : (i : ℕ) (images : List ℕ) (k : Desk) (c : Call) → Serves i images c → Served P i images k c
+  serve-served : (i : ℕ) (images : List ℕ) (k : Desk) (c : Call) → Serves P i images c → Served P i images k c
   serve-served i images k (attaching d b) h = tt
   serve-served i images k detaching h = tt
   serve-served i images k (opening j) h = tt
@@ -107,6 +107,6 @@ module _ (P : Paper) where
   serve-served i images k (numbering j a) h = tt
   serve-served i images k (writing j w) h = tt
 
-  pub serves-served : (i : ℕ) (images : List ℕ) (cs : List Call) (k : Desk) → All (Serves i images) cs → Along P (Served P i images) k cs
+  pub serves-served : (i : ℕ) (images : List ℕ) (cs : List Call) (k : Desk) → All (Serves P i images) cs → Along P (Served P i images) k cs
   serves-served i images [] k h = tt
   serves-served i images (c ∷ cs) k h = (serve-served i images k c (h .0), serves-served i images cs (call P k c) (h .1))

@@ -114,7 +114,7 @@ module _ (P : Paper) (L : Lawful P) (d address values : List ℕ) (f : length va
 
   -- asked the right questions, it hands back their arguments
   pub answers : (cs : List Call) (k : Desk) (p m : ℕ) → Stands P d i k p → Along P (Stays P) k cs → All (Spares i) cs
-      → All (Serves i (imagesFor P d address values)) cs → asks i cs ≡ take m (drop p (questions P d))
+      → All (Serves P i (imagesFor P d address values)) cs → asks i cs ≡ take m (drop p (questions P d))
       → handed P i k cs ≡ take m (drop p (cut (P .shapes d) values))
   answers [] k p m h st sp se q =
       none (take m (drop p (cut (P .shapes d) values)))

@@ -1,7 +1,7 @@
 -- Condition C holds of document 01's own paper: the layout's chapters promise what `Lawful` asks. Assumes nothing.
 use mathlib.Core.Path.{_≡_, refl, sym, ap, _∙_}
 use mathlib.Core.List.{List, [], _∷_, map}
-use Prim.Native.Nat.{ℕ, suc, _≤_}
+use Prim.Native.Nat.{ℕ, suc, _%_, _≤_}
 use lib.ListN.{length}
 use Rattle.addresses.specs.Addresses.{run, All}
 use Rattle.addresses.proofs.Runs.{length-run}
@@ -9,6 +9,10 @@ use Rattle.description.specs.Description.{argumentsIn, argumentAt}
 use Rattle.uses.specs.Uses.{usesRefusal}
 use Rattle.uses.proofs.Uses.{accepted-typed}
 use Rattle.places.specs.Shapes.{Shaped}
+use Rattle.places.specs.Places.{wide}
+use Rattle.places.specs.Statements.{Seated}
+use Rattle.places.proofs.Apart.{all-seated}
+use Rattle.layout.specs.Arguments.{shapes}
 use Rattle.layout.proofs.Bounds.{all-shaped}
 use Rattle.layout.proofs.Verdict.{accepted-uses}
 use Rattle.station.specs.Paper.{kcb, verdictOf, arguments}
@@ -37,8 +41,16 @@ module _ (d : List ℕ) (e : verdictOf kcb d ≡ 0) where
   unfolding kcb
   typed = length-map (argumentAt d) (run 0 (argumentsIn d)) ∙ length-run 0 (argumentsIn d) ∙ sym (kcb-arguments d)
 
+  seated : All (Seated (kcb .registers)) (kcb .shapes d)
+  unfolding kcb
+  seated = all-seated (shapes d)
+
+  starts : kcb .first d .stack .0 % wide (kcb .slot) ≡ 0
+  unfolding kcb
+  starts = refl
+
 pub kcb-lawful : Lawful kcb
-kcb-lawful = record { short = kcb-short; shaped = shaped; within = within; typed = typed }
+kcb-lawful = record { short = kcb-short; shaped = shaped; within = within; typed = typed; seated = seated; starts = starts }
 
 pub condition-c : ConditionC kcb
 condition-c = lawful-c kcb kcb-lawful

@@ -17,7 +17,7 @@ use Rattle.histories.specs.Lawful.{Lawful}
 use Rattle.histories.specs.ConditionC.{ConditionC, AnyRecord, Cut}
 use Rattle.histories.proofs.Attachments.{described-held}
 use Rattle.histories.proofs.Images.{cut-joined, cut-long}
-use Rattle.histories.proofs.Walks.{reads}
+use Rattle.histories.proofs.Walks.{known, reads}
 use Rattle.histories.proofs.Turns.{step-wrote}
 use Rattle.histories.proofs.Shown.{shows, shows-none, same-checks}
 use Rattle.histories.proofs.Frames.{either, refused-unchanged, refused-out}
@@ -39,7 +39,7 @@ module _ (P : Paper) (L : Lawful P) where
       t .same ∙ ap (λ (n : ℕ). standing P (described s seat) n (w .position)) (z .number) ∙ ap (λ (x : List ℕ). standing P x (s .number) (w .position)) q in (
         same,
         step-wrote P s seat w a r ∙ ap (λ (x : List ℕ). bytesAt P x w a) q ∙ ap (λ (v : Walk). bytesAt P d v a) same
-            ∙ reads P d address values (s .number) (w .position) a (L .shaped d (h .accepted)) l′ f g,
+            ∙ reads P d address values (s .number) (w .position) a (known P L d (h .accepted)) l′ f g,
       )
 
   cuts : Cut P

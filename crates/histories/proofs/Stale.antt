@@ -153,22 +153,22 @@ module _ (P : Paper) where
   right-idle s seat e f = rw (e, eq-eqb (length seat) 586 f)
 
   step-idle : (s : Station) (seat : List ℕ) (w : Walk) (a : Ask) → wrongSeat s seat ≡ false → s .attached ≡ false
-      → stepRefusal P s seat w a ≡ cond (wrongRegisters a) 11 13
+      → stepRefusal P s seat w a ≡ cond (wrongRegisters P a) 11 13
   unfolding stepRefusal
   step-idle s seat w a r e = rw (r, e)
 
   show-idle : (s : Station) (seat : List ℕ) (w : Walk) (a : Ask) → wrongSeat s seat ≡ false → s .attached ≡ false
-      → showRefusal P s seat w a ≡ cond (wrongRegisters a) 11 13
+      → showRefusal P s seat w a ≡ cond (wrongRegisters P a) 11 13
   unfolding showRefusal
   show-idle s seat w a r e = rw (r, e)
 
   -- any record whose number is at most n is refused
   pub gone-refused : Lawful P → (n : ℕ) (s : Station) (seat : List ℕ) (w : Walk) (a : Ask) → Gone n s seat → w .number ≤ n
-      → (stepRefusal P s seat w a ≡ staleNumber s a) × (showRefusal P s seat w a ≡ staleNumber s a)
+      → (stepRefusal P s seat w a ≡ staleNumber P s a) × (showRefusal P s seat w a ≡ staleNumber P s a)
   unfolding staleNumber otherNumber
   gone-refused L n s seat w a g l = by (s .attached) refl
     where
-      by : (b : Bool) → s .attached ≡ b → (stepRefusal P s seat w a ≡ staleNumber s a) × (showRefusal P s seat w a ≡ staleNumber s a)
+      by : (b : Bool) → s .attached ≡ b → (stepRefusal P s seat w a ≡ staleNumber P s a) × (showRefusal P s seat w a ≡ staleNumber P s a)
       by true e =
           let h = g .sound .busy e in
           let m = g .past e in (
@@ -181,9 +181,9 @@ module _ (P : Paper) where
 
   -- ---- and hands nothing back
 
-  pub stale-some : (s : Station) (a : Ask) → (m : ℕ) × (staleNumber s a ≡ suc m)
+  pub stale-some : (s : Station) (a : Ask) → (m : ℕ) × (staleNumber P s a ≡ suc m)
   unfolding staleNumber
-  stale-some s a = by (wrongRegisters a) (not (s .attached))
+  stale-some s a = by (wrongRegisters P a) (not (s .attached))
     where
       by : (b c : Bool) → (m : ℕ) × (first (rule 11 b ∷ rule 13 c ∷ rule 17 true ∷ []) ≡ suc m)
       by true c = (10, refl)

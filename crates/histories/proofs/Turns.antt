@@ -23,7 +23,7 @@ use Rattle.histories.specs.Lawful.{Lawful}
 use Rattle.histories.specs.Values.{cut, imagesFor, question}
 use Rattle.histories.specs.Outcomes.{Stands}
 use Rattle.histories.proofs.Attachments.{described-held}
-use Rattle.histories.proofs.Walks.{moves-on, reads, lends-right, step-standing}
+use Rattle.histories.proofs.Walks.{known, moves-on, reads, lends-right, step-standing}
 
 pub put-same : (ws : ℕ → Walk) (i : ℕ) (w : Walk) → put ws i w i ≡ w
 unfolding put
@@ -82,7 +82,7 @@ module _ (P : Paper) (d values : List ℕ) (i : ℕ) where
 
 module _ (P : Paper) (L : Lawful P) (d address values : List ℕ) (f : length values ≡ total (P .shapes d)) (i : ℕ) where
   -- a step of the walk i
-  own : (k : Desk) (a : Ask) (p : ℕ) → Stands P d i k p → Lends (imagesFor P d address values) a → Turn P d values i k (stepping i a) p
+  own : (k : Desk) (a : Ask) (p : ℕ) → Stands P d i k p → Lends P (imagesFor P d address values) a → Turn P d values i k (stepping i a) p
   own k a p h g = by (stepRefusal P (k .station) (k .seat) (k .walks i) a) refl
     where
       q : Question
@@ -111,7 +111,7 @@ module _ (P : Paper) (L : Lawful P) (d address values : List ℕ) (f : length va
           let t : a .asked ≡ typeAt P d p = eqb-true (a .asked) (typeAt P d p) (not-false _ (y .0)) in
           let u : length (a .out) ≡ shapeAt P d p .size = eqb-true (length (a .out)) (shapeAt P d p .size) (not-false _ (z .0)) in
           let l : p < arguments P d = omega (arith, h .to, eqb-false p (arguments P d) (x .0)) in
-          let s = L .shaped d (h .held .accepted) in
+          let s = known P L d (h .held .accepted) in
           moved (asks-this ∙ ap (λ (z : Question). z ∷ []) (question-made P d p (a .asked) (length (a .out)) t u)) l
           (rw (eq-eqb i i refl, r, step-wrote P (k .station) (k .seat) (k .walks i) a r, described-held P (k .station) (k .seat) d (h .held), h .walk)
           (ap (λ (v : List ℕ). v ∷ []) (reads P d address values (k .station .number) p a s l f g)))
@@ -123,7 +123,7 @@ module _ (P : Paper) (L : Lawful P) (d address values : List ℕ) (f : length va
           (rw (eq-eqb i i refl, r))
           (put-same (k .walks) i (stepWalk P (k .station) (k .seat) (k .walks i) a) ∙ step-left P (k .station) (k .seat) (k .walks i) a n r)
 
-  pub turn : (k : Desk) (c : Call) (p : ℕ) → Stands P d i k p → Spares i c → Serves i (imagesFor P d address values) c → Turn P d values i k c p
+  pub turn : (k : Desk) (c : Call) (p : ℕ) → Stands P d i k p → Spares i c → Serves P i (imagesFor P d address values) c → Turn P d values i k c p
   turn k (attaching x b) p h m g = other refl refl refl
   turn k detaching p h m g = other refl refl refl
   turn k (opening j) p h m g = other refl refl (open-other P k i j m)
@@ -136,7 +136,7 @@ module _ (P : Paper) (L : Lawful P) (d address values : List ℕ) (f : length va
   turn k (numbering j a) p h m g = other refl refl refl
   turn k (writing j w) p h m g = other refl refl (put-other (k .walks) i j w m)
 
-  own-move : (k : Desk) (a : Ask) (p : ℕ) → Stands P d i k p → (stepRefusal P (k .station) (k .seat) (k .walks i) a ≡ 0 → Lends (imagesFor P d address values) a)
+  own-move : (k : Desk) (a : Ask) (p : ℕ) → Stands P d i k p → (stepRefusal P (k .station) (k .seat) (k .walks i) a ≡ 0 → Lends P (imagesFor P d address values) a)
       → Move P d values i k (stepping i a) p
   own-move k a p h g = by (stepRefusal P (k .station) (k .seat) (k .walks i) a) refl
     where

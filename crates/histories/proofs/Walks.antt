@@ -2,7 +2,7 @@
 use mathlib.Core.Path.{_≡_, refl, sym, ap, ap₂, _∙_}
 use mathlib.Core.Bool.{Bool, true, false, cond, not, _||_}
 use mathlib.Core.List.{List, [], _∷_, _++_}
-use Prim.Native.Nat.{ℕ, zero, suc, _≤_, _<_}
+use Prim.Native.Nat.{ℕ, zero, suc, _≤_, _<_, _%_}
 use native.Mathlib.Omega.{arith}
 use lib.Dec.{eqb}
 use lib.ListN.{length, getD, take, length-take, length-drop, take-append-drop}
@@ -10,10 +10,11 @@ use borrow.Author.Tests.{le-ltb, eq-eqb}
 use Rattle.addresses.specs.Addresses.{gather, All}
 use Rattle.form.specs.Order.{Rule, rule, first}
 use Rattle.places.specs.Shapes.{Shape, Shaped}
-use Rattle.places.specs.Places.{fresh, place}
+use Rattle.places.specs.Places.{wide, place}
+use Rattle.places.specs.Statements.{Seated}
 use Rattle.places.specs.Images.{bytesOf, addresses, total}
 use Rattle.places.proofs.Prefix.{after-at}
-use Rattle.places.proofs.Offsets.{after-eights}
+use Rattle.places.proofs.Offsets.{after-slotted}
 use Rattle.station.specs.declared.Station.{Station}
 use Rattle.station.specs.Paper.{Paper, verdictOf, arguments, shapeAt, typeAt, usedAt, areaOf}
 use Rattle.station.proofs.Orders.{first-append}
@@ -28,19 +29,33 @@ use Rattle.histories.specs.Values.{cut, imagesFor}
 use Rattle.histories.proofs.Attachments.{described-held, right-held}
 use Rattle.histories.proofs.Images.{cut-gathered, length-images, gather-images}
 
+pub seated-at : (base : ℕ) (o : Shape) (ss : List Shape) (p : ℕ) → All (Seated base) ss → p < length ss → Seated base (getD ss p o)
+seated-at base o [] p h l = absurd (omega arith)
+seated-at base o (s ∷ ss) zero h l = h .0
+seated-at base o (s ∷ ss) (suc p) h l = seated-at base o ss p (h .1) (omega arith)
+
 pub shaped-at : (o : Shape) (ss : List Shape) (p : ℕ) → All Shaped ss → p < length ss → Shaped (getD ss p o)
 shaped-at o [] p h l = absurd (omega arith)
 shaped-at o (s ∷ ss) zero h l = h .0
 shaped-at o (s ∷ ss) (suc p) h l = shaped-at o ss p (h .1) (omega arith)
 
 module _ (P : Paper) where
+  -- what is known of the shapes of an accepted description
+  pub record Known (d : List ℕ) : Type 0 where
+    pub shaped : All Shaped (P .shapes d)
+    pub seated : All (Seated (P .registers)) (P .shapes d)
+    pub starts : P .first d .stack .0 % wide (P .slot) ≡ 0
+
+  pub known : Lawful P → (d : List ℕ) → verdictOf P d ≡ 0 → Known d
+  known L d e = record { shaped = L .shaped d e; seated = L .seated d e; starts = L .starts d e }
+
   -- ---- a held description: 1 to 10 do not come up
 
   pub open-held : Lawful P → (s : Station) (seat d : List ℕ) → Holds P s seat d → openRefusal P s seat ≡ cond (P .variadic d) 0 16
   unfolding openRefusal verdictOf
   open-held L s seat d h =
       rw (right-held P L s seat d h, described-held P s seat d h, h .attached)
-      (first-append 0 (P .conditions d) (rule 16 (not (P .variadic d)) ∷ []) (h .accepted) ∙ by (P .variadic d))
+      (first-append (P .order d) (rule 16 (not (P .variadic d)) ∷ []) (P .counted d) (h .accepted) ∙ by (P .variadic d))
     where
       by : (b : Bool) → first (rule 16 (not b) ∷ []) ≡ cond b 0 16
       by true = refl
@@ -56,23 +71,23 @@ module _ (P : Paper) where
       rule 17 (otherNumber s w) ∷ rule 18 (astray P d w) ∷ rule 19 (atEnd P d w) ∷ rule 20 (otherType P d w a) ∷ late
 
   abbrev pub heldOrder : Station → List ℕ → Walk → Ask → List Rule → List Rule
-  heldOrder s d w a late = rule 11 (wrongRegisters a) ∷ lateOrder s d w a late
+  heldOrder s d w a late = rule 11 (wrongRegisters P a) ∷ lateOrder s d w a late
 
   pub step-held : Lawful P → (s : Station) (seat d : List ℕ) (w : Walk) (a : Ask) → Holds P s seat d
       → stepRefusal P s seat w a ≡ first (heldOrder s d w a (rule 11 (wrongStack P d a || wrongOut P d w a) ∷ []))
   unfolding stepRefusal verdictOf otherNumber
   step-held L s seat d w a h =
       rw (right-held P L s seat d h, described-held P s seat d h, h .attached)
-      (ap (λ (n : ℕ). cond (wrongRegisters a) 11 n)
-      (first-append 0 (P .conditions d) (lateOrder s d w a (rule 11 (wrongStack P d a || wrongOut P d w a) ∷ [])) (h .accepted)))
+      (ap (λ (n : ℕ). cond (wrongRegisters P a) 11 n)
+      (first-append (P .order d) (lateOrder s d w a (rule 11 (wrongStack P d a || wrongOut P d w a) ∷ [])) (P .counted d) (h .accepted)))
 
   pub show-held : Lawful P → (s : Station) (seat d : List ℕ) (w : Walk) (a : Ask) → Holds P s seat d
       → showRefusal P s seat w a ≡ first (heldOrder s d w a (rule 11 (wrongStack P d a) ∷ []))
   unfolding showRefusal verdictOf otherNumber
   show-held L s seat d w a h =
       rw (right-held P L s seat d h, described-held P s seat d h, h .attached)
-      (ap (λ (n : ℕ). cond (wrongRegisters a) 11 n)
-      (first-append 0 (P .conditions d) (lateOrder s d w a (rule 11 (wrongStack P d a) ∷ [])) (h .accepted)))
+      (ap (λ (n : ℕ). cond (wrongRegisters P a) 11 n)
+      (first-append (P .order d) (lateOrder s d w a (rule 11 (wrongStack P d a) ∷ [])) (P .counted d) (h .accepted)))
 
   -- ---- where a walk stands
 
@@ -84,48 +99,48 @@ module _ (P : Paper) where
       rw (le-ltb p (P .named d) l, le-ltb (arguments P d) p m, eq-eqb (w .general) (w .general) refl, eq-eqb (w .vector) (w .vector) refl, eq-eqb (w .overflow) (w .overflow) refl)
 
   -- a step from there leads to the next
-  pub moves-on : (d : List ℕ) (n p : ℕ) → All Shaped (P .shapes d) → p < arguments P d → movedOn P d (standing P d n p) ≡ standing P d n (suc p)
+  pub moves-on : (d : List ℕ) (n p : ℕ) → Known d → p < arguments P d → movedOn P d (standing P d n p) ≡ standing P d n (suc p)
   unfolding movedOn standing usedAt shapeAt arguments
   moves-on d n p h l =
       ap (λ (o : Offsets). withOffsets n (suc p) o)
-      (step-agrees (usedAt P d p) (shapeAt P d p) (shaped-at _ (P .shapes d) p h l) (after-eights (take p (P .shapes d)) (fresh (P .hidden d)) refl)
-      ∙ ap walkAt (sym (after-at (P .shapes d) (fresh (P .hidden d)) p _ l)))
+      (step-agrees (P .slot) (usedAt P d p) (shapeAt P d p) (shaped-at _ (P .shapes d) p (h .shaped) l) (after-slotted (P .slot) (take p (P .shapes d)) (P .first d) (h .starts))
+      ∙ ap walkAt (sym (after-at (P .slot) (P .shapes d) (P .first d) p _ l)))
 
-  pub standing-reads : (d : List ℕ) (n p : ℕ) → All Shaped (P .shapes d) → p < arguments P d
-      → readAt (offsetsOf (standing P d n p)) (shapeAt P d p) ≡ sourceIn (place (usedAt P d p) (shapeAt P d p))
+  pub standing-reads : (d : List ℕ) (n p : ℕ) → Known d → p < arguments P d
+      → readAt (P .slot) (offsetsOf (standing P d n p)) (shapeAt P d p) ≡ sourceIn (place (P .slot) (usedAt P d p) (shapeAt P d p))
   unfolding standing usedAt shapeAt arguments
   standing-reads d n p h l =
-      read-agrees (usedAt P d p) (shapeAt P d p) (shaped-at _ (P .shapes d) p h l) (after-eights (take p (P .shapes d)) (fresh (P .hidden d)) refl)
+      read-agrees (P .slot) (usedAt P d p) (shapeAt P d p) (shaped-at _ (P .shapes d) p (h .shaped) l) (after-slotted (P .slot) (take p (P .shapes d)) (P .first d) (h .starts))
 
   bytes-at : (d : List ℕ) (n p : ℕ) (a : Ask) → bytesAt P d (standing P d n p) a
-      ≡ gather (a .registers ++ a .stack) (bytesFrom (readAt (offsetsOf (standing P d n p)) (shapeAt P d p)) (shapeAt P d p .size))
+      ≡ gather (a .registers ++ a .stack) (bytesFrom (P .registers) (readAt (P .slot) (offsetsOf (standing P d n p)) (shapeAt P d p)) (shapeAt P d p .size))
   unfolding bytesAt standing
   bytes-at d n p a = refl
 
-  cut-place : (d images : List ℕ) (p : ℕ) → All Shaped (P .shapes d) → p < arguments P d
-      → getD (cut (P .shapes d) (gather images (addresses (fresh (P .hidden d)) (P .shapes d)))) p []
-      ≡ gather images (bytesOf (place (usedAt P d p) (shapeAt P d p)) (shapeAt P d p .size))
+  cut-place : (d images : List ℕ) (p : ℕ) → Known d → p < arguments P d
+      → getD (cut (P .shapes d) (gather images (addresses (P .registers) (P .slot) (P .first d) (P .shapes d)))) p []
+      ≡ gather images (bytesOf (P .registers) (place (P .slot) (usedAt P d p) (shapeAt P d p)) (shapeAt P d p .size))
   unfolding usedAt shapeAt arguments
-  cut-place d images p h l = cut-gathered _ (P .shapes d) p (fresh (P .hidden d)) images h l
+  cut-place d images p h l = cut-gathered (P .registers) (P .slot) _ (P .shapes d) p (P .first d) images (h .shaped) l
 
   -- and reads the argument's bytes
-  pub reads : (d address values : List ℕ) (n p : ℕ) (a : Ask) → All Shaped (P .shapes d) → p < arguments P d
-      → length values ≡ total (P .shapes d) → Lends (imagesFor P d address values) a
+  pub reads : (d address values : List ℕ) (n p : ℕ) (a : Ask) → Known d → p < arguments P d
+      → length values ≡ total (P .shapes d) → Lends P (imagesFor P d address values) a
       → bytesAt P d (standing P d n p) a ≡ getD (cut (P .shapes d) values) p []
   reads d address values n p a h l f g =
       let images = imagesFor P d address values in
       let o = shapeAt P d p in
       bytes-at d n p a
-      ∙ ap (λ (m : List ℕ). gather m (bytesFrom (readAt (offsetsOf (standing P d n p)) o) (o .size))) (ap₂ _++_ (g .registers) (g .stack) ∙ take-append-drop 176 images)
-      ∙ ap (λ (q : Source). gather images (bytesFrom q (o .size))) (standing-reads d n p h l)
-      ∙ ap (λ (ps : List ℕ). gather images ps) (bytes-in (place (usedAt P d p) o) (o .size))
+      ∙ ap (λ (m : List ℕ). gather m (bytesFrom (P .registers) (readAt (P .slot) (offsetsOf (standing P d n p)) o) (o .size))) (ap₂ _++_ (g .registers) (g .stack) ∙ take-append-drop (P .registers) images)
+      ∙ ap (λ (q : Source). gather images (bytesFrom (P .registers) q (o .size))) (standing-reads d n p h l)
+      ∙ ap (λ (ps : List ℕ). gather images ps) (bytes-in (P .registers) (place (P .slot) (usedAt P d p) o) (o .size))
       ∙ sym (cut-place d images p h l)
-      ∙ ap (λ (v : List ℕ). getD (cut (P .shapes d) v) p []) (gather-images P d address values h f)
+      ∙ ap (λ (v : List ℕ). getD (cut (P .shapes d) v) p []) (gather-images P d address values (h .shaped) (h .seated) f)
 
   -- ---- what a step answers there
 
-  pub lends-right : (d address values : List ℕ) (a : Ask) → Lends (imagesFor P d address values) a
-      → (length (a .registers) ≡ 176) × (length (a .stack) ≡ areaOf P d)
+  pub lends-right : (d address values : List ℕ) (a : Ask) → Lends P (imagesFor P d address values) a
+      → (length (a .registers) ≡ P .registers) × (length (a .stack) ≡ areaOf P d)
   lends-right d address values a g =
       let l = length-images P d address values in
       (rw (g .registers, length-take) (omega arith), rw (g .stack, length-drop) (omega arith))
@@ -135,19 +150,19 @@ module _ (P : Paper) where
       rule 19 (eqb p (arguments P d)) ∷ rule 20 (not (eqb (a .asked) (typeAt P d p))) ∷ rule 11 (not (eqb (length (a .out)) (shapeAt P d p .size))) ∷ []
 
   pub step-standing : Lawful P → (s : Station) (seat d : List ℕ) (p : ℕ) (a : Ask) → Holds P s seat d → P .named d ≤ p → p ≤ arguments P d
-      → length (a .registers) ≡ 176 → length (a .stack) ≡ areaOf P d
+      → length (a .registers) ≡ P .registers → length (a .stack) ≡ areaOf P d
       → stepRefusal P s seat (standing P d (s .number) p) a ≡ first (standingOrder d p a)
   step-standing L s seat d p a h l m x y =
       step-held L s seat d (standing P d (s .number) p) a h
       ∙ rw (standing-right d (s .number) p l m)
       (unfold standing wrongRegisters otherNumber atEnd otherType wrongStack wrongOut in
-      rw (eq-eqb (length (a .registers)) 176 x, eq-eqb (s .number) (s .number) refl, eq-eqb (length (a .stack)) (areaOf P d) y))
+      rw (eq-eqb (length (a .registers)) (P .registers) x, eq-eqb (s .number) (s .number) refl, eq-eqb (length (a .stack)) (areaOf P d) y))
 
   pub show-standing : Lawful P → (s : Station) (seat d : List ℕ) (p : ℕ) (a : Ask) → Holds P s seat d → P .named d ≤ p → p ≤ arguments P d
-      → length (a .registers) ≡ 176 → length (a .stack) ≡ areaOf P d
+      → length (a .registers) ≡ P .registers → length (a .stack) ≡ areaOf P d
       → showRefusal P s seat (standing P d (s .number) p) a ≡ first (rule 19 (eqb p (arguments P d)) ∷ rule 20 (not (eqb (a .asked) (typeAt P d p))) ∷ [])
   show-standing L s seat d p a h l m x y =
       show-held L s seat d (standing P d (s .number) p) a h
       ∙ rw (standing-right d (s .number) p l m)
       (unfold standing wrongRegisters otherNumber atEnd otherType wrongStack in
-      rw (eq-eqb (length (a .registers)) 176 x, eq-eqb (s .number) (s .number) refl, eq-eqb (length (a .stack)) (areaOf P d) y))
+      rw (eq-eqb (length (a .registers)) (P .registers) x, eq-eqb (s .number) (s .number) refl, eq-eqb (length (a .stack)) (areaOf P d) y))

@@ -132,10 +132,10 @@ module _ (P : Paper) where
 
 -- ---- the host's part
 
--- the two images that are lent are those of the one list: the 176 bytes of the registers, and after them the stack area
-pub record Lends (images : List ℕ) (a : Ask) : Type 0 where
-  pub registers : a .registers ≡ take 176 images
-  pub stack : a .stack ≡ drop 176 images
+-- the two images that are lent are those of the one list: the bytes of the registers, and after them the stack area
+pub record Lends (P : Paper) (images : List ℕ) (a : Ask) : Type 0 where
+  pub registers : a .registers ≡ take (P .registers) images
+  pub stack : a .stack ≡ drop (P .registers) images
 
 -- "changes .. each walk record by these calls only, steps a walk on from the record its last call left": the host lets no open and no
 -- writing of its own fall on the walk i
@@ -149,21 +149,21 @@ Spares i (numbering j a) = Unit {0}
 Spares i (writing j w) = i ≢ j
 
 -- it lends each step of the walk i, accepted or not, the images images
-abbrev pub Serves : ℕ → List ℕ → Call → Type 0
-Serves i images (attaching d b) = Unit {0}
-Serves i images detaching = Unit {0}
-Serves i images (opening j) = Unit {0}
-Serves i images (stepping j a) = i ≡ j → Lends images a
-Serves i images (showing j a) = Unit {0}
-Serves i images (numbering j a) = Unit {0}
-Serves i images (writing j w) = Unit {0}
+abbrev pub Serves : Paper → ℕ → List ℕ → Call → Type 0
+Serves P i images (attaching d b) = Unit {0}
+Serves P i images detaching = Unit {0}
+Serves P i images (opening j) = Unit {0}
+Serves P i images (stepping j a) = i ≡ j → Lends P images a
+Serves P i images (showing j a) = Unit {0}
+Serves P i images (numbering j a) = Unit {0}
+Serves P i images (writing j w) = Unit {0}
 
 -- each accepted step of the walk i is lent these images; a refused one may be lent anything
 abbrev pub Served : Paper → ℕ → List ℕ → Desk → Call → Type 0
 Served P i images k (attaching d b) = Unit {0}
 Served P i images k detaching = Unit {0}
 Served P i images k (opening j) = Unit {0}
-Served P i images k (stepping j a) = i ≡ j → stepRefusal P (k .station) (k .seat) (k .walks j) a ≡ 0 → Lends images a
+Served P i images k (stepping j a) = i ≡ j → stepRefusal P (k .station) (k .seat) (k .walks j) a ≡ 0 → Lends P images a
 Served P i images k (showing j a) = Unit {0}
 Served P i images k (numbering j a) = Unit {0}
 Served P i images k (writing j w) = Unit {0}

@@ -52,7 +52,7 @@ abbrev pub HandsBack : Paper → Type 0
 HandsBack P =
     (k : Desk) (d : List ℕ) (b : IsBytes d) (address values : List ℕ) (i : ℕ) (between cs : List Call)
     → Connects P k d b between → P .variadic d ≡ true → Cares P d values i cs
-    → All (Serves i (imagesFor P d address values)) cs → Along P (Stays P) (opened P k d b between i) cs → asks i cs ≡ unnamedQuestions P d
+    → All (Serves P i (imagesFor P d address values)) cs → Along P (Stays P) (opened P k d b between i) cs → asks i cs ≡ unnamedQuestions P d
     → (handed P i (opened P k d b between i) cs ≡ unnamed P d values)
     × Ended P i (calls P (opened P k d b between i) cs) (imagesFor P d address values)
 
@@ -61,7 +61,7 @@ abbrev pub HandsBackSoFar : Paper → Type 0
 HandsBackSoFar P =
     (k : Desk) (d : List ℕ) (b : IsBytes d) (address values : List ℕ) (i m : ℕ) (between cs : List Call)
     → Connects P k d b between → P .variadic d ≡ true → Cares P d values i cs
-    → All (Serves i (imagesFor P d address values)) cs → Along P (Stays P) (opened P k d b between i) cs
+    → All (Serves P i (imagesFor P d address values)) cs → Along P (Stays P) (opened P k d b between i) cs
     → asks i cs ≡ take m (unnamedQuestions P d)
     → handed P i (opened P k d b between i) cs ≡ take m (unnamed P d values)
 
@@ -103,7 +103,7 @@ StaleRecord P =
 abbrev pub AnyRecord : Paper → Type 0
 AnyRecord P =
     (s : Station) (seat d address values : List ℕ) (w : Walk) (a : Ask) → Holds P s seat d → length values ≡ total (P .shapes d)
-    → Lends (imagesFor P d address values) a → stepRefusal P s seat w a ≡ 0
+    → Lends P (imagesFor P d address values) a → stepRefusal P s seat w a ≡ 0
     → (w ≡ standing P d (s .number) (w .position)) × (stepOut P s seat w a ≡ getD (cut (P .shapes d) values) (w .position) [])
 
 -- a history has a first accepted detach, or none: it falls under `Stale` from there, or under `GoesOn`
@@ -147,7 +147,7 @@ OpenReached P =
 -- the order of step and show without 1 to 10
 abbrev pub reachedOrder : Paper → Station → List ℕ → Walk → Ask → List Rule → List Rule
 reachedOrder P s seat w a late =
-    rule 11 (wrongSeat s seat || wrongRegisters a) ∷ rule 13 (not (s .attached)) ∷ rule 17 (otherNumber s w)
+    rule 11 (wrongSeat s seat || wrongRegisters P a) ∷ rule 13 (not (s .attached)) ∷ rule 17 (otherNumber s w)
     ∷ rule 18 (astray P (described s seat) w) ∷ rule 19 (atEnd P (described s seat) w)
     ∷ rule 20 (otherType P (described s seat) w a) ∷ late
 
@@ -175,7 +175,7 @@ abbrev pub Shows : Paper → Type 0
 Shows P =
     (s : Station) (seat : List ℕ) (w : Walk) (a : Ask) → showRefusal P s seat w a ≡ 0
     → showPart P s seat w a
-    ≡ cond (whole (readAt (offsetsOf w) (shapeAt P (described s seat) (w .position))) (shapeAt P (described s seat) (w .position)))
+    ≡ cond (whole (readAt (P .slot) (offsetsOf w) (shapeAt P (described s seat) (w .position))) (shapeAt P (described s seat) (w .position)))
     (bytesAt P (described s seat) w a) []
 
 -- "and the empty part for a refusal"

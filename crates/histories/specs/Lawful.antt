@@ -2,22 +2,27 @@
 use mathlib.Core.Path.{_≡_}
 use mathlib.Core.Bool.{true, false}
 use mathlib.Core.List.{List}
-use Prim.Native.Nat.{ℕ, _≤_}
+use Prim.Native.Nat.{ℕ, _%_, _≤_}
 use lib.ListN.{length}
 use Rattle.addresses.specs.Addresses.{All}
 use Rattle.description.specs.Description.{IsBytes}
 use Rattle.places.specs.Shapes.{Shaped}
+use Rattle.places.specs.Places.{wide}
+use Rattle.places.specs.Statements.{Seated}
 use Rattle.station.specs.declared.Station.{Station}
 use Rattle.station.specs.Paper.{Paper, verdictOf, arguments}
 use Rattle.station.specs.Attachment.{seatOf}
 
 module _ (P : Paper) where
-  -- "at most 586", of a list of bytes; what classification guarantees; "N is at most A"; a type number for each argument
+  -- "at most 586", of a list of bytes; what classification guarantees; "N is at most A"; a type number for each argument; registers only
+  -- where there is a register image; what is used at first of the stack is slots
   pub record Lawful : Type 0 where
     pub short : (d : List ℕ) → IsBytes d → verdictOf P d ≡ 0 → length d ≤ 586
     pub shaped : (d : List ℕ) → verdictOf P d ≡ 0 → All Shaped (P .shapes d)
     pub within : (d : List ℕ) → verdictOf P d ≡ 0 → P .named d ≤ arguments P d
     pub typed : (d : List ℕ) → verdictOf P d ≡ 0 → length (P .types d) ≡ arguments P d
+    pub seated : (d : List ℕ) → verdictOf P d ≡ 0 → All (Seated (P .registers)) (P .shapes d)
+    pub starts : (d : List ℕ) → verdictOf P d ≡ 0 → P .first d .stack .0 % wide (P .slot) ≡ 0
 
   -- the seat holds the accepted description d, and the station knows it
   pub record Holds (s : Station) (seat d : List ℕ) : Type 0 where

@@ -48,32 +48,32 @@ pub record Next (P : Paper) (d address values : List ℕ) (i : ℕ) (k : Desk) (
   pub bytes : hs ≡ take (length hs) (unnamed P d values)
   pub walk : k .walks i ≡ standing P d (k .station .number) (P .named d + length hs)
   pub within : P .named d + length hs ≤ arguments P d
-  pub answer : (a : Ask) → Lends (imagesFor P d address values) a
+  pub answer : (a : Ask) → Lends P (imagesFor P d address values) a
       → stepRefusal P (k .station) (k .seat) (k .walks i) a ≡ first
       (rule 19 (eqb (P .named d + length hs) (arguments P d)) ∷ rule 20 (not (eqb (a .asked) (typeAt P d (P .named d + length hs))))
       ∷ rule 11 (not (eqb (length (a .out)) (shapeAt P d (P .named d + length hs) .size))) ∷ [])
-  pub show : (a : Ask) → Lends (imagesFor P d address values) a
+  pub show : (a : Ask) → Lends P (imagesFor P d address values) a
       → showRefusal P (k .station) (k .seat) (k .walks i) a ≡ first
       (rule 19 (eqb (P .named d + length hs) (arguments P d)) ∷ rule 20 (not (eqb (a .asked) (typeAt P d (P .named d + length hs)))) ∷ [])
-  pub part : (a : Ask) → Lends (imagesFor P d address values) a → showRefusal P (k .station) (k .seat) (k .walks i) a ≡ 0
+  pub part : (a : Ask) → Lends P (imagesFor P d address values) a → showRefusal P (k .station) (k .seat) (k .walks i) a ≡ 0
       → showPart P (k .station) (k .seat) (k .walks i) a
-      ≡ cond (whole (sourceIn (place (usedAt P d (P .named d + length hs)) (shapeAt P d (P .named d + length hs)))) (shapeAt P d (P .named d + length hs)))
+      ≡ cond (whole (sourceIn (place (P .slot) (usedAt P d (P .named d + length hs)) (shapeAt P d (P .named d + length hs)))) (shapeAt P d (P .named d + length hs)))
       (getD (unnamed P d values) (length hs) []) []
 
 -- the walk i is at its end: 19
 abbrev pub Ended : Paper → ℕ → Desk → List ℕ → Type 0
-Ended P i k images = (a : Ask) → Lends images a → stepRefusal P (k .station) (k .seat) (k .walks i) a ≡ 19
+Ended P i k images = (a : Ask) → Lends P images a → stepRefusal P (k .station) (k .seat) (k .walks i) a ≡ 19
 
 -- ---- a walk of an earlier attachment
 
 -- 11 for a register image of wrong length, 13 where nothing is attached, and else 17
-unfoldable pub staleNumber : Station → Ask → ℕ
-staleNumber s a = first (rule 11 (wrongRegisters a) ∷ rule 13 (not (s .attached)) ∷ rule 17 true ∷ [])
+unfoldable pub staleNumber : Paper → Station → Ask → ℕ
+staleNumber P s a = first (rule 11 (wrongRegisters P a) ∷ rule 13 (not (s .attached)) ∷ rule 17 true ∷ [])
 
 -- a step of this record, a show of it and the show's number are refused as those of an earlier attachment
 pub record Refused (P : Paper) (k : Desk) (w : Walk) (a : Ask) : Type 0 where
-  pub step : stepRefusal P (k .station) (k .seat) w a ≡ staleNumber (k .station) a
-  pub show : showRefusal P (k .station) (k .seat) w a ≡ staleNumber (k .station) a
+  pub step : stepRefusal P (k .station) (k .seat) w a ≡ staleNumber P (k .station) a
+  pub show : showRefusal P (k .station) (k .seat) w a ≡ staleNumber P (k .station) a
   pub part : showPart P (k .station) (k .seat) w a ≡ []
 
 -- the walk i is a thing of the past: from k on, whatever is called, no step of it is accepted, and it hands nothing back

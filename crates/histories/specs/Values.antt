@@ -1,11 +1,9 @@
 -- What a walk is to hand back, and the images that are placed for it. Assumes nothing: these are definitions.
-use mathlib.Core.Bool.{Bool, cond}
 use mathlib.Core.List.{List, [], _∷_, _++_}
 use Prim.Native.Nat.{ℕ, _+_}
 use lib.ListN.{take, drop, replicate}
-use Rattle.addresses.specs.Addresses.{run, scatter}
+use Rattle.addresses.specs.Addresses.{scatter}
 use Rattle.places.specs.Shapes.{Shape}
-use Rattle.places.specs.Places.{fresh}
 use Rattle.places.specs.Images.{addresses}
 use Rattle.station.specs.Paper.{Paper, shapeAt, typeAt, areaOf}
 use Rattle.histories.specs.Calls.{Question}
@@ -21,14 +19,14 @@ joined [] = []
 joined (v ∷ vs) = v ++ joined vs
 
 -- "writes zero everywhere else in both images. The hidden address .. fills rdi where it is used and is otherwise not looked at": the
--- images, n bytes of stack, before a value is placed. `address` is the hidden address, as bytes; rdi is the first eight of the register image
-unfoldable pub blank : Bool → List ℕ → ℕ → List ℕ
-blank hidden address n = cond hidden (scatter (replicate (176 + n) 0) (run 0 8) address) (replicate (176 + n) 0)
+-- images, n bytes of stack, before a value is placed. `address` is the hidden address, as bytes
+unfoldable pub blank : Paper → List ℕ → List ℕ → ℕ → List ℕ
+blank P d address n = scatter (replicate (P .registers + n) 0) (P .address d) address
 
 -- "Placing copies each value byte to its place": the register image, and after it the stack image. That `place_values` leaves these is
 -- the promise `placed-for`; the address has eight bytes there, and here any number
 unfoldable pub imagesFor : Paper → List ℕ → List ℕ → List ℕ → List ℕ
-imagesFor P d address values = scatter (blank (P .hidden d) address (areaOf P d)) (addresses (fresh (P .hidden d)) (P .shapes d)) values
+imagesFor P d address values = scatter (blank P d address (areaOf P d)) (addresses (P .registers) (P .slot) (P .first d) (P .shapes d)) values
 
 -- "each unnamed argument's bytes in order"
 abbrev pub unnamed : Paper → List ℕ → List ℕ → List (List ℕ)

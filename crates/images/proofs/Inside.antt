@@ -10,7 +10,7 @@ use Rattle.places.specs.declared.Kind.{Kind}
 use Rattle.places.specs.declared.Kind.the-variants.{General as general, Vector as vector, Upper as upper}
 use Rattle.places.specs.declared.Used.{Used}
 use Rattle.places.specs.Shapes.{Shape, some?, Led, Shaped}
-use Rattle.places.specs.Places.{Place, inRegisters, onStack, generals, vectors, generalFor, vectorFor, registersFor, fits, placeIf, place, next}
+use Rattle.places.specs.Places.{eights, Place, inRegisters, onStack, generals, vectors, generalFor, vectorFor, registersFor, fits, placeIf, place, next}
 use Rattle.places.specs.Recorded.{placeOf, recorded}
 use Rattle.places.proofs.Fits.{fits-true}
 use Rattle.places.proofs.Apart.{low, stack-room}
@@ -49,11 +49,11 @@ some-long : (ks : List Kind) → some? ks ≡ true → 1 ≤ length ks
 some-long [] e = absurd (let z : _≡_ {A = ℕ} 0 1 = cc in omega arith)
 some-long (k ∷ ks) e = omega arith
 
-place-fine : (u : Used) (s : Shape) (n : ℕ) → Shaped s → next u s .stack .0 ≤ n → Fine (place u s) (s .size) n
+place-fine : (u : Used) (s : Shape) (n : ℕ) → Shaped s → next eights u s .stack .0 ≤ n → Fine (place eights u s) (s .size) n
 unfolding place
 place-fine u s n h l = by (fits u (s .kinds)) refl
   where
-    by : (b : Bool) → fits u (s .kinds) ≡ b → Fine (placeIf b u s) (s .size) n
+    by : (b : Bool) → fits u (s .kinds) ≡ b → Fine (placeIf eights b u s) (s .size) n
     by true e =
         let fit = fits-true u (s .kinds) e in
         let room = h .room (fit .some) in
@@ -61,9 +61,9 @@ place-fine u s n h l = by (fits u (s .kinds)) refl
           registers-known (s .kinds) false (u .general .0) (u .vector .0) (h .led) (fit .general) (fit .vector) (omega arith),
           omega (arith, some-long (s .kinds) (fit .some), h .few),
         )
-    by false e = omega (arith, stack-room u s e)
+    by false e = omega (arith, stack-room eights u s e)
 
 -- the record of an argument's place says that place, and lies within images whose stack has at least what is used after it
-pub place-inside : (u : Used) (s : Shape) (n : ℕ) → Shaped s → next u s .stack .0 ≤ n
-    → (placeOf (recorded (place u s)) ≡ place u s) × Inside (recorded (place u s)) (s .size) n
-place-inside u s n h l = fine-inside (place u s) (s .size) n (place-fine u s n h l)
+pub place-inside : (u : Used) (s : Shape) (n : ℕ) → Shaped s → next eights u s .stack .0 ≤ n
+    → (placeOf (recorded (place eights u s)) ≡ place eights u s) × Inside (recorded (place eights u s)) (s .size) n
+place-inside u s n h l = fine-inside (place eights u s) (s .size) n (place-fine u s n h l)

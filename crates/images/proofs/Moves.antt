@@ -116,7 +116,7 @@ scatter-two img vals a b i n m =
 
 module _ (r s vals : List ℕ) (p : Place) (size k : ℕ) (h : AskMove p size k (length r) (length s) (length vals)) where
   pub placed-one : (a : Register) → p ≡ One a → (x : ℕ) → x ≡ addressOf a → (r′ : List ℕ) → r′ ≡ copied r x vals k size
-      → r′ ++ s ≡ scatter (r ++ s) (bytesOf (placeOf p) size) (gather vals (run k size))
+      → r′ ++ s ≡ scatter (r ++ s) (bytesOf 176 (placeOf p) size) (gather vals (run k size))
   placed-one a e x q r′ f =
       let room = room-one p size k _ _ _ h a e x q in
       rw (e, f, ← q)
@@ -124,12 +124,12 @@ module _ (r s vals : List ℕ) (p : Place) (size k : ℕ) (h : AskMove p size k 
       ∙ ap (λ (ps : List ℕ). scatter (r ++ s) ps (gather vals (run k size))) (sym (spread-one x size (ask-one p size k _ _ _ h a e .1))))
 
   pub placed-stack : (o : Bytes) → p ≡ Stack o → (s′ : List ℕ) → s′ ≡ copied s (o .0) vals k size
-      → r ++ s′ ≡ scatter (r ++ s) (bytesOf (placeOf p) size) (gather vals (run k size))
+      → r ++ s′ ≡ scatter (r ++ s) (bytesOf 176 (placeOf p) size) (gather vals (run k size))
   placed-stack o e s′ f = rw (e, f) (copied-right r s vals (o .0) k size (h .whole))
 
   pub placed-two : (a b : Register) → p ≡ Two a b → (x y j m : ℕ) → x ≡ addressOf a → y ≡ addressOf b → j ≡ k + 8 → m ≡ size - 8
       → (r′ r″ : List ℕ) → r′ ≡ copied r x vals k 8 → r″ ≡ copied r′ y vals j m
-      → r″ ++ s ≡ scatter (r ++ s) (bytesOf (placeOf p) size) (gather vals (run k size))
+      → r″ ++ s ≡ scatter (r ++ s) (bytesOf 176 (placeOf p) size) (gather vals (run k size))
   placed-two a b e x y j m qx qy qj qm r′ r″ f g =
       let low = room-low p size k _ _ _ h a b e x qx in
       let high = room-high p size k _ _ _ h a b e y j m qy qj qm in
@@ -148,7 +148,7 @@ module _ (r s vals : List ℕ) (p : Place) (size k : ℕ) (h : AskMove p size k 
 
 module _ (r s vals : List ℕ) (p : Place) (size k : ℕ) (h : AskMove p size k (length r) (length s) (length vals)) where
   pub gathered-one : (a : Register) → p ≡ One a → (x : ℕ) → x ≡ addressOf a → (v : List ℕ) → v ≡ copied vals k r x size
-      → v ≡ scatter vals (run k size) (gather (r ++ s) (bytesOf (placeOf p) size))
+      → v ≡ scatter vals (run k size) (gather (r ++ s) (bytesOf 176 (placeOf p) size))
   unfolding copied
   gathered-one a e x q v f =
       let room = room-one p size k _ _ _ h a e x q in
@@ -158,13 +158,13 @@ module _ (r s vals : List ℕ) (p : Place) (size k : ℕ) (h : AskMove p size k 
       ∙ ap (λ (ps : List ℕ). gather (r ++ s) ps) (sym (spread-one x size (ask-one p size k _ _ _ h a e .1)))))
 
   pub gathered-stack : (o : Bytes) → p ≡ Stack o → (v : List ℕ) → v ≡ copied vals k s (o .0) size
-      → v ≡ scatter vals (run k size) (gather (r ++ s) (bytesOf (placeOf p) size))
+      → v ≡ scatter vals (run k size) (gather (r ++ s) (bytesOf 176 (placeOf p) size))
   unfolding copied
   gathered-stack o e v f = rw (e, f) (ap (λ (vs : List ℕ). scatter vals (run k size) vs) (gather-right-run r s (o .0) size (h .whole)))
 
   pub gathered-two : (a b : Register) → p ≡ Two a b → (x y j m : ℕ) → x ≡ addressOf a → y ≡ addressOf b → j ≡ k + 8 → m ≡ size - 8
       → (v w : List ℕ) → v ≡ copied vals k r x 8 → w ≡ copied v j r y m
-      → w ≡ scatter vals (run k size) (gather (r ++ s) (bytesOf (placeOf p) size))
+      → w ≡ scatter vals (run k size) (gather (r ++ s) (bytesOf 176 (placeOf p) size))
   unfolding copied
   gathered-two a b e x y j m qx qy qj qm v w f g =
       let low = room-low p size k _ _ _ h a b e x qx in

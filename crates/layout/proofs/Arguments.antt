@@ -7,7 +7,7 @@ use native.Mathlib.Numerals.{sub-one}
 use native.Mathlib.Omega.{arith}
 use lib.ListN.{length}
 use Rattle.places.specs.Shapes.{Shape}
-use Rattle.places.specs.Places.{next, after}
+use Rattle.places.specs.Places.{eights, next, after}
 use Rattle.places.proofs.Prefix.{after-append}
 use Rattle.layout.specs.Arguments.{shapeAt, shapesFrom, usedFirst, usedAt}
 
@@ -54,13 +54,13 @@ module _ (d : List ℕ) where
       rw (← q) (shapes-append n 0 (m - n) ∙ rw (zero-add, q))
 
   -- what is used after the arguments up to m
-  pub used-split : (n m : ℕ) → n ≤ m → usedAt d m ≡ after (usedAt d n) (shapesFrom d n (m - n))
+  pub used-split : (n m : ℕ) → n ≤ m → usedAt d m ≡ after eights (usedAt d n) (shapesFrom d n (m - n))
   unfolding usedAt
-  used-split n m h = rw (shapes-split n m h) (after-append (shapesFrom d 0 n) (shapesFrom d n (m - n)) (usedFirst d))
+  used-split n m h = rw (shapes-split n m h) (after-append eights (shapesFrom d 0 n) (shapesFrom d n (m - n)) (usedFirst d))
 
   pub used-none : usedAt d 0 ≡ usedFirst d
   unfolding usedAt
   used-none = rw (shapes-none 0)
 
-  pub used-next : (i : ℕ) → usedAt d (i + 1) ≡ next (usedAt d i) (shapeAt d i)
+  pub used-next : (i : ℕ) → usedAt d (i + 1) ≡ next eights (usedAt d i) (shapeAt d i)
   used-next i = used-split i (i + 1) (omega arith) ∙ rw (shapes-single i)

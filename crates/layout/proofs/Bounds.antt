@@ -12,7 +12,7 @@ use Rattle.uses.specs.Uses.{usesRefusal}
 use Rattle.uses.proofs.Uses.{accepted-types, accepted-typed}
 use Rattle.places.specs.declared.Used.{Used}
 use Rattle.places.specs.Shapes.{Shaped}
-use Rattle.places.specs.Places.{next}
+use Rattle.places.specs.Places.{eights, next}
 use Rattle.places.specs.Recorded.{Small, Room}
 use Rattle.places.proofs.Fits.{next-bounds}
 use Rattle.places.proofs.Offsets.{next-room}
@@ -51,10 +51,10 @@ module _ (d : List ℕ) (right : usesRefusal d ≡ 0) where
   pub all-shaped : All Shaped (shapes d)
   all-shaped = shapes-shaped (argumentsIn d) 0 (omega arith)
 
-  pub before-next : (i : ℕ) (u : Used) → i < argumentsIn d → Before i u → Before (i + 1) (next u (shapeAt d i))
+  pub before-next : (i : ℕ) (u : Used) → i < argumentsIn d → Before i u → Before (i + 1) (next eights u (shapeAt d i))
   before-next i u h b =
-      let k = next-bounds u (shapeAt d i) (b .general) (b .vector) in
-      record { general = k .0; vector = k .1; stack = omega (arith, next-room u (shapeAt d i) (argument-small i h), b .stack) }
+      let k = next-bounds eights u (shapeAt d i) (b .general) (b .vector) in
+      record { general = k .0; vector = k .1; stack = omega (arith, next-room eights u (shapeAt d i) (argument-small i h), b .stack) }
 
 -- what place_next asks
 pub before-room : (i : ℕ) (u : Used) → i ≤ 64 → Before i u → Room u

@@ -18,7 +18,7 @@ use Rattle.classify.specs.Table.{fullEntry}
 use Rattle.uses.specs.Uses.{usesRefusal}
 use Rattle.uses.proofs.Uses.{accepted-typed}
 use Rattle.places.specs.declared.Used.{Used}
-use Rattle.places.specs.Places.{fresh, after, area}
+use Rattle.places.specs.Places.{eights, fresh, after, area}
 use Rattle.places.specs.Images.{total}
 use Rattle.places.proofs.Prefix.{total-append}
 use Rattle.layout.specs.Arguments.{shapesFrom, returnPlace, hidden, usedAt, areaOf}
@@ -80,7 +80,7 @@ module _ (d : List ℕ) where
     asks-first right n l = record { right = right; order = omega arith; there = l; before = rw e (fresh-before b); sum = omega arith }
 
     pub laid-used : (n : ℕ) (r : Laying) → IsLaid f 0 (shapesFrom d 0 (n - 0)) r → r .used ≡ usedAt d n
-    laid-used n r h = h .used ∙ ap (λ (u : Used). after u (shapesFrom d 0 (n - 0))) start ∙ sym (used-split d 0 n (omega arith))
+    laid-used n r h = h .used ∙ ap (λ (u : Used). after eights u (shapesFrom d 0 (n - 0))) start ∙ sym (used-split d 0 n (omega arith))
 
     pub laid-values : (n : ℕ) (r : Laying) → IsLaid f 0 (shapesFrom d 0 (n - 0)) r → r .values .0 ≡ valuesAt n
     unfolding valuesAt
@@ -101,7 +101,7 @@ module _ (d : List ℕ) where
         within = omega (arith, accepted-typed d right .named)
 
         pub whole-used : r .used ≡ usedAt d (argumentsIn d)
-        whole-used = k .used ∙ ap (λ (u : Used). after u (shapesFrom d n (m - n))) (laid-used n p h) ∙ sym (used-split d n m within) ∙ ap (usedAt d) all
+        whole-used = k .used ∙ ap (λ (u : Used). after eights u (shapesFrom d n (m - n))) (laid-used n p h) ∙ sym (used-split d n m within) ∙ ap (usedAt d) all
 
         pub whole-values : r .values .0 ≡ valuesAt (argumentsIn d)
         unfolding valuesAt

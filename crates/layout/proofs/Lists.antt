@@ -16,7 +16,7 @@ use Rattle.types.proofs.Wrong.{no-type}
 use Rattle.form.specs.declared.Refusal.{Refusal}
 use Rattle.form.proofs.Order.{first-exactly, none-exactly, first-before, first-behind, none-before}
 use Rattle.places.specs.declared.Used.{Used}
-use Rattle.places.specs.Places.{fresh, next}
+use Rattle.places.specs.Places.{eights, fresh, next}
 use Rattle.layout.specs.Arguments.{shapeAt, usedFirst, usedAt, hidden}
 use Rattle.layout.specs.Verdict.{verdictConditions, verdict}
 use Rattle.layout.specs.Layout.{layoutOf, layoutAnswer, tableAfter}
@@ -161,4 +161,4 @@ module _ (d : List ℕ) (room : ℕ) where
 
     pub turn-used : stepAt d (listUsed d room i) i .used ≡ listUsed d room (i + 1)
     unfolding stepAt
-    turn-used = ap (λ (u : Used). next u (shapeAt d i)) (used-is i) ∙ sym (used-next d i) ∙ sym (used-is (i + 1))
+    turn-used = ap (λ (u : Used). next eights u (shapeAt d i)) (used-is i) ∙ sym (used-next d i) ∙ sym (used-is (i + 1))

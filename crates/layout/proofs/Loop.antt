@@ -6,7 +6,7 @@ use native.Mathlib.Omega.{arith}
 use Rattle.description.specs.Description.{argumentsIn}
 use Rattle.places.specs.declared.Used.{Used}
 use Rattle.places.specs.Shapes.{Shape}
-use Rattle.places.specs.Places.{after}
+use Rattle.places.specs.Places.{eights, after}
 use Rattle.places.specs.Images.{total}
 use Rattle.layout.specs.Arguments.{shapesFrom}
 use Rattle.layout.specs.Asks.{AskArgument, AskArguments, IsLaid}
@@ -19,7 +19,7 @@ use Rattle.layout.proofs.Bounds.{arguments-few, argument-small, before-
 -- before argument i, where u is used and the values have v bytes; u₀ and v₀ were so before argument `from`
 pub record Going (d : List ℕ) (from to : ℕ) (u₀ : Used) (v₀ : ℕ) (u : Used) (v i : ℕ) : Type 0 where
   pub asks : AskArguments d i to u v
-  pub used : after u (shapesFrom d i (to - i)) ≡ after u₀ (shapesFrom d from (to - from))
+  pub used : after eights u (shapesFrom d i (to - i)) ≡ after eights u₀ (shapesFrom d from (to - from))
   pub values : v + total (shapesFrom d i (to - i)) ≡ v₀ + total (shapesFrom d from (to - from))
 
 module _ (d : List ℕ) (from to : ℕ) (u₀ : Used) (v₀ : ℕ) where
@@ -53,7 +53,7 @@ module _ (d : List ℕ) (from to : ℕ) (u₀ : Used) (v₀ : ℕ) where
         let used = ap (λ (s : Turn). s .used) e in
         let size = ap (λ (s : Turn). s .size .0) e in
         let more = shapes-cons d i to l in
-        let kept = ap (λ (ss : List Shape). after u ss) more in
+        let kept = ap (λ (ss : List Shape). after eights u ss) more in
         let sum = ap total more in
         record {
           asks = record {
@@ -63,7 +63,7 @@ module _ (d : List ℕ) (from to : ℕ) (u₀ : Used) (v₀ : ℕ) where
             before = rw used (before-next d (g .asks .right) i u (here l) (g .asks .before));
             sum = omega (arith, argument-small d (g .asks .right) i (here l) .size, g .asks .sum);
           };
-          used = ap (λ (x : Used). after x (shapesFrom d (i + 1) (to - (i + 1)))) used ∙ sym kept ∙ g .used;
+          used = ap (λ (x : Used). after eights x (shapesFrom d (i + 1) (to - (i + 1)))) used ∙ sym kept ∙ g .used;
           values = omega (arith, g .values);
         }
 
@@ -71,6 +71,6 @@ module _ (d : List ℕ) (from to : ℕ) (u₀ : Used) (v₀ : ℕ) where
     going-last l r e q =
         let none = shapes-end d i to l in
         record {
-          used = e ∙ sym (ap (λ (ss : List Shape). after u ss) none) ∙ g .used;
+          used = e ∙ sym (ap (λ (ss : List Shape). after eights u ss) none) ∙ g .used;
           values = omega (arith, ap total none, g .values);
         }

@@ -20,7 +20,7 @@ use Rattle.places.specs.declared.Placed.{Placed}
 use Rattle.places.specs.declared.ReturnPlace.{ReturnPlace}
 use Rattle.places.specs.declared.ReturnPlace.the-variants.{Void}
 use Rattle.places.specs.Shapes.{Shape, shapeOf, shapeIn, Asking}
-use Rattle.places.specs.Places.{place, next}
+use Rattle.places.specs.Places.{eights, place, next}
 use Rattle.places.specs.Recorded.{asked, recorded, IsPlaced, Room, Small}
 use Rattle.places.specs.Returns.{returnOf, hiddenFor}
 use Rattle.places.proofs.Records.{place-is, shape-known}
@@ -67,14 +67,14 @@ unfolding shapeAt
 shape-of-argument d i k s e f = f ∙ ap (λ (j : ℕ). shapeOf (tyAt d j)) e
 
 pub step-is : (d : List ℕ) (u : Used) (i k : ℕ) (s : Coded) (p : Placed) → k ≡ argumentAt d i → asked s ≡ shapeAt d i
-    → IsPlaced (place u (asked s)) (next u (asked s)) p
+    → IsPlaced (place eights u (asked s)) (next eights u (asked s)) p
     → _≡_ {A = Step} (record { placement = record { ty = k; size = s .size; align = s .align; place = p .place }; used = p .used }) (stepAt d u i)
 unfolding stepAt
 step-is d u i k s p e f h =
     let size : s .size .0 ≡ shapeAt d i .size = ap (λ (x : Shape). x .size) f in
     let align : s .align .0 ≡ shapeAt d i .align = ap (λ (x : Shape). x .align) f in
-    let placed = place-is (p .place) (place u (asked s)) (h .place) ∙ ap (λ (x : Shape). recorded (place u x)) f in
-    let used = h .used ∙ ap (λ (x : Shape). next u x) f in
+    let placed = place-is (p .place) (place eights u (asked s)) (h .place) ∙ ap (λ (x : Shape). recorded (place eights u x)) f in
+    let used = h .used ∙ ap (λ (x : Shape). next eights u x) f in
     λ j. record { placement = record { ty = e j; size = record { 0 = size j }; align = record { 0 = align j }; place = placed j }; used = used j }
 
 -- the same without the record, by the entry of the argument's type
@@ -93,9 +93,9 @@ module _ (d t : List ℕ) (w : Tabled d t) (u : Used) (i : ℕ) (a : AskArgument
   turn-asks =
       (turn-low, before-room i u (omega (arith, arguments-few d (a .right), a .there)) (a .before), rw entry-shape (argument-small d (a .right) i (a .there)), asking-known d t w k known)
 
-  pub turn-is : (x : Extent) → IsEntry (getD t k 0) x → (n : Used) → n ≡ next u (shapeIn (getD t k 0)) → _≡_ {A = Turn} (record { size = x .size; used = n }) (turnAt d u i)
+  pub turn-is : (x : Extent) → IsEntry (getD t k 0) x → (n : Used) → n ≡ next eights u (shapeIn (getD t k 0)) → _≡_ {A = Turn} (record { size = x .size; used = n }) (turnAt d u i)
   unfolding turnAt shapeIn
   turn-is x h n q =
       let size : x .size .0 ≡ shapeAt d i .size = h .size ∙ ap (λ (s : Shape). s .size) entry-shape in
-      let used : n ≡ next u (shapeAt d i) = q ∙ ap (λ (s : Shape). next u s) entry-shape in
+      let used : n ≡ next eights u (shapeAt d i) = q ∙ ap (λ (s : Shape). next eights u s) entry-shape in
       λ j. record { size = record { 0 = size j }; used = used j }

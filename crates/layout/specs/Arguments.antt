@@ -11,7 +11,7 @@ use Rattle.places.specs.declared.Used.{Used}
 use Rattle.places.specs.declared.ReturnPlace.{ReturnPlace}
 use Rattle.places.specs.declared.ReturnPlace.the-variants.{Void}
 use Rattle.places.specs.Shapes.{Shape, shapeOf}
-use Rattle.places.specs.Places.{fresh, after, area}
+use Rattle.places.specs.Places.{eights, fresh, after, area}
 use Rattle.places.specs.Returns.{returnOf, hiddenFor}
 
 -- what places argument i
@@ -46,8 +46,8 @@ abbrev pub usedFirst : List ℕ → Used
 usedFirst d = fresh (hidden d)
 
 unfoldable pub usedAt : List ℕ → ℕ → Used
-usedAt d i = after (usedFirst d) (shapesFrom d 0 i)
+usedAt d i = after eights (usedFirst d) (shapesFrom d 0 i)
 
 -- "The stack image is the rounded area"
 unfoldable pub areaOf : List ℕ → ℕ
-areaOf d = area (usedFirst d) (shapes d)
+areaOf d = area eights (usedFirst d) (shapes d)

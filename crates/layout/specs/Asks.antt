@@ -6,7 +6,7 @@ use Rattle.description.specs.Description.{argumentsIn}
 use Rattle.uses.specs.Uses.{usesRefusal}
 use Rattle.places.specs.declared.Used.{Used}
 use Rattle.places.specs.Shapes.{Shape}
-use Rattle.places.specs.Places.{after}
+use Rattle.places.specs.Places.{eights, after}
 use Rattle.places.specs.Images.{total}
 use Rattle.layout.specs.declared.placements.Laying.{Laying}
 
@@ -32,5 +32,5 @@ pub record AskArguments (d : List ℕ) (i n : ℕ) (u : Used) (bytes : ℕ) : Ty
 
 -- what is used, and how many bytes the values have, once these arguments are placed as well
 pub record IsLaid (u : Used) (bytes : ℕ) (ss : List Shape) (r : Laying) : Type 0 where
-  pub used : r .used ≡ after u ss
+  pub used : r .used ≡ after eights u ss
   pub values : r .values .0 ≡ bytes + total ss

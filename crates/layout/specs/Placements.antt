@@ -3,7 +3,7 @@ use mathlib.Core.List.{List}
 use Prim.Native.Nat.{ℕ}
 use Rattle.description.specs.Description.{argumentAt}
 use Rattle.places.specs.declared.Used.{Used}
-use Rattle.places.specs.Places.{place, next}
+use Rattle.places.specs.Places.{eights, place, next}
 use Rattle.places.specs.Recorded.{recorded}
 use Rattle.layout.specs.Arguments.{shapeAt, usedAt}
 use Rattle.layout.specs.declared.placements.Placement.{Placement}
@@ -16,16 +16,16 @@ placementFrom d u i = record {
   ty = argumentAt d i;
   size = record { 0 = shapeAt d i .size };
   align = record { 0 = shapeAt d i .align };
-  place = recorded (place u (shapeAt d i));
+  place = recorded (place eights u (shapeAt d i));
 }
 
 -- and what is used after it
 unfoldable pub stepAt : List ℕ → Used → ℕ → Step
-stepAt d u i = record { placement = placementFrom d u i; used = next u (shapeAt d i) }
+stepAt d u i = record { placement = placementFrom d u i; used = next eights u (shapeAt d i) }
 
 -- its bytes instead of its record
 unfoldable pub turnAt : List ℕ → Used → ℕ → Turn
-turnAt d u i = record { size = record { 0 = shapeAt d i .size }; used = next u (shapeAt d i) }
+turnAt d u i = record { size = record { 0 = shapeAt d i .size }; used = next eights u (shapeAt d i) }
 
 -- the record of argument i
 unfoldable pub placementAt : List ℕ → ℕ → Placement

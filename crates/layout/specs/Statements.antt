@@ -30,4 +30,4 @@ pub record Bounded (d : List ℕ) : Type 0 where
 -- the addresses of the bytes of n records from the i-th on, one record after the other
 unfoldable pub recordAddresses : List ℕ → ℕ → ℕ → List ℕ
 recordAddresses d i zero = []
-recordAddresses d i (suc n) = bytesOf (placeOf (placementAt d i .place)) (placementAt d i .size .0) ++ recordAddresses d (i + 1) n
+recordAddresses d i (suc n) = bytesOf 176 (placeOf (placementAt d i .place)) (placementAt d i .size .0) ++ recordAddresses d (i + 1) n

@@ -10,7 +10,7 @@ use Rattle.uses.proofs.Uses.{accepted-typed}
 use Rattle.places.specs.declared.Register.{Register}
 use Rattle.places.specs.declared.Used.{Used}
 use Rattle.places.specs.Shapes.{Shape}
-use Rattle.places.specs.Places.{inRegisters, registersFor, fits, place, next}
+use Rattle.places.specs.Places.{eights, inRegisters, registersFor, fits, place, next}
 use Rattle.places.specs.Recorded.{recorded}
 use Rattle.places.proofs.Apart.{after-grows, stack-room}
 use Rattle.places.proofs.Fits.{place-fits, place-not}
@@ -34,17 +34,17 @@ registers-no-offset (a ∷ b ∷ []) = refl
 registers-no-offset (a ∷ b ∷ c ∷ rs) = refl
 
 -- a place ends where the next one may start
-offset-below : (u : Used) (s : Shape) → offsetOf (recorded (place u s)) ≤ next u s .stack .0
+offset-below : (u : Used) (s : Shape) → offsetOf (recorded (place eights u s)) ≤ next eights u s .stack .0
 offset-below u s = by (fits u (s .kinds)) refl
   where
-    by : (b : Bool) → fits u (s .kinds) ≡ b → offsetOf (recorded (place u s)) ≤ next u s .stack .0
-    by true e = rw (place-fits u s e) (omega (arith, registers-no-offset (registersFor (u .general .0) (u .vector .0) (s .kinds))))
-    by false e = rw (place-not u s e) (omega (arith, stack-room u s e))
+    by : (b : Bool) → fits u (s .kinds) ≡ b → offsetOf (recorded (place eights u s)) ≤ next eights u s .stack .0
+    by true e = rw (place-fits eights u s e) (omega (arith, registers-no-offset (registersFor (u .general .0) (u .vector .0) (s .kinds))))
+    by false e = rw (place-not eights u s e) (omega (arith, stack-room eights u s e))
 
 module _ (d : List ℕ) (right : verdict d ≡ 0) where
   stack-all : usedAt d (argumentsIn d) .stack .0 ≤ areaOf d
   unfolding areaOf usedAt
-  stack-all = area-rounded (usedFirst d) (shapes d) .behind
+  stack-all = area-rounded eights (usedFirst d) (shapes d) .behind
 
   pub used-small : (i : ℕ) → i ≤ argumentsIn d → SmallUsed (usedAt d i)
   used-small i h =
@@ -55,7 +55,7 @@ module _ (d : List ℕ) (right : verdict d ≡ 0) where
         stack =
             omega (
               arith,
-              after-grows (shapesFrom d i (argumentsIn d - i)) (usedAt d i),
+              after-grows eights (shapesFrom d i (argumentsIn d - i)) (usedAt d i),
               ap (λ (u : Used). u .stack .0) (used-split d i (argumentsIn d) h),
               stack-all,
               accepted-area d right,

@@ -11,7 +11,7 @@ use Rattle.addresses.specs.Addresses.{scatter, gather, All, NoDup, Below, Agree
 use Rattle.addresses.proofs.Scatter.{gather-scatter, scatter-gather, scatter-absent, length-scatter, gather-same}
 use Rattle.addresses.proofs.Lists.{all-map}
 use Rattle.addresses.proofs.Runs.{all-run}
-use Rattle.places.proofs.Apart.{addresses-packed, addresses-below, addresses-past, length-addresses}
+use Rattle.places.proofs.Apart.{all-seated, addresses-packed, addresses-below, addresses-past, length-addresses}
 use Rattle.layout.specs.Arguments.{shapes, hidden, usedFirst, areaOf}
 use Rattle.layout.specs.Layout.{valuesOf}
 use Rattle.layout.specs.Verdict.{verdict}
@@ -22,6 +22,7 @@ use Rattle.images.proofs.Words.{number-of-bytes, bytes-of-number}
 use Rattle.moving.specs.Images.{addressesOf, blankBy, blank, placed, gathered, hiddenIn}
 use Rattle.moving.specs.Statements.{Unused, IsImage}
 use Rattle.moving.proofs.Turns.{right}
+use Rattle.places.specs.Places.{eights}
 
 -- ---- the blank images
 
@@ -69,19 +70,19 @@ module _ (d img jmg : List ℕ) (same : (k : ℕ) → (Unused d k → ⊥) → g
 module _ (d : List ℕ) (accepted : verdict d ≡ 0) where
   once : NoDup (addressesOf d)
   unfolding addressesOf
-  once = addresses-packed (shapes d) (usedFirst d) (all-shaped d (right d accepted)) .once
+  once = addresses-packed 176 eights (shapes d) (usedFirst d) (all-shaped d (right d accepted)) (all-seated (shapes d)) .once
 
   inside : Below (176 + areaOf d) (addressesOf d)
   unfolding addressesOf areaOf
-  inside = addresses-below (shapes d) (usedFirst d) (all-shaped d (right d accepted))
+  inside = addresses-below 176 eights (shapes d) (usedFirst d) (all-shaped d (right d accepted)) (all-seated (shapes d))
 
   past : hidden d ≡ true → All (λ k. 8 ≤ k) (addressesOf d)
   unfolding addressesOf
-  past e = addresses-past (shapes d) (usedFirst d) (all-shaped d (right d accepted)) (rw e (omega arith))
+  past e = addresses-past eights (shapes d) (usedFirst d) (all-shaped d (right d accepted)) (rw e (omega arith))
 
   pub length-all : length (addressesOf d) ≡ valuesOf d
   unfolding addressesOf valuesOf
-  length-all = length-addresses (shapes d) (usedFirst d) (all-shaped d (right d accepted))
+  length-all = length-addresses 176 eights (shapes d) (usedFirst d) (all-shaped d (right d accepted))
 
   pub length-placed : (h : ℕ) (vals : List ℕ) → length (placed d h vals) ≡ 176 + areaOf d
   unfolding placed

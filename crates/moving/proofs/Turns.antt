@@ -21,7 +21,7 @@ use Rattle.uses.proofs.Uses.{accepted-types, accepted-typed}
 use Rattle.places.specs.declared.Used.{Used}
 use Rattle.places.specs.declared.Placed.{Placed}
 use Rattle.places.specs.Shapes.{Shape, shapeOf, shapeIn}
-use Rattle.places.specs.Places.{place, next, after, area}
+use Rattle.places.specs.Places.{eights, place, next, after, area}
 use Rattle.places.specs.Images.{total}
 use Rattle.places.specs.Recorded.{placeOf, recorded, Room, Small, IsPlaced}
 use Rattle.places.proofs.Prefix.{total-append}
@@ -103,17 +103,17 @@ module _ (d : List ℕ) where
     unfolding shapeAt shapeOf
     size-is i = refl
 
-    next-area : (i : ℕ) → i < argumentsIn d → next (usedAt d i) (shapeAt d i) .stack .0 ≤ areaOf d
+    next-area : (i : ℕ) → i < argumentsIn d → next eights (usedAt d i) (shapeAt d i) .stack .0 ≤ areaOf d
     unfolding areaOf area
     next-area i h =
-        let all : usedAt d (argumentsIn d) ≡ after (usedFirst d) (shapes d) = unfold usedAt in refl in
+        let all : usedAt d (argumentsIn d) ≡ after eights (usedFirst d) (shapes d) = unfold usedAt in refl in
         omega (
           arith,
           ap (λ (u : Used). u .stack .0) (used-next d i),
           ap (λ (u : Used). u .stack .0) (used-split d (i + 1) (argumentsIn d) (omega arith)),
-          after-grows (shapesFrom d (i + 1) (argumentsIn d - (i + 1))) (usedAt d (i + 1)),
+          after-grows eights (shapesFrom d (i + 1) (argumentsIn d - (i + 1))) (usedAt d (i + 1)),
           ap (λ (u : Used). u .stack .0) all,
-          raise-not-below 16 (after (usedFirst d) (shapes d) .stack .0) (omega arith),
+          raise-not-below 16 (after eights (usedFirst d) (shapes d) .stack .0) (omega arith),
         )
 
   -- ---- the loop
@@ -149,14 +149,14 @@ module _ (d : List ℕ) where
       pub turn-small : Small (shapeIn (getD table n 0))
       turn-small = rw turn-shape (argument-small d (right a) i l)
 
-      pub turn-step : (x : Extent) → IsEntry (getD table n 0) x → (p : Placed) → IsPlaced (place u (shapeIn (getD table n 0))) (next u (shapeIn (getD table n 0))) p
+      pub turn-step : (x : Extent) → IsEntry (getD table n 0) x → (p : Placed) → IsPlaced (place eights u (shapeIn (getD table n 0))) (next eights u (shapeIn (getD table n 0))) p
           → _≡_ {A = Step} (record { placement = record { ty = n; size = x .size; align = x .align; place = p .place }; used = p .used }) (stepAt d u i)
       unfolding stepAt shapeIn
       turn-step x h p q =
           let size : x .size .0 ≡ shapeAt d i .size = h .size ∙ ap (λ (s : Shape). s .size) turn-shape in
           let align : x .align .0 ≡ shapeAt d i .align = h .align ∙ ap (λ (s : Shape). s .align) turn-shape in
-          let placed = place-is (p .place) (place u (shapeIn (getD table n 0))) (q .place) ∙ ap (λ (s : Shape). recorded (place u s)) turn-shape in
-          let used = q .used ∙ ap (λ (s : Shape). next u s) turn-shape in
+          let placed = place-is (p .place) (place eights u (shapeIn (getD table n 0))) (q .place) ∙ ap (λ (s : Shape). recorded (place eights u s)) turn-shape in
+          let used = q .used ∙ ap (λ (s : Shape). next eights u s) turn-shape in
           λ j. record { placement = record { ty = e j; size = record { 0 = size j }; align = record { 0 = align j }; place = placed j }; used = used j }
 
     module _ (z : Step) (e : z ≡ stepAt d u i) where
@@ -164,15 +164,15 @@ module _ (d : List ℕ) where
       unfolding stepAt
       step-size = ap (λ (y : Step). y .placement .size .0) e
 
-      pub step-used : z .used ≡ next u (shapeAt d i)
+      pub step-used : z .used ≡ next eights u (shapeAt d i)
       unfolding stepAt
       step-used = ap (λ (y : Step). y .used) e
 
-      step-record : z .placement .place ≡ recorded (place u (shapeAt d i))
+      step-record : z .placement .place ≡ recorded (place eights u (shapeAt d i))
       unfolding stepAt
       step-record = ap (λ (y : Step). y .placement .place) e
 
-      step-inside : verdict d ≡ 0 → (placeOf (recorded (place u (shapeAt d i))) ≡ place u (shapeAt d i)) × AskMove (z .placement .place) (z .placement .size .0) k 176 (areaOf d) (valuesOf d)
+      step-inside : verdict d ≡ 0 → (placeOf (recorded (place eights u (shapeAt d i))) ≡ place eights u (shapeAt d i)) × AskMove (z .placement .place) (z .placement .size .0) k 176 (areaOf d) (valuesOf d)
       step-inside a =
           let both = place-inside u (shapeAt d i) (areaOf d) (argument-shaped d (right a) i l) (rw (t .used) (next-area a i l)) in (
             both .0,
@@ -185,7 +185,7 @@ module _ (d : List ℕ) where
                 }),
           )
 
-      pub step-place : verdict d ≡ 0 → placeOf (z .placement .place) ≡ place u (shapeAt d i)
+      pub step-place : verdict d ≡ 0 → placeOf (z .placement .place) ≡ place eights u (shapeAt d i)
       step-place a = ap placeOf step-record ∙ step-inside a .0
 
       -- what moving this argument asks
@@ -198,6 +198,6 @@ module _ (d : List ℕ) where
       pub turn-next : (j : ℕ) → j ≡ k + z .placement .size .0 → Turn (z .used) j (i + 1)
       turn-next j q = record {
         bound = omega arith;
-        used = step-used ∙ ap (λ (w : Used). next w (shapeAt d i)) (t .used) ∙ sym (used-next d i);
+        used = step-used ∙ ap (λ (w : Used). next eights w (shapeAt d i)) (t .used) ∙ sym (used-next d i);
         start = omega (arith, q, step-size, t .start, start-next i);
       }

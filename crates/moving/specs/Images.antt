@@ -8,10 +8,11 @@ use Rattle.addresses.specs.Addresses.{gather, scatter}
 use Rattle.places.specs.Images.{addresses, total}
 use Rattle.layout.specs.Arguments.{shapesFrom, shapes, hidden, usedFirst, areaOf}
 use Rattle.images.specs.Words.{littleEndian, addressIn}
+use Rattle.places.specs.Places.{eights}
 
 -- the address of each value byte, "argument after argument"
 unfoldable pub addressesOf : List ℕ → List ℕ
-addressesOf d = addresses (usedFirst d) (shapes d)
+addressesOf d = addresses 176 eights (usedFirst d) (shapes d)
 
 -- where the value of argument i begins: "packed, argument after argument, size bytes each, no gaps"
 unfoldable pub valueStart : List ℕ → ℕ → ℕ

@@ -22,7 +22,7 @@ use Rattle.places.specs.declared.Place.the-variants.{One}
 use Rattle.places.specs.declared.Placed.{Placed}
 use Rattle.places.specs.declared.Used.{Used}
 use Rattle.places.specs.Shapes.{Shape, kindsOf, shapeIn}
-use Rattle.places.specs.Places.{inRegisters, registerFor, taking, enough, fits, start, place, next}
+use Rattle.places.specs.Places.{eights, inRegisters, registerFor, taking, enough, fits, start, place, next}
 use Rattle.places.specs.Recorded.{Room, Small, IsPlaced}
 use Rattle.places.specs.Steps.{stackedAt}
 use Rattle.places.specs.declared.quick_places.Lone.{Lone}
@@ -62,12 +62,12 @@ module _ (u : Used) (s : Shape) (room : Room u) where
   -- ---- in a register
 
   in-register : (k : Kind) → s .kinds ≡ k ∷ [] → fits u (s .kinds) ≡ true → (r : Register) (w : Used) → r ≡ registerFor (u .general .0) (u .vector .0) k
-      → w ≡ taking u (k ∷ []) → IsPlaced (place u s) (next u s) (record { place = One r; used = w })
+      → w ≡ taking u (k ∷ []) → IsPlaced (place eights u s) (next eights u s) (record { place = One r; used = w })
   in-register k one fit r w e f =
-      rw (place-fits u s fit, next-fits u s fit, one) (record { place = ap (λ (x : Register). inRegisters (x ∷ [])) e; used = f })
+      rw (place-fits eights u s fit, next-fits eights u s fit, one) (record { place = ap (λ (x : Register). inRegisters (x ∷ [])) e; used = f })
 
   pub in-general : s .kinds ≡ general ∷ [] → leb (u .general .0) 5 ≡ true → (n : Registers) → n .0 ≡ u .general .0 + 1
-      → IsPlaced (place u s) (next u s) (record { place = One (General (u .general)); used = record { general = n; vector = u .vector; stack = u .stack } })
+      → IsPlaced (place eights u s) (next eights u s) (record { place = One (General (u .general)); used = record { general = n; vector = u .vector; stack = u .stack } })
   unfolding fits enough
   in-general one l n q = in-register general one fit (General (u .general)) _ refl (used-same _ _ (omega arith) (omega arith) refl)
     where
@@ -75,7 +75,7 @@ module _ (u : Used) (s : Shape) (room : Room u) where
       fit = rw one (rw (le-leb (u .general .0 + 1) 6 (omega (arith, leb-true (u .general .0) 5 l)), le-leb (u .vector .0 + 0) 8 (omega (arith, room .vector))))
 
   pub in-vector : s .kinds ≡ vector ∷ [] → leb (u .vector .0) 7 ≡ true → (n : Registers) → n .0 ≡ u .vector .0 + 1
-      → IsPlaced (place u s) (next u s) (record { place = One (Vector (u .vector)); used = record { general = u .general; vector = n; stack = u .stack } })
+      → IsPlaced (place eights u s) (next eights u s) (record { place = One (Vector (u .vector)); used = record { general = u .general; vector = n; stack = u .stack } })
   unfolding fits enough
   in-vector one l n q = in-register vector one fit (Vector (u .vector)) _ refl (used-same _ _ (omega arith) (omega arith) refl)
     where
@@ -84,15 +84,15 @@ module _ (u : Used) (s : Shape) (room : Room u) where
 
   -- ---- no register is left
 
-  behind : fits u (s .kinds) ≡ false → (p : Placed) → p ≡ stackedAt u (s .size) (s .align) → IsPlaced (place u s) (next u s) p
+  behind : fits u (s .kinds) ≡ false → (p : Placed) → p ≡ stackedAt u (s .size) (s .align) → IsPlaced (place eights u s) (next eights u s) p
   unfolding start
-  behind f p e = rw (e, place-not u s f, next-not u s f) (record { place = refl; used = refl })
+  behind f p e = rw (e, place-not eights u s f, next-not eights u s f) (record { place = refl; used = refl })
 
-  pub no-general : s .kinds ≡ general ∷ [] → leb (u .general .0) 5 ≡ false → (p : Placed) → p ≡ stackedAt u (s .size) (s .align) → IsPlaced (place u s) (next u s) p
+  pub no-general : s .kinds ≡ general ∷ [] → leb (u .general .0) 5 ≡ false → (p : Placed) → p ≡ stackedAt u (s .size) (s .align) → IsPlaced (place eights u s) (next eights u s) p
   unfolding fits enough
   no-general one l = behind (rw one (rw (lt-leb (u .general .0 + 1) 6 (omega (arith, leb-false (u .general .0) 5 l)))))
 
-  pub no-vector : s .kinds ≡ vector ∷ [] → leb (u .vector .0) 7 ≡ false → (p : Placed) → p ≡ stackedAt u (s .size) (s .align) → IsPlaced (place u s) (next u s) p
+  pub no-vector : s .kinds ≡ vector ∷ [] → leb (u .vector .0) 7 ≡ false → (p : Placed) → p ≡ stackedAt u (s .size) (s .align) → IsPlaced (place eights u s) (next eights u s) p
   unfolding fits enough
   no-vector one l =
       behind (rw one (rw (le-leb (u .general .0 + 0) 6 (omega (arith, room .general)), lt-leb (u .vector .0 + 1) 8 (omega (arith, leb-false (u .vector .0) 7 l)))))

@@ -14,7 +14,7 @@ ghost use mathlib.Core.Path.{_≡_};
 ghost use Prim.Native.Nat.{_^_, _≤_, max, _/_, _%_, _<_};
 ghost use Rattle.units.specs.Raise.{raise};
 ghost use Rattle.places.specs.Steps.{stackedAt, IsTaken, foundIf, IsFound};
-ghost use Rattle.places.specs.Places.{enough, stacking, place, next};
+ghost use Rattle.places.specs.Places.{eights, enough, stacking, place, next};
 ghost use Rattle.places.specs.Recorded.{listed, asked, Room, Small, IsPlaced};
 ghost use lib.ListN.{getD};
 ghost use Rattle.places.specs.Shapes.{shapeIn, Asking};
@@ -131,7 +131,7 @@ pub fn in_registers(used: Used, kinds: Kinds) -> Found
 // stack and takes none."
 pub fn place_next(used: Used, shape: Shape) -> Placed
     requires { ⌜ Room used × Small (asked shape) ⌝ }
-    ensures { λ r. ⌜ IsPlaced (place used (asked shape)) (next used (asked shape)) r ⌝ }
+    ensures { λ r. ⌜ IsPlaced (place eights used (asked shape)) (next eights used (asked shape)) r ⌝ }
 {
     let kinds = shape.kinds;
     let size = shape.size;
@@ -164,7 +164,7 @@ fn asks_in(table: &[u32; 64], k: usize) -> Asks
 // What is used once an argument of type k is on the stack.
 fn use_stack(used: Used, table: &[u32; 64], k: usize) -> Used
     requires { ⌜ (k < 64) × Room used × Small (shapeIn (getD (now table) k 0)) ⌝ }
-    ensures { λ r. ⌜ r ≡ stacking used (shapeIn (getD (now (table .entry)) k 0)) ⌝ }
+    ensures { λ r. ⌜ r ≡ stacking eights used (shapeIn (getD (now (table .entry)) k 0)) ⌝ }
 {
     let extent = types::extent_in(table, k);
     on_stack(used, extent.size, extent.align).used
@@ -173,7 +173,7 @@ fn use_stack(used: Used, table: &[u32; 64], k: usize) -> Used
 // What is used after an argument of type k, as `place_next` says it, without the place.
 pub fn use_next(used: Used, table: &[u32; 64], k: usize) -> Used
     requires { ⌜ (k < 64) × Room used × Small (shapeIn (getD (now table) k 0)) × Asking (getD (now table) k 0) ⌝ }
-    ensures { λ r. ⌜ r ≡ next used (shapeIn (getD (now (table .entry)) k 0)) ⌝ }
+    ensures { λ r. ⌜ r ≡ next eights used (shapeIn (getD (now (table .entry)) k 0)) ⌝ }
 {
     let asks = asks_in(table, k);
     let generals = units::with_more(used.general, asks.general);

@@ -11,7 +11,7 @@ use units::Registers;
 ghost use Prim.Native.Nat.{_<_};
 ghost use lib.ListN.{getD};
 ghost use Rattle.types.specs.Table.{IsEntry};
-ghost use Rattle.places.specs.Places.{place, next};
+ghost use Rattle.places.specs.Places.{eights, place, next};
 ghost use Rattle.places.specs.Shapes.{shapeIn};
 ghost use Rattle.places.specs.Recorded.{Room, Small, IsPlaced};
 ghost use Rattle.places.specs.Asked.{IsLone};
@@ -47,7 +47,7 @@ fn asked_of(table: &[u32; 64], k: usize) -> Lone
 // or SSE, which most arguments are.
 pub fn next_place(used: Used, table: &[u32; 64], k: usize, extent: Extent) -> Placed
     requires { ⌜ (k < 64) × Room used × Small (shapeIn (getD (now table) k 0)) × IsEntry (getD (now table) k 0) extent ⌝ }
-    ensures { λ r. ⌜ IsPlaced (place used (shapeIn (getD (now (table .entry)) k 0))) (next used (shapeIn (getD (now (table .entry)) k 0))) r ⌝ }
+    ensures { λ r. ⌜ IsPlaced (place eights used (shapeIn (getD (now (table .entry)) k 0))) (next eights used (shapeIn (getD (now (table .entry)) k 0))) r ⌝ }
 {
     let general = used.general;
     let vector = used.vector;

@@ -45,6 +45,7 @@ use Rattle.walk.proofs.Agreement.{none-used}
 use Rattle.promises.specs.Demand2.{listAfter, B1-Sizes, B2-Classes, B3-Registers, B4-Stack, B5-Counts, B6-Returns, B7-Records, B8-B12-Moving, B13-Steps, B14-Cases, Demand2}
 use Rattle.promises.proofs.Merging.{merges}
 use Rattle.promises.proofs.Placements.{general-count, vector-count, generals-in-row, vectors-in-row, in-registers, lacks-exactly, takes-none, lowest, room, fetches, moves, hidden-is, hidden-memory}
+use Rattle.places.specs.Places.{eights}
 
 -- ---- B1
 
@@ -102,7 +103,7 @@ b3 = record {
 
 area-up : (d : List ℕ) → RoundedUp 16 (usedAt d (argumentsIn d) .stack .0) (areaOf d)
 unfolding usedAt areaOf
-area-up d = area-rounded (usedFirst d) (shapes d)
+area-up d = area-rounded eights (usedFirst d) (shapes d)
 
 b4 : B4-Stack
 b4 = record {

@@ -28,7 +28,7 @@ c1-c2 = record {
 
 c3 : C3-Alignment
 c3 = record {
-  aligned = λ d i o v l e. (lowest d v i l o e .aligned, lowest d v i l o e .eights);
+  aligned = λ d i o v l e. (lowest d v i l o e .aligned, lowest d v i l o e .slotted);
   there = λ d i o v l. stack-there d v i l o;
 }
 
@@ -57,7 +57,7 @@ hands-back : HandsBackPlaced
 hands-back k d b h values r s i between cs p connects variadic spares serves stays questions =
     let e : placedImages d h values r s ≡ imagesFor kcb d (littleEndian 8 h) values = placed-for d h values r s p in
     let w = condition-c .hands-back k d b (littleEndian 8 h) values i between cs connects variadic (placed-cares d h values r s p i cs spares)
-    (subst (λ (images : List ℕ). All (Serves i images) cs) e serves) stays questions in
+    (subst (λ (images : List ℕ). All (Serves kcb i images) cs) e serves) stays questions in
     (w .0, subst (Ended kcb i (calls kcb (opened kcb k d b between i) cs)) (sym e) (w .1))
 
 never-another : NeverAnotherPlaced

@@ -116,4 +116,4 @@ pub shown-means : (s : Station) (seat : List ℕ) (w : Walk) (a : Ask)
     → ofShown (shownAnswer kcb s seat w a) ≡ outcome (showRefusal kcb s seat w a) (shownPart (shownIn kcb (described s seat) w))
 unfolding shownAnswer shownIn refusalUnder refusalBy refusalAt
 shown-means s seat w a =
-    decided ofShown (shownIn kcb (described s seat) w) (λ n. NotShown (refusalUnder kcb (described s seat) n)) (shownPart (shownIn kcb (described s seat) w)) (part-means (readAt (offsetsOf w) (shapeAt kcb (described s seat) (w .position))) (shapeAt kcb (described s seat) (w .position))) (λ n. refl) (showRefusal kcb s seat w a)
+    decided ofShown (shownIn kcb (described s seat) w) (λ n. NotShown (refusalUnder kcb (described s seat) n)) (shownPart (shownIn kcb (described s seat) w)) (part-means (readAt (kcb .slot) (offsetsOf w) (shapeAt kcb (described s seat) (w .position))) (shapeAt kcb (described s seat) (w .position))) (λ n. refl) (showRefusal kcb s seat w a)

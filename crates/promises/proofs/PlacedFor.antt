@@ -25,6 +25,7 @@ use Rattle.histories.specs.Calls.{Call, Spares}
 use Rattle.histories.specs.Values.{blank, imagesFor}
 use Rattle.histories.specs.ConditionC.{Cares}
 use Rattle.promises.specs.Demand3.{placedImages}
+use Rattle.places.specs.Places.{eights}
 
 zeros : (n : ℕ) → replicate n 0 ≡ cleared (replicate n 0)
 unfolding cleared
@@ -34,8 +35,8 @@ split-zeros : (n : ℕ) → _≡_ {A = List ℕ} (replicate (176 + n) 0) (replic
 split-zeros n = sym (replicate-append-replicate 176 n 0)
 
 -- before the first value, the images are the same
-blank-same : (b : Bool) (h n : ℕ) → blankBy b h n ≡ blank b (littleEndian 8 h) n
-unfolding blank withAddress
+blank-same : (b : Bool) (h n : ℕ) → blankBy b h n ≡ scatter (replicate (176 + n) 0) (cond b (run 0 8) []) (littleEndian 8 h)
+unfolding withAddress
 blank-same true h n =
     ap (blankBy true h) (sym (length-replicate {A = ℕ} n 0))
     ∙ sym (blank-used h (replicate 176 0) (replicate n 0) (replicate 176 0) (replicate n 0) (withAddress (replicate 176 0) h) (length-replicate {A = ℕ} 176 0) (zeros 176) (zeros n) refl)
@@ -53,9 +54,9 @@ blank-same false h n =
     ∙ sym (split-zeros n)
 
 placed-is : (d : List ℕ) (h : ℕ) (values : List ℕ) → placed d h values ≡ imagesFor kcb d (littleEndian 8 h) values
-unfolding placed addressesOf imagesFor kcb
+unfolding placed addressesOf imagesFor blank kcb
 placed-is d h values =
-    ap (λ (img : List ℕ). scatter img (addresses (usedFirst d) (shapes d)) values)
+    ap (λ (img : List ℕ). scatter img (addresses 176 eights (usedFirst d) (shapes d)) values)
     (ap (blankBy (hidden d) h) (sym (kcb-area d)) ∙ blank-same (hidden d) h (paperArea kcb d))
 
 module _ (d : List ℕ) (h : ℕ) (values r s : List ℕ) (accepted : placeRefusal d values (length r) (length s) ≡ 0) where

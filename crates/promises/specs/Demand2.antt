@@ -28,7 +28,7 @@ use Rattle.places.specs.declared.Register.{Register}
 use Rattle.places.specs.declared.ReturnPlace.the-variants.{Memory as InMemory}
 use Rattle.places.specs.Cases.{ReturnCase, returns, returnCases}
 use Rattle.places.specs.Returns.{returnOf, hiddenFor}
-use Rattle.places.specs.Places.{Place, inRegisters, onStack}
+use Rattle.places.specs.Places.{eights, Place, inRegisters, onStack}
 use Rattle.places.specs.Recorded.{placeOf}
 use Rattle.places.specs.Statements.{LowestOffset, RoundedUp, Lacks, Fit, generalNumber, vectorNumber, numbersIn, kindIn}
 use Rattle.layout.specs.declared.placements.Placement.{Placement}
@@ -140,7 +140,7 @@ pub record B3-Registers : Type 0 where
 pub record B4-Stack : Type 0 where
   -- "the lowest offset, after the one before, that is a multiple of 8 and of its alignment"
   pub lowest : (d : List ℕ) (i o : ℕ) → verdict d ≡ 0 → i < argumentsIn d → placeAt d i ≡ onStack o
-      → LowestOffset (usedAt d i .stack .0) (placementAt d i .align .0) o
+      → LowestOffset eights (usedAt d i .stack .0) (placementAt d i .align .0) o
   -- "the room it takes is rounded up to 8"
   pub room : (d : List ℕ) (i o : ℕ) → verdict d ≡ 0 → i < argumentsIn d → placeAt d i ≡ onStack o
       → RoundedUp 8 (o + placementAt d i .size .0) (usedAt d (i + 1) .stack .0)
@@ -209,8 +209,8 @@ pub record B13-Steps : Type 0 where
   -- "With none used they are 0, 48 and 0"
   pub starts : walkAt (record { general = record { 0 = 0 }; vector = record { 0 = 0 }; stack = record { 0 = 0 } }) ≡ record { general = 0; vector = 48; overflow = 0 }
   -- before argument i, 3.5.7 reads where the record of argument i says that it lies, and moves on to where the layout goes on
-  pub fetches : (d : List ℕ) (i : ℕ) → verdict d ≡ 0 → i < argumentsIn d → readAt (walkAt (usedAt d i)) (shapeAt d i) ≡ sourceIn (placeAt d i)
-  pub moves : (d : List ℕ) (i : ℕ) → verdict d ≡ 0 → i < argumentsIn d → step (walkAt (usedAt d i)) (shapeAt d i) ≡ walkAt (usedAt d (i + 1))
+  pub fetches : (d : List ℕ) (i : ℕ) → verdict d ≡ 0 → i < argumentsIn d → readAt eights (walkAt (usedAt d i)) (shapeAt d i) ≡ sourceIn (placeAt d i)
+  pub moves : (d : List ℕ) (i : ℕ) → verdict d ≡ 0 → i < argumentsIn d → step eights (walkAt (usedAt d i)) (shapeAt d i) ≡ walkAt (usedAt d (i + 1))
 
 -- ---- B14: "The cases above are proved of the definitions by a single theorem over a list of them"
 

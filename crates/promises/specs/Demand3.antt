@@ -44,7 +44,7 @@ pub record C1-C2-Places : Type 0 where
   pub each : (d : List ℕ) → verdict d ≡ 0 → length (addressesOf d) ≡ valuesOf d
   -- that of byte j of argument i is in the place that its record says
   pub recorded : (d : List ℕ) (i j : ℕ) → verdict d ≡ 0 → i < argumentsIn d → j < placementAt d i .size .0
-      → lies d (valueStart d i + j) ≡ getD (bytesOf (placeAt d i) (placementAt d i .size .0)) j 0
+      → lies d (valueStart d i + j) ≡ getD (bytesOf 176 (placeAt d i) (placementAt d i .size .0)) j 0
   -- within the images
   pub inside : (d : List ℕ) (k : ℕ) → verdict d ≡ 0 → k < valuesOf d → lies d k < 176 + areaOf d
   -- "no two share one"
@@ -101,7 +101,7 @@ abbrev pub HandsBackPlaced : Type 0
 HandsBackPlaced =
     (k : Desk) (d : List ℕ) (b : IsBytes d) (h : ℕ) (values r s : List ℕ) (i : ℕ) (between cs : List Call)
     → placeRefusal d values (length r) (length s) ≡ 0 → Connects kcb k d b between → kcb .variadic d ≡ true → All (Spares i) cs
-    → All (Serves i (placedImages d h values r s)) cs → Along kcb (Stays kcb) (opened kcb k d b between i) cs → asks i cs ≡ unnamedQuestions kcb d
+    → All (Serves kcb i (placedImages d h values r s)) cs → Along kcb (Stays kcb) (opened kcb k d b between i) cs → asks i cs ≡ unnamedQuestions kcb d
     → (handed kcb i (opened kcb k d b between i) cs ≡ unnamed kcb d values)
     × Ended kcb i (calls kcb (opened kcb k d b between i) cs) (placedImages d h values r s)
 

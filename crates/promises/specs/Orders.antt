@@ -80,7 +80,7 @@ openOrder s seat =
 -- "Step: 11 for seat, station and register image, 13, 1..10, 17, 18, 19, 20, then 11 for" what comes late
 abbrev pub walkOrder : Station → List ℕ → Walk → Ask → Bool → List Rule
 walkOrder s seat w a late =
-    rule 11 (wrongSeat s seat || wrongRegisters a) ∷ rule 13 (not (s .attached)) ∷ checkOrder (described s seat)
+    rule 11 (wrongSeat s seat || wrongRegisters kcb a) ∷ rule 13 (not (s .attached)) ∷ checkOrder (described s seat)
     ++ rule 17 (otherNumber s w) ∷ rule 18 (astray kcb (described s seat) w) ∷ rule 19 (atEnd kcb (described s seat) w)
     ∷ rule 20 (otherType kcb (described s seat) w a) ∷ rule 11 late ∷ []
 

@@ -2,13 +2,12 @@
 use mathlib.Core.Path.{_≡_, refl, sym, ap, _∙_}
 use mathlib.Core.Logic.{_↔_, _≢_}
 use mathlib.Core.Bool.{true, false, not}
-use mathlib.Core.List.{List, [], _∷_, _++_, append-nil}
+use mathlib.Core.List.{List, [], _∷_, _++_}
 use Prim.Native.Nat.{ℕ, zero, suc, _+_, _-_, _≤_, _<_}
 use native.Mathlib.Omega.{arith}
 use lib.Dec.{leb, ltb, eqb}
 use lib.ListN.{length, take, replicate, length-replicate}
 use borrow.Author.Tests.{ne-eqb, le-leb, lt-leb, eqb-true, ltb-false, leb-false, not-false}
-use Rattle.form.specs.Order.{numbered}
 use Rattle.form.specs.Reading.{refusalAt, refusalBy, refusalOf}
 use Rattle.form.proofs.Named.{names-none}
 use Rattle.form.specs.declared.Refusal.{Refusal}
@@ -20,7 +19,7 @@ use Rattle.station.specs.declared.Station.{Station}
 use Rattle.station.specs.Outcome.{NoneHolds, Answers, Positive}
 use Rattle.station.specs.Paper.{Paper, verdictOf, refusalUnder}
 use Rattle.station.specs.Attachment.{wrongSeat, seatOf, freed, holding, detachOrder, detachRefusal, detachStation, detachSeat, attachOrder, attachRefusal, attachStation, attachSeat}
-use Rattle.station.proofs.Orders.{kept, left, first-rest, or-false, positive-numbered, accepts-exactly, refuses-exactly}
+use Rattle.station.proofs.Orders.{kept, left, first-rest, or-false, accepts-exactly, refuses-exactly}
 
 -- ---- lengths
 
@@ -104,7 +103,7 @@ module _ (P : Paper) (s : Station) (seat d : List ℕ) where
       record { seated = right-seat s seat (x .0); idle = y .0; more = omega (arith, leb-false 4294967295 (s .number) (z .0)); accepted = z .1 }
 
   attach-positive : Positive (attachOrder P s seat d)
-  attach-positive = (omega arith, (omega arith, (omega arith, rw (sym (append-nil (numbered 1 (P .conditions d)))) (positive-numbered 0 (P .conditions d) [] tt))))
+  attach-positive = (omega arith, (omega arith, (omega arith, P .counted d)))
 
   -- "Attach: 11, 14, 15, 1..10"
   pub attach-accepts : (attachRefusal P s seat d ≡ 0) ↔ NoneHolds (attachOrder P s seat d)

@@ -15,7 +15,7 @@ use Rattle.layout.specs.Verdict.{verdict}
 use Rattle.layout.proofs.Arguments.{length-shapes, shapes-split}
 use Rattle.layout.proofs.Verdict.{accepted-uses}
 use Rattle.places.specs.Shapes.{Shape}
-use Rattle.places.specs.Places.{fresh, after}
+use Rattle.places.specs.Places.{eights, after}
 use Rattle.station.specs.Paper.{kcb, verdictOf, refusalUnder, arguments, shapeAt, typeAt, usedAt, areaOf}
 
 pub kcb-verdict : (d : List ℕ) → verdictOf kcb d ≡ verdict d
@@ -25,6 +25,14 @@ kcb-verdict d = refl
 pub kcb-refusal : (d : List ℕ) (n : ℕ) → refusalUnder kcb d n ≡ refusalFor d n
 unfolding kcb refusalUnder refusalFor
 kcb-refusal d n = refl
+
+pub kcb-registers : kcb .registers ≡ 176
+unfolding kcb
+kcb-registers = refl
+
+pub kcb-slot : kcb .slot ≡ eights
+unfolding kcb
+kcb-slot = refl
 
 pub kcb-arguments : (d : List ℕ) → arguments kcb d ≡ argumentsIn d
 unfolding kcb arguments
@@ -43,8 +51,8 @@ take-front (x ∷ xs) ys (suc n) e = ap (λ (l : List Shape). x ∷ l) (take-fro
 pub kcb-used : (d : List ℕ) (p : ℕ) → p ≤ argumentsIn d → usedAt kcb d p ≡ layoutUsed d p
 unfolding kcb usedAt layoutUsed
 kcb-used d p l =
-    ap (λ (ss : List Shape). after (fresh (kcb .hidden d)) (take p ss)) (shapes-split d p (argumentsIn d) l)
-    ∙ ap (λ (ss : List Shape). after (fresh (kcb .hidden d)) ss) (take-front (shapesFrom d 0 p) (shapesFrom d p (argumentsIn d - p)) p (length-shapes d p 0))
+    ap (λ (ss : List Shape). after eights (kcb .first d) (take p ss)) (shapes-split d p (argumentsIn d) l)
+    ∙ ap (λ (ss : List Shape). after eights (kcb .first d) ss) (take-front (shapesFrom d 0 p) (shapesFrom d p (argumentsIn d - p)) p (length-shapes d p 0))
 
 shape-in : (d : List ℕ) (n i p : ℕ) (z : Shape) → p < n → getD (shapesFrom d i n) p z ≡ layoutShape d (i + p)
 unfolding shapesFrom

@@ -6,7 +6,7 @@ use mathlib.Core.List.{List, [], _∷_, _++_}
 use Prim.Native.Nat.{ℕ, zero, suc, _<_}
 use native.Mathlib.Omega.{arith}
 use lib.ListN.{getD}
-use Rattle.form.specs.Order.{Rule, rule, first, numbered}
+use Rattle.form.specs.Order.{Rule, rule, first}
 use Rattle.station.specs.Outcome.{leaves, numberIn, conditionIn, NoneHolds, Answers, Positive}
 
 -- ---- what a call leaves
@@ -26,21 +26,21 @@ pub first-rest : (n : ℕ) (b : Bool) (m : ℕ) → cond b (suc n) m ≡ 0 → (
 first-rest n true m e = absurd (omega arith)
 first-rest n false m e = (refl, e)
 
-pub first-append : (n : ℕ) (bs : List Bool) (rs : List Rule) → first (numbered (suc n) bs) ≡ 0 → first (numbered (suc n) bs ++ rs) ≡ first rs
-first-append n [] rs e = refl
-first-append n (true ∷ bs) rs e = absurd (omega arith)
-first-append n (false ∷ bs) rs e = first-append (suc n) bs rs e
+pub first-append : (qs rs : List Rule) → Positive qs → first qs ≡ 0 → first (qs ++ rs) ≡ first rs
+first-append [] rs p e = refl
+first-append (rule n true ∷ qs) rs p e = absurd (omega (arith, p .0))
+first-append (rule n false ∷ qs) rs p e = first-append qs rs (p .1) e
 
 -- a number of 1 to 10 beats what comes behind
-pub first-early : (n : ℕ) (bs : List Bool) (rs : List Rule) → first (numbered (suc n) bs) ≢ 0 → first (numbered (suc n) bs ++ rs) ≡ first (numbered (suc n) bs)
-first-early n [] rs h = absurd (h refl)
-first-early n (true ∷ bs) rs h = refl
-first-early n (false ∷ bs) rs h = first-early (suc n) bs rs h
+pub first-early : (qs rs : List Rule) → first qs ≢ 0 → first (qs ++ rs) ≡ first qs
+first-early [] rs h = absurd (h refl)
+first-early (rule n true ∷ qs) rs h = refl
+first-early (rule n false ∷ qs) rs h = first-early qs rs h
 
-pub first-part : (n : ℕ) (bs : List Bool) (rs : List Rule) → first (numbered (suc n) bs ++ rs) ≡ 0 → (first (numbered (suc n) bs) ≡ 0) × (first rs ≡ 0)
-first-part n [] rs e = (refl, e)
-first-part n (true ∷ bs) rs e = absurd (omega arith)
-first-part n (false ∷ bs) rs e = first-part (suc n) bs rs e
+pub first-part : (qs rs : List Rule) → Positive qs → first (qs ++ rs) ≡ 0 → (first qs ≡ 0) × (first rs ≡ 0)
+first-part [] rs p e = (refl, e)
+first-part (rule n true ∷ qs) rs p e = absurd (omega (arith, p .0))
+first-part (rule n false ∷ qs) rs p e = first-part qs rs (p .1) e
 
 pub or-false : (a b : Bool) → (a || b) ≡ false → (a ≡ false) × (b ≡ false)
 or-false true b e = absurd (true≢false e)
@@ -48,9 +48,9 @@ or-false false b e = (refl, e)
 
 -- ---- the number, exactly
 
-pub positive-numbered : (n : ℕ) (bs : List Bool) (rs : List Rule) → Positive rs → Positive (numbered (suc n) bs ++ rs)
-positive-numbered n [] rs p = p
-positive-numbered n (b ∷ bs) rs p = (omega arith, positive-numbered (suc n) bs rs p)
+pub positive-append : (qs rs : List Rule) → Positive qs → Positive rs → Positive (qs ++ rs)
+positive-append [] rs p q = q
+positive-append (r ∷ qs) rs p q = (p .0, positive-append qs rs (p .1) q)
 
 first-none : (rs : List Rule) → Positive rs → first rs ≡ 0 → NoneHolds rs
 first-none [] p e = tt

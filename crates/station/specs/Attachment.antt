@@ -5,7 +5,7 @@ use mathlib.Core.List.{List, [], _∷_, _++_}
 use Prim.Native.Nat.{ℕ, suc, _-_}
 use lib.Dec.{leb, ltb, eqb}
 use lib.ListN.{length, take, replicate}
-use Rattle.form.specs.Order.{Rule, rule, first, numbered}
+use Rattle.form.specs.Order.{Rule, rule, first}
 use Rattle.station.specs.declared.Station.{Station}
 use Rattle.station.specs.Outcome.{leaves}
 use Rattle.station.specs.Paper.{Paper}
@@ -55,7 +55,7 @@ module _ (P : Paper) where
   -- "Attach: 11, 14, 15, 1..10"
   abbrev pub attachOrder : Station → List ℕ → List ℕ → List Rule
   attachOrder s seat d =
-      rule 11 (wrongSeat s seat) ∷ rule 14 (s .attached) ∷ rule 15 (leb 4294967295 (s .number)) ∷ numbered 1 (P .conditions d)
+      rule 11 (wrongSeat s seat) ∷ rule 14 (s .attached) ∷ rule 15 (leb 4294967295 (s .number)) ∷ P .order d
 
   unfoldable pub attachRefusal : Station → List ℕ → List ℕ → ℕ
   attachRefusal s seat d = first (attachOrder s seat d)

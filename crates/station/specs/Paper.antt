@@ -1,37 +1,43 @@
 -- What the chapters before say of a description's bytes, as one record, so that station and walk are defined for any such paper;
 -- `kcb` is document 01's. Assumes nothing: these are definitions.
-use mathlib.Core.Bool.{Bool}
+use mathlib.Core.Bool.{Bool, cond}
 use mathlib.Core.List.{List, [], map}
 use Prim.Native.Nat.{ℕ}
+use native.Mathlib.Omega.{arith}
 use lib.Dec.{eqb}
 use lib.ListN.{length, getD, take}
 use Rattle.addresses.specs.Addresses.{run}
 use Rattle.description.specs.Description.{variadicIn, namedIn, argumentsIn, argumentAt}
 use Rattle.form.specs.Conditions.{firstBroken}
-use Rattle.form.specs.Order.{first, numbered}
+use Rattle.form.specs.Order.{Rule, first, numbered}
 use Rattle.form.specs.Reading.{refusalBy}
 use Rattle.form.specs.declared.Refusal.{Refusal}
 use Rattle.types.specs.Large.{firstLarge}
 use Rattle.places.specs.declared.Used.{Used}
 use Rattle.places.specs.Shapes.{Shape}
-use Rattle.places.specs.Places.{fresh, after, area}
-use Rattle.layout.specs.Arguments.{shapes as layoutShapes, hidden as layoutHidden}
+use Rattle.places.specs.Places.{Slot, eights, after, area}
+use Rattle.layout.specs.Arguments.{shapes as layoutShapes, hidden, usedFirst}
 use Rattle.layout.specs.Verdict.{verdictConditions}
+use Rattle.station.specs.Outcome.{Positive}
 
 pub record Paper : Type 0 where
-  pub conditions : List ℕ → List Bool  -- of refusals 1 to 10, in order
+  pub order : List ℕ → List Rule  -- 1 to 10, as this paper has them
+  pub counted : (d : List ℕ) → Positive (order d)  -- 0 is the number of no refusal
   pub broken : List ℕ → ℕ  -- the lowest type that breaks rule 6
   pub large : List ℕ → ℕ  -- the lowest type that breaks rule 7
   pub variadic : List ℕ → Bool
-  pub hidden : List ℕ → Bool  -- a hidden address takes rdi
+  pub first : List ℕ → Used  -- what is used before the first argument
+  pub address : List ℕ → List ℕ  -- where the bytes of the hidden address stand in the images; none where none is passed
   pub named : List ℕ → ℕ  -- N
   pub types : List ℕ → List ℕ  -- each argument's type number
   pub shapes : List ℕ → List Shape  -- what places each argument
+  pub slot : Slot  -- stack places and rooms are multiples of this
+  pub registers : ℕ  -- bytes of the register image
 
 module _ (P : Paper) where
   -- 1 to 10, or 0
   unfoldable pub verdictOf : List ℕ → ℕ
-  verdictOf d = first (numbered 1 (P .conditions d))
+  verdictOf d = first (P .order d)
 
   -- the refusal of a description under number n: 6 and 7 name a type (request 2026-01)
   unfoldable pub refusalUnder : List ℕ → ℕ → Refusal
@@ -48,23 +54,27 @@ module _ (P : Paper) where
   unfoldable pub typeAt : List ℕ → ℕ → ℕ
   typeAt d p = getD (P .types d) p 255
 
-  -- what the hidden address and the first p arguments take
+  -- what the first p arguments take, and what is used before them
   unfoldable pub usedAt : List ℕ → ℕ → Used
-  usedAt d p = after (fresh (P .hidden d)) (take p (P .shapes d))
+  usedAt d p = after (P .slot) (P .first d) (take p (P .shapes d))
 
   -- "The stack image is the rounded area"
   unfoldable pub areaOf : List ℕ → ℕ
-  areaOf d = area (fresh (P .hidden d)) (P .shapes d)
+  areaOf d = area (P .slot) (P .first d) (P .shapes d)
 
 -- document 01's own: "Byte 6: 0, or 1 for a variadic function", N, and the arguments in their order
 unfoldable pub kcb : Paper
 kcb = record {
-  conditions = verdictConditions;
+  order = λ d. numbered 1 (verdictConditions d);
+  counted = λ d. (omega arith, (omega arith, (omega arith, (omega arith, (omega arith, (omega arith, (omega arith, (omega arith, (omega arith, (omega arith, tt))))))))));
   broken = firstBroken;
   large = firstLarge;
   variadic = λ d. eqb (variadicIn d) 1;
-  hidden = layoutHidden;
+  first = usedFirst;
+  address = λ d. cond (hidden d) (run 0 8) [];
   named = namedIn;
   types = λ d. map (argumentAt d) (run 0 (argumentsIn d));
   shapes = layoutShapes;
+  slot = eights;
+  registers = 176;
 }

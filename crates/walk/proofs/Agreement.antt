@@ -14,11 +14,11 @@ use Rattle.places.specs.declared.Kind.{Kind}
 use Rattle.places.specs.declared.Kind.the-variants.{General as general, Vector as vector, Upper as upper}
 use Rattle.places.specs.declared.Used.{Used}
 use Rattle.places.specs.Shapes.{Shape, some?, Led, Alignment, one, two, four, eight, sixteen, Shaped}
-use Rattle.places.specs.Places.{Place, inRegisters, onStack, generals, vectors, registersFor, enough, fits, start, placeIf, nextIf, place, next, places, after}
+use Rattle.places.specs.Places.{Slot, fours, eights, wide, Place, inRegisters, onStack, generals, vectors, registersFor, enough, fits, start, placeIf, nextIf, place, next, places, after}
 use Rattle.places.specs.Images.{slots, bytesOf}
 use Rattle.places.proofs.Returning.{kinds-few}
 use Rattle.places.proofs.Prefix.{places-append}
-use Rattle.places.proofs.Offsets.{next-eights, after-eights}
+use Rattle.places.proofs.Offsets.{next-slotted, after-slotted}
 use Rattle.walk.specs.Offsets.{Offsets, Source, fromRegisters, fromStack, holds, reads, raised, readIf, stepIf, readAt, step, bytesFrom, walkAt, sourceIn, visits, steps}
 
 leb-same : (a b c d : ℕ) → (a ≤ b → c ≤ d) → (c ≤ d → a ≤ b) → leb a b ≡ leb c d
@@ -53,67 +53,72 @@ reads-slots (upper ∷ ks) true g f x y l v p q =
     ap₂ _∷_ (omega arith) (reads-slots ks false (g + 0) (f + 0) x y l (λ e. absurd (false≢true e)) (omega arith) (omega arith))
 reads-slots (upper ∷ ks) false g f x y l v p q = absurd l
 
--- "raised to 16 where the alignment exceeds 8": the lowest multiple of 8 and of the alignment
-raised-start : (a t : ℕ) → Alignment a → t % 8 ≡ 0 → cond (ltb 8 a) (raise 16 t) t ≡ raise (max 8 a) t
+-- "raised to 16 where the alignment exceeds 8": the lowest multiple of the slot and of the alignment
+raised-start : (slot : Slot) (a t : ℕ) → Alignment a → t % wide slot ≡ 0 → cond (ltb (wide slot) a) (raise a t) t ≡ raise (max (wide slot) a) t
 unfolding raise
-raised-start a t one h = omega arith
-raised-start a t two h = omega arith
-raised-start a t four h = omega arith
-raised-start a t eight h = omega arith
-raised-start a t sixteen h = refl
+raised-start fours a t one h = omega arith
+raised-start fours a t two h = omega arith
+raised-start fours a t four h = omega arith
+raised-start fours a t eight h = refl
+raised-start fours a t sixteen h = refl
+raised-start eights a t one h = omega arith
+raised-start eights a t two h = omega arith
+raised-start eights a t four h = omega arith
+raised-start eights a t eight h = omega arith
+raised-start eights a t sixteen h = refl
 
 pub offsets-same : (v w : Offsets) → v .general ≡ w .general → v .vector ≡ w .vector → v .overflow ≡ w .overflow → v ≡ w
 offsets-same v w p q r = λ i. record { general = p i; vector = q i; overflow = r i }
 
 -- B13: the walk at u fetches where the layout places
-pub read-agrees : (u : Used) (s : Shape) → Shaped s → u .stack .0 % 8 ≡ 0 → readAt (walkAt u) s ≡ sourceIn (place u s)
+pub read-agrees : (slot : Slot) (u : Used) (s : Shape) → Shaped s → u .stack .0 % wide slot ≡ 0 → readAt slot (walkAt u) s ≡ sourceIn (place slot u s)
 unfolding readAt place walkAt raised start
-read-agrees u s h m = rw (holds-fits u (s .kinds) (h .few)) (by (fits u (s .kinds)))
+read-agrees slot u s h m = rw (holds-fits u (s .kinds) (h .few)) (by (fits u (s .kinds)))
   where
-    by : (b : Bool) → readIf b (walkAt u) s ≡ sourceIn (placeIf b u s)
+    by : (b : Bool) → readIf slot b (walkAt u) s ≡ sourceIn (placeIf slot b u s)
     by true = ap fromRegisters (reads-slots (s .kinds) false (u .general .0) (u .vector .0) _ _ (h .led) (λ e. absurd (false≢true e)) refl refl)
-    by false = ap fromStack (raised-start (s .align) (u .stack .0) (h .aligned) m)
+    by false = ap fromStack (raised-start slot (s .align) (u .stack .0) (h .aligned) m)
 
 -- and goes on to where the layout goes on
-pub step-agrees : (u : Used) (s : Shape) → Shaped s → u .stack .0 % 8 ≡ 0 → step (walkAt u) s ≡ walkAt (next u s)
+pub step-agrees : (slot : Slot) (u : Used) (s : Shape) → Shaped s → u .stack .0 % wide slot ≡ 0 → step slot (walkAt u) s ≡ walkAt (next slot u s)
 unfolding step next walkAt raised start
-step-agrees u s h m = rw (holds-fits u (s .kinds) (h .few)) (by (fits u (s .kinds)))
+step-agrees slot u s h m = rw (holds-fits u (s .kinds) (h .few)) (by (fits u (s .kinds)))
   where
-    by : (b : Bool) → stepIf b (walkAt u) s ≡ walkAt (nextIf b u s)
+    by : (b : Bool) → stepIf slot b (walkAt u) s ≡ walkAt (nextIf slot b u s)
     by true = offsets-same _ _ (omega arith) (omega arith) refl
-    by false = offsets-same _ _ refl refl (ap (λ (o : ℕ). raise 8 (o + s .size)) (raised-start (s .align) (u .stack .0) (h .aligned) m))
+    by false = offsets-same _ _ refl refl (ap (λ (o : ℕ). raise (wide slot) (o + s .size)) (raised-start slot (s .align) (u .stack .0) (h .aligned) m))
 
 -- the bytes of a source are those of the place
-pub bytes-in : (p : Place) (n : ℕ) → bytesFrom (sourceIn p) n ≡ bytesOf p n
-bytes-in (inRegisters rs) n = refl
-bytes-in (onStack o) n = refl
+pub bytes-in : (base : ℕ) (p : Place) (n : ℕ) → bytesFrom base (sourceIn p) n ≡ bytesOf base p n
+bytes-in base (inRegisters rs) n = refl
+bytes-in base (onStack o) n = refl
 
-pub bytes-agree : (u : Used) (s : Shape) → Shaped s → u .stack .0 % 8 ≡ 0 → bytesFrom (readAt (walkAt u) s) (s .size) ≡ bytesOf (place u s) (s .size)
-bytes-agree u s h m = rw (read-agrees u s h m) (bytes-in (place u s) (s .size))
+pub bytes-agree : (base : ℕ) (slot : Slot) (u : Used) (s : Shape) → Shaped s → u .stack .0 % wide slot ≡ 0 → bytesFrom base (readAt slot (walkAt u) s) (s .size) ≡ bytesOf base (place slot u s) (s .size)
+bytes-agree base slot u s h m = rw (read-agrees slot u s h m) (bytes-in base (place slot u s) (s .size))
 
 -- over all arguments of a list
-pub walk-agrees : (ss : List Shape) (u : Used) → All Shaped ss → u .stack .0 % 8 ≡ 0 → visits (walkAt u) ss ≡ map sourceIn (places u ss)
-walk-agrees [] u h m = refl
-walk-agrees (s ∷ ss) u h m =
-    ap₂ _∷_ (read-agrees u s (h .0) m)
-    (ap (λ (o : Offsets). visits o ss) (step-agrees u s (h .0) m) ∙ walk-agrees ss (next u s) (h .1) (next-eights u s m))
+pub walk-agrees : (slot : Slot) (ss : List Shape) (u : Used) → All Shaped ss → u .stack .0 % wide slot ≡ 0 → visits slot (walkAt u) ss ≡ map sourceIn (places slot u ss)
+walk-agrees slot [] u h m = refl
+walk-agrees slot (s ∷ ss) u h m =
+    ap₂ _∷_ (read-agrees slot u s (h .0) m)
+    (ap (λ (o : Offsets). visits slot o ss) (step-agrees slot u s (h .0) m) ∙ walk-agrees slot ss (next slot u s) (h .1) (next-slotted slot u s m))
 
-pub walk-ends : (ss : List Shape) (u : Used) → All Shaped ss → u .stack .0 % 8 ≡ 0 → steps (walkAt u) ss ≡ walkAt (after u ss)
-walk-ends [] u h m = refl
-walk-ends (s ∷ ss) u h m =
-    ap (λ (o : Offsets). steps o ss) (step-agrees u s (h .0) m) ∙ walk-ends ss (next u s) (h .1) (next-eights u s m)
+pub walk-ends : (slot : Slot) (ss : List Shape) (u : Used) → All Shaped ss → u .stack .0 % wide slot ≡ 0 → steps slot (walkAt u) ss ≡ walkAt (after slot u ss)
+walk-ends slot [] u h m = refl
+walk-ends slot (s ∷ ss) u h m =
+    ap (λ (o : Offsets). steps slot o ss) (step-agrees slot u s (h .0) m) ∙ walk-ends slot ss (next slot u s) (h .1) (next-slotted slot u s m)
 
 map-append : (ps qs : List Place) → map sourceIn (ps ++ qs) ≡ map sourceIn ps ++ map sourceIn qs
 map-append [] qs = refl
 map-append (p ∷ ps) qs = ap (λ (l : List Source). sourceIn p ∷ l) (map-append ps qs)
 
 -- a walk that is opened after the named arguments visits the places of the unnamed, one by one
-pub walk-unnamed : (named unnamed : List Shape) (u : Used) → All Shaped unnamed → u .stack .0 % 8 ≡ 0
-    → map sourceIn (places u (named ++ unnamed)) ≡ map sourceIn (places u named) ++ visits (walkAt (after u named)) unnamed
-walk-unnamed named unnamed u h m =
-    ap (λ (l : List Place). map sourceIn l) (places-append named unnamed u)
-    ∙ map-append (places u named) (places (after u named) unnamed)
-    ∙ ap (λ (l : List Source). map sourceIn (places u named) ++ l) (sym (walk-agrees unnamed (after u named) h (after-eights named u m)))
+pub walk-unnamed : (slot : Slot) (named unnamed : List Shape) (u : Used) → All Shaped unnamed → u .stack .0 % wide slot ≡ 0
+    → map sourceIn (places slot u (named ++ unnamed)) ≡ map sourceIn (places slot u named) ++ visits slot (walkAt (after slot u named)) unnamed
+walk-unnamed slot named unnamed u h m =
+    ap (λ (l : List Place). map sourceIn l) (places-append slot named unnamed u)
+    ∙ map-append (places slot u named) (places slot (after slot u named) unnamed)
+    ∙ ap (λ (l : List Source). map sourceIn (places slot u named) ++ l) (sym (walk-agrees slot unnamed (after slot u named) h (after-slotted slot named u m)))
 
 -- "With none used they are 0, 48 and 0"
 pub none-used : walkAt (record { general = record { 0 = 0 }; vector = record { 0 = 0 }; stack = record { 0 = 0 } }) ≡ record { general = 0; vector = 48; overflow = 0 }

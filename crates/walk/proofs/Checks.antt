@@ -19,7 +19,7 @@ use Rattle.uses.proofs.Uses.{accepted-types}
 use Rattle.places.specs.declared.Used.{Used}
 use Rattle.places.specs.declared.Shape.{Shape as Coded}
 use Rattle.places.specs.Shapes.{shapeOf}
-use Rattle.places.specs.Places.{fresh}
+use Rattle.places.specs.Places.{eights, fresh}
 use Rattle.places.specs.Recorded.{asked}
 use Rattle.places.proofs.Fits.{after-bounds}
 use Rattle.types.specs.Decode.{tyAt}
@@ -38,7 +38,7 @@ use Rattle.station.specs.declared.Station.{Station}
 use Rattle.station.specs.Outcome.{NoneHolds, Answers, Positive}
 use Rattle.station.specs.Paper.{Paper, kcb, verdictOf, refusalUnder, arguments, shapeAt}
 use Rattle.station.specs.Attachment.{wrongSeat, described}
-use Rattle.station.proofs.Orders.{first-append, first-early, or-false, positive-numbered, accepts-exactly, refuses-exactly}
+use Rattle.station.proofs.Orders.{first-append, first-early, or-false, positive-append, accepts-exactly, refuses-exactly}
 use Rattle.station.proofs.Attachments.{under-high}
 use Rattle.station.proofs.Kcb.{kcb-verdict, kcb-refusal, kcb-arguments, kcb-area, kcb-shape, kcb-type}
 use Rattle.walk.specs.declared.Walk.{Walk}
@@ -67,7 +67,7 @@ headed d u = accepted-headed d (accepted-form d (accepted-types d u))
 
 pub used-few : (d : List ℕ) (p : ℕ) (u : Used) → u ≡ layoutUsed d p → (u .general .0 ≤ 6) × (u .vector .0 ≤ 8)
 unfolding layoutUsed
-used-few d p u e = rw e (after-bounds (shapesFrom d 0 p) (fresh (hidden d)) (hidden-few (hidden d)) (omega arith))
+used-few d p u e = rw e (after-bounds eights (shapesFrom d 0 p) (fresh (hidden d)) (hidden-few (hidden d)) (omega arith))
   where
     hidden-few : (b : Bool) → cond b 1 0 ≤ 6
     hidden-few true = omega arith
@@ -136,12 +136,12 @@ on-before d w e h = omega (arith, astray-not kcb d w e .to, kcb-arguments d)
 module _ (P : Paper) (s : Station) (d : List ℕ) (w : Walk) (a : Ask) where
   pub rest-early : verdictOf P d ≢ 0 → restRefusal P s d w a ≡ verdictOf P d
   unfolding verdictOf restRefusal
-  rest-early h = first-early 0 (P .conditions d) _ h
+  rest-early h = first-early (P .order d) _ h
 
   module _ (ok : verdictOf P d ≡ 0) where
     rest-late : restRefusal P s d w a ≡ first (rule 17 (otherNumber s w) ∷ rule 18 (astray P d w) ∷ rule 19 (atEnd P d w) ∷ rule 20 (otherType P d w a) ∷ rule 11 (wrongStack P d a) ∷ [])
     unfolding verdictOf restRefusal
-    rest-late = first-append 0 (P .conditions d) _ ok
+    rest-late = first-append (P .order d) _ (P .counted d) ok
 
     pub rest-17 : otherNumber s w ≡ true → restRefusal P s d w a ≡ 17
     rest-17 e = rest-late ∙ rw e
@@ -218,21 +218,21 @@ module _ (P : Paper) (s : Station) (seat : List ℕ) (w : Walk) (a : Ask) where
   unfolding showRefusal
   show-wrong e = rw e
 
-  pub show-registers : wrongSeat s seat ≡ false → length (a .registers) ≢ 176 → showRefusal P s seat w a ≡ 11
+  pub show-registers : wrongSeat s seat ≡ false → length (a .registers) ≢ P .registers → showRefusal P s seat w a ≡ 11
   unfolding showRefusal wrongRegisters
-  show-registers e h = rw (e, ne-eqb (length (a .registers)) 176 h)
+  show-registers e h = rw (e, ne-eqb (length (a .registers)) (P .registers) h)
 
-  pub show-idle : wrongSeat s seat ≡ false → length (a .registers) ≡ 176 → s .attached ≡ false → showRefusal P s seat w a ≡ 13
+  pub show-idle : wrongSeat s seat ≡ false → length (a .registers) ≡ P .registers → s .attached ≡ false → showRefusal P s seat w a ≡ 13
   unfolding showRefusal wrongRegisters
-  show-idle e h b = rw (e, eq-eqb (length (a .registers)) 176 h, b)
+  show-idle e h b = rw (e, eq-eqb (length (a .registers)) (P .registers) h, b)
 
-  pub show-rest : wrongSeat s seat ≡ false → length (a .registers) ≡ 176 → s .attached ≡ true → showRefusal P s seat w a ≡ restRefusal P s (described s seat) w a
+  pub show-rest : wrongSeat s seat ≡ false → length (a .registers) ≡ P .registers → s .attached ≡ true → showRefusal P s seat w a ≡ restRefusal P s (described s seat) w a
   unfolding showRefusal wrongRegisters restRefusal
-  show-rest e h b = rw (e, eq-eqb (length (a .registers)) 176 h, b)
+  show-rest e h b = rw (e, eq-eqb (length (a .registers)) (P .registers) h, b)
 
   rest-positive : (late : List Rule) → Positive late → Positive (walkOrder P s seat w a late)
   rest-positive late p =
-      (omega arith, (omega arith, positive-numbered 0 (P .conditions (described s seat)) _ (omega arith, (omega arith, (omega arith, (omega arith, p))))))
+      (omega arith, (omega arith, positive-append (P .order (described s seat)) _ (P .counted (described s seat)) (omega arith, (omega arith, (omega arith, (omega arith, p))))))
 
   -- "11 for seat, station and register image, 13, 1..10, 17, 18, 19, 20, then 11 for stack image and out buffer"
   pub step-accepts : (stepRefusal P s seat w a ≡ 0) ↔ NoneHolds (stepOrder P s seat w a)
@@ -260,7 +260,7 @@ rest-blind P s seat w regs stack ty = refl
 
 -- the rest of the checks, made in the seat at the station's length
 pub stands-there : (P : Paper) (s : Station) (seat : List ℕ) (w : Walk) (regs stack : List ℕ) (ty : ℕ) (r : Standing)
-    → wrongSeat s seat ≡ false → length regs ≡ 176 → s .attached ≡ true
+    → wrongSeat s seat ≡ false → length regs ≡ P .registers → s .attached ≡ true
     → IsStanding P (restRefusal P s (take (s .length .0) seat) w (asking [] stack ty [])) (take (s .length .0) seat) (w .position) r
     → IsStanding P (showRefusal P s seat w (asking regs stack ty [])) (described s seat) (w .position) r
 unfolding described

@@ -42,7 +42,7 @@ module _ (registers stack : List ℕ) (e : length registers ≡ 176) where
       ∙ gather-right (run o n) registers stack
 
   pub copy-one : (f : Fetch) (a : Bytes) (n : ℕ) (out : List ℕ) → f ≡ One a → Within f n 176 (length stack) → length out ≡ n
-      → copied out 0 registers (a .0) n ≡ gather (registers ++ stack) (bytesFrom (sourceOf f) n)
+      → copied out 0 registers (a .0) n ≡ gather (registers ++ stack) (bytesFrom 176 (sourceOf f) n)
   copy-one f a n out q w l =
       let v : Within (One a) n 176 (length stack) = rw q at w in
       let m : min n 8 ≡ n = omega (arith, v .0) in
@@ -51,11 +51,11 @@ module _ (registers stack : List ℕ) (e : length registers ≡ 176) where
       ∙ ap (gather (registers ++ stack)) (append-nil (run (a .0) n)) ∙ from-registers (a .0) n (v .1)))
 
   pub copy-stack : (f : Fetch) (a : Bytes) (n : ℕ) (out : List ℕ) → f ≡ Stack a → length out ≡ n
-      → copied out 0 stack (a .0) n ≡ gather (registers ++ stack) (bytesFrom (sourceOf f) n)
+      → copied out 0 stack (a .0) n ≡ gather (registers ++ stack) (bytesFrom 176 (sourceOf f) n)
   copy-stack f a n out q l = whole-copy out stack (a .0) n l ∙ sym (rw q (from-stack (a .0) n))
 
   pub copy-two : (f : Fetch) (a b : Bytes) (n : ℕ) (out mid : List ℕ) → f ≡ Two a b → Within f n 176 (length stack) → length out ≡ n
-      → mid ≡ copied out 0 registers (a .0) 8 → copied mid 8 registers (b .0) (n - 8) ≡ gather (registers ++ stack) (bytesFrom (sourceOf f) n)
+      → mid ≡ copied out 0 registers (a .0) 8 → copied mid 8 registers (b .0) (n - 8) ≡ gather (registers ++ stack) (bytesFrom 176 (sourceOf f) n)
   unfolding copied
   copy-two f a b n out mid q w l x =
       let v : Within (Two a b) n 176 (length stack) = rw q at w in

@@ -13,8 +13,8 @@ use Rattle.places.specs.declared.Kind.the-variants.{General as general, Vector 
 use Rattle.places.specs.declared.Kinds.{Kinds}
 use Rattle.places.specs.declared.Kinds.the-variants.{Stack as None, One as Single, Two as Pair}
 use Rattle.places.specs.declared.Shape.{Shape as Coded}
-use Rattle.places.specs.Shapes.{some?}
-use Rattle.places.specs.Places.{generalFor, vectorFor, generals, vectors}
+use Rattle.places.specs.Shapes.{some?, Alignment, one, two, four, eight, sixteen}
+use Rattle.places.specs.Places.{eights, generalFor, vectorFor, generals, vectors}
 use Rattle.places.specs.Recorded.{listed, asked}
 use Rattle.walk.specs.declared.Walk.{Walk}
 use Rattle.walk.specs.declared.Counts.{Counts}
@@ -81,10 +81,18 @@ none-fits w k b e p q = true≢false (sym q ∙ p ∙ sym (holds-none w k (rw e)
 
 -- ---- where it is fetched
 
+-- an alignment that exceeds 8 is 16
+to-sixteen : (a t : ℕ) → Alignment a → cond (ltb 8 a) (raise 16 t) t ≡ cond (ltb 8 a) (raise a t) t
+to-sixteen a t one = refl
+to-sixteen a t two = refl
+to-sixteen a t four = refl
+to-sixteen a t eight = refl
+to-sixteen a t sixteen = refl
+
 pub read-stack : (w : Walk) (s : Coded) (n : ℕ) → holds (offsetsOf w) (listed (s .kinds)) ≡ false
-    → n ≡ cond (ltb 8 (s .align .0)) (raise 16 (w .overflow .0)) (w .overflow .0) → fromStack n ≡ readAt (offsetsOf w) (asked s)
+    → Alignment (s .align .0) → n ≡ cond (ltb 8 (s .align .0)) (raise 16 (w .overflow .0)) (w .overflow .0) → fromStack n ≡ readAt eights (offsetsOf w) (asked s)
 unfolding readAt raised
-read-stack w s n e p = rw e (ap fromStack p)
+read-stack w s n e m p = rw e (ap fromStack (p ∙ to-sixteen (s .align .0) (w .overflow .0) m))
 
 read-first : (g f : ℕ) (k : Kind) (ks : List Kind) → reads g f (k ∷ ks) ≡ readFor g f k ∷ reads (g + 8 * generalFor k) (f + 16 * vectorFor k) ks
 read-first g f general ks =
@@ -97,7 +105,7 @@ read-first g f upper ks =
     ap₂ (λ (h : ℕ) (i : ℕ). (f - 8) ∷ reads h i ks) e q
 
 pub read-one : (w : Walk) (s : Coded) (k : Kind) (c : Counts) (n : ℕ) → s .kinds ≡ Single k → holds (offsetsOf w) (listed (s .kinds)) ≡ true → IsCounted [] c
-    → n ≡ readFor (w .general .0 + 8 * c .general .0) (w .vector .0 + 16 * c .vector .0) k → fromRegisters (n ∷ []) ≡ readAt (offsetsOf w) (asked s)
+    → n ≡ readFor (w .general .0 + 8 * c .general .0) (w .vector .0 + 16 * c .vector .0) k → fromRegisters (n ∷ []) ≡ readAt eights (offsetsOf w) (asked s)
 unfolding readAt
 read-one w s k c n e h z p =
     let g : w .general .0 + 8 * c .general .0 ≡ w .general .0 = omega (arith, z .general) in
@@ -110,7 +118,7 @@ pub read-two : (w : Walk) (s : Coded) (j k : Kind) (c d : Counts) (n m : ℕ) �
     → IsCounted [] c → IsCounted (j ∷ []) d
     → n ≡ readFor (w .general .0 + 8 * c .general .0) (w .vector .0 + 16 * c .vector .0) j
     → m ≡ readFor (w .general .0 + 8 * d .general .0) (w .vector .0 + 16 * d .vector .0) k
-    → fromRegisters (n ∷ m ∷ []) ≡ readAt (offsetsOf w) (asked s)
+    → fromRegisters (n ∷ m ∷ []) ≡ readAt eights (offsetsOf w) (asked s)
 unfolding readAt
 read-two w s j k c d n m e h z y p q =
     let g : w .general .0 + 8 * c .general .0 ≡ w .general .0 = omega (arith, z .general) in
@@ -134,17 +142,17 @@ walk-same v w n p g f o =
 pub moved-registers : (w : Walk) (s : Coded) (p : ℕ) (g f : Bytes) → holds (offsetsOf w) (listed (s .kinds)) ≡ true → p ≡ w .position + 1
     → g .0 ≡ w .general .0 + 8 * generals (listed (s .kinds)) → f .0 ≡ w .vector .0 + 16 * vectors (listed (s .kinds))
     → _≡_ {A = Walk} (record { number = w .number; position = p; general = g; vector = f; overflow = w .overflow })
-    (withOffsets (w .number) (suc (w .position)) (step (offsetsOf w) (asked s)))
+    (withOffsets (w .number) (suc (w .position)) (step eights (offsetsOf w) (asked s)))
 unfolding step
 moved-registers w s p g f h e x y = rw h (walk-same _ _ refl (omega arith) x y refl)
 
 pub moved-stack : (w : Walk) (s : Coded) (p r : ℕ) (o : Bytes) → holds (offsetsOf w) (listed (s .kinds)) ≡ false → p ≡ w .position + 1
-    → r ≡ cond (ltb 8 (s .align .0)) (raise 16 (w .overflow .0)) (w .overflow .0) → o .0 ≡ raise 8 (r + s .size .0)
+    → Alignment (s .align .0) → r ≡ cond (ltb 8 (s .align .0)) (raise 16 (w .overflow .0)) (w .overflow .0) → o .0 ≡ raise 8 (r + s .size .0)
     → _≡_ {A = Walk} (record { number = w .number; position = p; general = w .general; vector = w .vector; overflow = o })
-    (withOffsets (w .number) (suc (w .position)) (step (offsetsOf w) (asked s)))
+    (withOffsets (w .number) (suc (w .position)) (step eights (offsetsOf w) (asked s)))
 unfolding step raised
-moved-stack w s p r o h e x y =
-    rw h (walk-same _ _ refl (omega arith) refl refl (y ∙ ap (λ (n : ℕ). raise 8 (n + s .size .0)) x))
+moved-stack w s p r o h e m x y =
+    rw h (walk-same _ _ refl (omega arith) refl refl (y ∙ ap (λ (n : ℕ). raise 8 (n + s .size .0)) (x ∙ to-sixteen (s .align .0) (w .overflow .0) m)))
 
 -- no sum overflows
 pub raised-small : (a o r : ℕ) → o ≤ 1048576 → r ≡ cond (ltb 8 a) (raise 16 o) o → r ≤ 1048592

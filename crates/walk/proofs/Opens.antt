@@ -21,7 +21,7 @@ use Rattle.station.specs.declared.Station.{Station}
 use Rattle.station.specs.Outcome.{NoneHolds, Answers, Positive}
 use Rattle.station.specs.Paper.{Paper, kcb, verdictOf, refusalUnder}
 use Rattle.station.specs.Attachment.{wrongSeat, described}
-use Rattle.station.proofs.Orders.{first-append, first-early, positive-numbered, accepts-exactly, refuses-exactly}
+use Rattle.station.proofs.Orders.{first-append, first-early, positive-append, accepts-exactly, refuses-exactly}
 use Rattle.station.proofs.Attachments.{under-high}
 use Rattle.station.proofs.Kcb.{kcb-used}
 use Rattle.walk.specs.declared.Walk.{Walk}
@@ -50,11 +50,11 @@ module _ (P : Paper) (d : List ℕ) where
 module _ (P : Paper) (d : List ℕ) where
   pub variadic-early : verdictOf P d ≢ 0 → first (variadicOrder P d) ≡ verdictOf P d
   unfolding verdictOf
-  variadic-early h = first-early 0 (P .conditions d) (rule 16 (not (P .variadic d)) ∷ []) h
+  variadic-early h = first-early (P .order d) (rule 16 (not (P .variadic d)) ∷ []) h
 
   pub variadic-late : verdictOf P d ≡ 0 → first (variadicOrder P d) ≡ cond (not (P .variadic d)) 16 0
   unfolding verdictOf
-  variadic-late e = first-append 0 (P .conditions d) (rule 16 (not (P .variadic d)) ∷ []) e
+  variadic-late e = first-append (P .order d) (rule 16 (not (P .variadic d)) ∷ []) (P .counted d) e
 
 pub plain-16 : (d : List ℕ) (b : ℕ) → verdictOf kcb d ≡ 0 → b ≡ variadicIn d → b ≢ 1 → first (variadicOrder kcb d) ≡ 16
 unfolding kcb
@@ -92,7 +92,7 @@ module _ (P : Paper) (s : Station) (seat : List ℕ) where
   open-rest e a = rw (e, a)
 
   open-positive : Positive (openOrder P s seat)
-  open-positive = (omega arith, (omega arith, positive-numbered 0 (P .conditions (described s seat)) _ (omega arith, tt)))
+  open-positive = (omega arith, (omega arith, positive-append (P .order (described s seat)) _ (P .counted (described s seat)) (omega arith, tt)))
 
   -- "Open: 11, 13, 1..10, 16"
   pub open-accepts : (openRefusal P s seat ≡ 0) ↔ NoneHolds (openOrder P s seat)

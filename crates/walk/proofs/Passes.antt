@@ -3,7 +3,7 @@ use mathlib.Core.Path.{_≡_, refl, sym, ap, _∙_}
 use mathlib.Core.Logic.{_≢_}
 use mathlib.Core.Bool.{Bool, true, false, not, _||_}
 use mathlib.Core.List.{List, [], _∷_}
-use Prim.Native.Nat.{ℕ, suc, _+_, _*_, _-_, _≤_, _<_}
+use Prim.Native.Nat.{ℕ, suc, _+_, _*_, _-_, _%_, _≤_, _<_}
 use native.Mathlib.Omega.{arith}
 use lib.ListN.{length, take, drop, take-append-drop}
 use borrow.Author.Tests.{eqb-true, eqb-false, not-false}
@@ -13,13 +13,13 @@ use Rattle.form.specs.Order.{Rule, rule, first}
 use Rattle.uses.specs.Uses.{usesRefusal}
 use Rattle.places.specs.declared.Used.{Used}
 use Rattle.places.specs.Shapes.{Shape, Shaped}
-use Rattle.places.specs.Places.{registersFor, fits, start, placeIf, place, next, fresh, after, area}
+use Rattle.places.specs.Places.{Slot, eights, wide, registersFor, fits, start, placeIf, place, next, after, area}
 use Rattle.places.specs.Images.{slots}
 use Rattle.places.specs.Recorded.{Small}
 use Rattle.places.proofs.Fits.{fits-true}
 use Rattle.places.proofs.Prefix.{after-append, after-at}
 use Rattle.places.proofs.Apart.{length-slots, slots-inside, stack-room, after-grows}
-use Rattle.places.proofs.Offsets.{after-eights, area-rounded}
+use Rattle.places.proofs.Offsets.{after-slotted, area-rounded}
 use Rattle.layout.specs.Arguments.{usedAt as layoutUsed}
 use Rattle.layout.proofs.Verdict.{accepted-uses}
 use Rattle.layout.proofs.Bounds.{arguments-few, argument-small, argument-shaped}
@@ -28,7 +28,7 @@ use Rattle.station.specs.declared.Station.{Station}
 use Rattle.station.specs.Paper.{Paper, kcb, verdictOf, arguments, shapeAt, typeAt, usedAt, areaOf}
 use Rattle.station.specs.Attachment.{wrongSeat, described}
 use Rattle.station.proofs.Orders.{first-rest, first-part, or-false}
-use Rattle.station.proofs.Kcb.{kcb-verdict, kcb-arguments, kcb-used, kcb-shape}
+use Rattle.station.proofs.Kcb.{kcb-registers, kcb-verdict, kcb-arguments, kcb-used, kcb-shape}
 use Rattle.walk.specs.declared.Walk.{Walk}
 use Rattle.walk.specs.declared.Fetch.{Fetch}
 use Rattle.walk.specs.declared.Fetch.the-variants.{One, Two, Stack}
@@ -42,7 +42,7 @@ module _ (P : Paper) where
   -- the order read back: none of its conditions holds
   pub record Passed (s : Station) (seat : List ℕ) (w : Walk) (a : Ask) : Type 0 where
     pub right : wrongSeat s seat ≡ false
-    pub registers : length (a .registers) ≡ 176
+    pub registers : length (a .registers) ≡ P .registers
     pub busy : s .attached ≡ true
     pub accepted : verdictOf P (described s seat) ≡ 0
     pub number : w .number ≡ s .number
@@ -54,18 +54,18 @@ module _ (P : Paper) where
   unfolding verdictOf wrongRegisters otherNumber atEnd otherType
   walk-passes s seat w a late e =
       let d = described s seat in
-      let x = first-rest 10 (wrongSeat s seat || wrongRegisters a) _ e in
-      let xs = or-false (wrongSeat s seat) (wrongRegisters a) (x .0) in
+      let x = first-rest 10 (wrongSeat s seat || wrongRegisters P a) _ e in
+      let xs = or-false (wrongSeat s seat) (wrongRegisters P a) (x .0) in
       let y = first-rest 12 (not (s .attached)) _ (x .1) in
-      let z = first-part 0 (P .conditions d)
-      (rule 17 (otherNumber s w) ∷ rule 18 (astray P d w) ∷ rule 19 (atEnd P d w) ∷ rule 20 (otherType P d w a) ∷ late) (y .1) in
+      let z = first-part (P .order d)
+      (rule 17 (otherNumber s w) ∷ rule 18 (astray P d w) ∷ rule 19 (atEnd P d w) ∷ rule 20 (otherType P d w a) ∷ late) (P .counted d) (y .1) in
       let n = first-rest 16 (otherNumber s w) _ (z .1) in
       let o = first-rest 17 (astray P d w) _ (n .1) in
       let p = first-rest 18 (atEnd P d w) _ (o .1) in
       let q = first-rest 19 (otherType P d w a) _ (p .1) in (
         record {
           right = xs .0;
-          registers = eqb-true (length (a .registers)) 176 (not-false _ (xs .1));
+          registers = eqb-true (length (a .registers)) (P .registers) (not-false _ (xs .1));
           busy = not-false (s .attached) (y .0);
           accepted = z .0;
           number = eqb-true (w .number) (s .number) (not-false _ (n .0));
@@ -85,26 +85,26 @@ module _ (P : Paper) where
 
   -- a stack argument ends within the area
   pub room : (d : List ℕ) (p : ℕ) → p < arguments P d → fits (usedAt P d p) (shapeAt P d p .kinds) ≡ false
-      → start (usedAt P d p) (shapeAt P d p) + shapeAt P d p .size ≤ areaOf P d
+      → start (P .slot) (usedAt P d p) (shapeAt P d p) + shapeAt P d p .size ≤ areaOf P d
   unfolding usedAt areaOf area arguments shapeAt
   room d p l e =
       let ss = P .shapes d in
-      let u = fresh (P .hidden d) in
-      let x = stack-room (usedAt P d p) (shapeAt P d p) e in
-      let y : next (usedAt P d p) (shapeAt P d p) .stack .0 ≡ after u (take (suc p) ss) .stack .0 = ap (λ (v : Used). v .stack .0) (sym (after-at ss u p _ l)) in
-      let z = after-grows (drop (suc p) ss) (after u (take (suc p) ss)) in
-      let w : after (after u (take (suc p) ss)) (drop (suc p) ss) .stack .0 ≡ after u ss .stack .0 =
-      ap (λ (v : Used). v .stack .0) (sym (after-append (take (suc p) ss) (drop (suc p) ss) u) ∙ ap (λ (l′ : List Shape). after u l′) (take-append-drop (suc p) ss)) in
-      omega (arith, x, y, z, w, area-rounded u ss .behind)
+      let u = P .first d in
+      let x = stack-room (P .slot) (usedAt P d p) (shapeAt P d p) e in
+      let y : next (P .slot) (usedAt P d p) (shapeAt P d p) .stack .0 ≡ after (P .slot) u (take (suc p) ss) .stack .0 = ap (λ (v : Used). v .stack .0) (sym (after-at (P .slot) ss u p _ l)) in
+      let z = after-grows (P .slot) (drop (suc p) ss) (after (P .slot) u (take (suc p) ss)) in
+      let w : after (P .slot) (after (P .slot) u (take (suc p) ss)) (drop (suc p) ss) .stack .0 ≡ after (P .slot) u ss .stack .0 =
+      ap (λ (v : Used). v .stack .0) (sym (after-append (P .slot) (take (suc p) ss) (drop (suc p) ss) u) ∙ ap (λ (l′ : List Shape). after (P .slot) u l′) (take-append-drop (suc p) ss)) in
+      omega (arith, x, y, z, w, area-rounded (P .slot) u ss .behind)
 
   -- a record that stands there fetches where the layout places
-  pub genuine-reads : (d : List ℕ) (w : Walk) → Genuine P d w → Shaped (shapeAt P d (w .position))
-      → readAt (offsetsOf w) (shapeAt P d (w .position)) ≡ sourceIn (place (usedAt P d (w .position)) (shapeAt P d (w .position)))
+  pub genuine-reads : (d : List ℕ) (w : Walk) → Genuine P d w → Shaped (shapeAt P d (w .position)) → P .first d .stack .0 % wide (P .slot) ≡ 0
+      → readAt (P .slot) (offsetsOf w) (shapeAt P d (w .position)) ≡ sourceIn (place (P .slot) (usedAt P d (w .position)) (shapeAt P d (w .position)))
   unfolding standing usedAt
-  genuine-reads d w g h =
-      ap (λ (v : Walk). readAt (offsetsOf v) (shapeAt P d (w .position))) (g .same)
-      ∙ read-agrees (usedAt P d (w .position)) (shapeAt P d (w .position)) h
-      (after-eights (take (w .position) (P .shapes d)) (fresh (P .hidden d)) refl)
+  genuine-reads d w g h m =
+      ap (λ (v : Walk). readAt (P .slot) (offsetsOf v) (shapeAt P d (w .position))) (g .same)
+      ∙ read-agrees (P .slot) (usedAt P d (w .position)) (shapeAt P d (w .position)) h
+      (after-slotted (P .slot) (take (w .position) (P .shapes d)) (P .first d) m)
 
 -- ---- within the images
 
@@ -143,30 +143,41 @@ on-stack (One a) o n regs stack e l = absurd (never-stack (sym e))
 on-stack (Two a b) o n regs stack e l = absurd (never-stack (sym e))
 on-stack (Stack p) o n regs stack e l = let q = same-offset e in omega arith
 
-within : (u : Used) (s : Shape) (f : Fetch) (stack : ℕ) → Shaped s → sourceOf f ≡ sourceIn (place u s) → (fits u (s .kinds) ≡ false → start u s + s .size ≤ stack)
+within : (slot : Slot) (u : Used) (s : Shape) (f : Fetch) (stack : ℕ) → Shaped s → sourceOf f ≡ sourceIn (place slot u s) → (fits u (s .kinds) ≡ false → start slot u s + s .size ≤ stack)
     → Within f (s .size) 176 stack
 unfolding place
-within u s f stack h e m = by (fits u (s .kinds)) refl e
+within slot u s f stack h e m = by (fits u (s .kinds)) refl e
   where
-    by : (b : Bool) → fits u (s .kinds) ≡ b → sourceOf f ≡ sourceIn (placeIf b u s) → Within f (s .size) 176 stack
+    by : (b : Bool) → fits u (s .kinds) ≡ b → sourceOf f ≡ sourceIn (placeIf slot b u s) → Within f (s .size) 176 stack
     by true p q =
         let z = fits-true u (s .kinds) p in
         let r = h .room (z .some) in
         let n = length-slots (s .kinds) (u .general .0) (u .vector .0) in
         in-registers f (slots (registersFor (u .general .0) (u .vector .0) (s .kinds))) (s .size) 176 stack q (omega (arith, r .0, n)) (omega (arith, r .1, n)) (slots-inside u s h p)
-    by false p q = on-stack f (start u s) (s .size) 176 stack q (m p)
+    by false p q = on-stack f (start slot u s) (s .size) 176 stack q (m p)
 
 -- ---- of document 01's descriptions
 
+pub kcb-reads : (d : List ℕ) (w : Walk) → Genuine kcb d w → Shaped (shapeAt kcb d (w .position))
+    → readAt eights (offsetsOf w) (shapeAt kcb d (w .position)) ≡ sourceIn (place eights (usedAt kcb d (w .position)) (shapeAt kcb d (w .position)))
+unfolding kcb
+kcb-reads d w g h = genuine-reads kcb d w g h refl
+
+pub kcb-room : (d : List ℕ) (p : ℕ) → p < arguments kcb d → fits (usedAt kcb d p) (shapeAt kcb d p .kinds) ≡ false
+    → start eights (usedAt kcb d p) (shapeAt kcb d p) + shapeAt kcb d p .size ≤ areaOf kcb d
+unfolding kcb
+kcb-room d p l e = room kcb d p l e
+
 pub record Ready (s : Station) (seat : List ℕ) (w : Walk) (a : Ask) : Type 0 where
   pub passed : Passed kcb s seat w a
+  pub registers : length (a .registers) ≡ 176
   pub genuine : Genuine kcb (described s seat) w
   pub before : w .position < arguments kcb (described s seat)
   pub stack : length (a .stack) ≡ areaOf kcb (described s seat)
   pub reached : Reached w
   pub small : Small (shapeAt kcb (described s seat) (w .position))
   pub shaped : Shaped (shapeAt kcb (described s seat) (w .position))
-  pub fetched : (f : Fetch) → sourceOf f ≡ readAt (offsetsOf w) (shapeAt kcb (described s seat) (w .position))
+  pub fetched : (f : Fetch) → sourceOf f ≡ readAt eights (offsetsOf w) (shapeAt kcb (described s seat) (w .position))
       → Within f (shapeAt kcb (described s seat) (w .position) .size) 176 (length (a .stack))
 
 standing-reached : (d : List ℕ) (w : Walk) → usesRefusal d ≡ 0 → Genuine kcb d w → w .position ≤ argumentsIn d → Reached w
@@ -199,12 +210,13 @@ ready s seat w a e =
     let h : Shaped (shapeAt kcb d (w .position)) = rw (kcb-shape d (w .position) k) (argument-shaped d u (w .position) k) in
     record {
       passed = z .0;
+      registers = z .0 .registers ∙ kcb-registers;
       genuine = g;
       before = l;
       stack = z .1;
       reached = standing-reached d w u g (omega arith);
       small = rw (kcb-shape d (w .position) k) (argument-small d u (w .position) k);
       shaped = h;
-      fetched = λ f q. within (usedAt kcb d (w .position)) (shapeAt kcb d (w .position)) f (length (a .stack)) h (q ∙ genuine-reads kcb d w g h)
-          (λ m. rw (z .1) (room kcb d (w .position) l m));
+      fetched = λ f q. within eights (usedAt kcb d (w .position)) (shapeAt kcb d (w .position)) f (length (a .stack)) h (q ∙ kcb-reads d w g h)
+          (λ m. rw (z .1) (kcb-room d (w .position) l m));
     }

@@ -17,9 +17,10 @@ use Rattle.places.specs.declared.Kind.the-variants.{General as general, Vector 
 use Rattle.places.specs.declared.Used.{Used}
 use Rattle.places.specs.declared.Shape.{Shape as Coded}
 use Rattle.places.specs.Shapes.{Shape, Led, Shaped}
-use Rattle.places.specs.Places.{registersFor, fits, start, placeIf, place}
+use Rattle.places.specs.Places.{Slot, eights, registersFor, fits, start, placeIf, place}
 use Rattle.places.specs.Images.{slots, spread}
-use Rattle.places.specs.Recorded.{asked}
+use Rattle.places.specs.Statements.{Seated}
+use Rattle.places.specs.Recorded.{asked, Small}
 use Rattle.places.proofs.Fits.{fits-true}
 use Rattle.places.proofs.Apart.{spread-adjoin, slots-inside}
 use Rattle.station.specs.declared.Station.{Station}
@@ -34,7 +35,7 @@ use Rattle.walk.specs.Offsets.{Source, readAt, bytesFrom, sourceOf, sour
 use Rattle.walk.specs.Orders.{Ask, offsetsOf, showRefusal}
 use Rattle.walk.specs.Steps.{bytesAt}
 use Rattle.walk.specs.Asks.{Reached, IsStanding, refusalIn}
-use Rattle.walk.proofs.Passes.{Ready, ready, room, genuine-reads}
+use Rattle.walk.proofs.Passes.{Ready, ready, kcb-reads, kcb-room}
 use Rattle.walk.specs.declared.showing.Part.{Part}
 use Rattle.walk.specs.declared.showing.ShownAnswer.{ShownAnswer}
 use Rattle.walk.specs.declared.showing.ShownAnswer.the-variants.{Registers, Apart, Refused}
@@ -71,18 +72,18 @@ one-run (vector ∷ general ∷ m ∷ ks) g f n l e h b = absurd (false≢true e
 one-run (vector ∷ vector ∷ m ∷ ks) g f n l e h b = absurd (false≢true e)
 one-run (vector ∷ upper ∷ m ∷ ks) g f n l e h b = absurd (false≢true e)
 
-module _ (r s : List ℕ) (e : length r ≡ 176) where
-  gather-registers : (h n : ℕ) → h + n ≤ 176 → gather (r ++ s) (run h n) ≡ take n (drop h r)
+module _ (base : ℕ) (r s : List ℕ) (e : length r ≡ base) where
+  gather-registers : (h n : ℕ) → h + n ≤ base → gather (r ++ s) (run h n) ≡ take n (drop h r)
   gather-registers h n l = gather-left (run h n) r s (all-run h n (λ k a b. omega arith)) ∙ gather-run n h r (omega arith)
 
-  gather-stack : (o n : ℕ) → o + n ≤ length s → gather (r ++ s) (run (176 + o) n) ≡ take n (drop o s)
+  gather-stack : (o n : ℕ) → o + n ≤ length s → gather (r ++ s) (run (base + o) n) ≡ take n (drop o s)
   gather-stack o n l =
       ap (λ (k : ℕ). gather (r ++ s) (run (k + o) n)) (sym e)
       ∙ ap (λ (ps : List ℕ). gather (r ++ s) ps) (sym (run-shift (length r) o n))
       ∙ gather-right (run o n) r s ∙ gather-run n o s l
 
 -- the part lies within the images, and holds the bytes of the place where they are one part
-part-lies : (u : Used) (o : Shape) (stack : ℕ) → Shaped o → (fits u (o .kinds) ≡ false → start u o + o .size ≤ stack) → Lies (partIn (sourceIn (place u o)) o) 176 stack
+part-lies : (u : Used) (o : Shape) (stack : ℕ) → Shaped o → (fits u (o .kinds) ≡ false → start eights u o + o .size ≤ stack) → Lies (partIn (sourceIn (place eights u o)) o) 176 stack
 unfolding place
 part-lies u o stack h m = by (fits u (o .kinds)) refl
   where
@@ -91,48 +92,49 @@ part-lies u o stack h m = by (fits u (o .kinds)) refl
     regs false e p = tt
     regs true e p = one-run (o .kinds) (u .general .0) (u .vector .0) (o .size) (h .led) p (h .room (fits-true u (o .kinds) e .some) .0) (slots-inside u o h e) .1
 
-    by : (b : Bool) → fits u (o .kinds) ≡ b → Lies (partIn (sourceIn (placeIf b u o)) o) 176 stack
+    by : (b : Bool) → fits u (o .kinds) ≡ b → Lies (partIn (sourceIn (placeIf eights b u o)) o) 176 stack
     by true e = regs (onePiece (o .kinds)) e refl
     by false e = m e
 
-part-bytes : (u : Used) (o : Shape) (a : Ask) → Shaped o → length (a .registers) ≡ 176 → (fits u (o .kinds) ≡ false → start u o + o .size ≤ length (a .stack))
-    → shownBytes (partIn (sourceIn (place u o)) o) (a .registers) (a .stack) ≡ cond (whole (sourceIn (place u o)) o) (gather (a .registers ++ a .stack) (bytesFrom (sourceIn (place u o)) (o .size))) []
+pub part-bytes : (base : ℕ) (slot : Slot) (u : Used) (o : Shape) (a : Ask) → Shaped o → Seated base o → length (a .registers) ≡ base → (fits u (o .kinds) ≡ false → start slot u o + o .size ≤ length (a .stack))
+    → shownBytes (partIn (sourceIn (place slot u o)) o) (a .registers) (a .stack) ≡ cond (whole (sourceIn (place slot u o)) o) (gather (a .registers ++ a .stack) (bytesFrom base (sourceIn (place slot u o)) (o .size))) []
 unfolding place
-part-bytes u o a h l m = by (fits u (o .kinds)) refl
+part-bytes base slot u o a h seat l m = by (fits u (o .kinds)) refl
   where
     regs : (b : Bool) → fits u (o .kinds) ≡ true → onePiece (o .kinds) ≡ b
         → shownBytes (cond b (Registers (record { offset = record { 0 = headOf (slots (registersFor (u .general .0) (u .vector .0) (o .kinds))) }; length = record { 0 = o .size } })) Apart) (a .registers) (a .stack)
         ≡ cond b (gather (a .registers ++ a .stack) (spread (slots (registersFor (u .general .0) (u .vector .0) (o .kinds))) (o .size))) []
     regs false e p = refl
     regs true e p =
+        let f = fits-true u (o .kinds) e in
         let z = one-run (o .kinds) (u .general .0) (u .vector .0) (o .size) (h .led) p (h .room (fits-true u (o .kinds) e .some) .0) (slots-inside u o h e) in
-        sym (ap (gather (a .registers ++ a .stack)) (z .0) ∙ gather-registers (a .registers) (a .stack) l _ _ (z .1))
+        sym (ap (gather (a .registers ++ a .stack)) (z .0) ∙ gather-registers base (a .registers) (a .stack) l (headOf (slots (registersFor (u .general .0) (u .vector .0) (o .kinds)))) (o .size) (omega (arith, z .1, seat (f .some))))
 
     by : (b : Bool) → fits u (o .kinds) ≡ b
-        → shownBytes (partIn (sourceIn (placeIf b u o)) o) (a .registers) (a .stack) ≡ cond (whole (sourceIn (placeIf b u o)) o) (gather (a .registers ++ a .stack) (bytesFrom (sourceIn (placeIf b u o)) (o .size))) []
+        → shownBytes (partIn (sourceIn (placeIf slot b u o)) o) (a .registers) (a .stack) ≡ cond (whole (sourceIn (placeIf slot b u o)) o) (gather (a .registers ++ a .stack) (bytesFrom base (sourceIn (placeIf slot b u o)) (o .size))) []
     by true e = regs (onePiece (o .kinds)) e refl
-    by false e = sym (gather-stack (a .registers) (a .stack) l (start u o) (o .size) (m e))
+    by false e = sym (gather-stack base (a .registers) (a .stack) l (start slot u o) (o .size) (m e))
 
 -- ---- where show accepts
 
 shown-lies : (s : Station) (seat : List ℕ) (w : Walk) (a : Ask) → Ready s seat w a → Lies (shownIn kcb (described s seat) w) 176 (length (a .stack))
-unfolding shownIn
+unfolding shownIn kcb
 shown-lies s seat w a z =
-    rw (genuine-reads kcb (described s seat) w (z .genuine) (z .shaped))
+    rw (kcb-reads (described s seat) w (z .genuine) (z .shaped))
     (part-lies (usedAt kcb (described s seat) (w .position)) (shapeAt kcb (described s seat) (w .position)) (length (a .stack)) (z .shaped)
-    (λ f. rw (z .stack) (room kcb (described s seat) (w .position) (z .before) f)))
+    (λ f. rw (z .stack) (kcb-room (described s seat) (w .position) (z .before) f)))
 
 -- C9: an accepted show answers the bytes that a step would copy, where they lie in one part, and else the empty part
 pub shows : (s : Station) (seat : List ℕ) (w : Walk) (a : Ask) → showRefusal kcb s seat w a ≡ 0
     → showPart kcb s seat w a
-    ≡ cond (whole (readAt (offsetsOf w) (shapeAt kcb (described s seat) (w .position))) (shapeAt kcb (described s seat) (w .position))) (bytesAt kcb (described s seat) w a) []
-unfolding showPart shownAnswer shownIn bytesAt
+    ≡ cond (whole (readAt eights (offsetsOf w) (shapeAt kcb (described s seat) (w .position))) (shapeAt kcb (described s seat) (w .position))) (bytesAt kcb (described s seat) w a) []
+unfolding showPart shownAnswer shownIn bytesAt kcb
 shows s seat w a e =
     let z = ready s seat w a e in
     let d = described s seat in
-    rw (eq-eqb (showRefusal kcb s seat w a) 0 e, genuine-reads kcb d w (z .genuine) (z .shaped))
-    (part-bytes (usedAt kcb d (w .position)) (shapeAt kcb d (w .position)) a (z .shaped) (z .passed .registers)
-    (λ f. rw (z .stack) (room kcb d (w .position) (z .before) f)))
+    rw (eq-eqb (showRefusal kcb s seat w a) 0 e, kcb-reads d w (z .genuine) (z .shaped))
+    (part-bytes 176 eights (usedAt kcb d (w .position)) (shapeAt kcb d (w .position)) a (z .shaped) (λ e. omega arith) (z .registers)
+    (λ f. rw (z .stack) (kcb-room d (w .position) (z .before) f)))
 
 -- a refused one answers the empty part
 pub shows-none : (P : Paper) (s : Station) (seat : List ℕ) (w : Walk) (a : Ask) → showRefusal P s seat w a ≢ 0 → showPart P s seat w a ≡ []
@@ -159,14 +161,17 @@ module _ (s : Station) (seat : List ℕ) (w : Walk) (a : Ask) (t : Standing) (h 
     pub reached-here : Reached w
     reached-here = ready s seat w a (stands .0) .reached
 
-    pub shown-there : (f : Fetch) (r : ShownAnswer) → sourceOf f ≡ readAt (offsetsOf w) (asked c) → r ≡ partIn (sourceOf f) (asked c)
+    pub small-here : Small (asked c)
+    small-here = rw (stands .1) (ready s seat w a (stands .0) .small)
+
+    pub shown-there : (f : Fetch) (r : ShownAnswer) → sourceOf f ≡ readAt eights (offsetsOf w) (asked c) → r ≡ partIn (sourceOf f) (asked c)
         → (r ≡ shownAnswer kcb s seat w a) × Lies r (length (a .registers)) (length (a .stack))
-    unfolding shownAnswer shownIn
+    unfolding shownAnswer shownIn kcb
     shown-there f r p q =
         let z = ready s seat w a (stands .0) in
-        let x : r ≡ shownIn kcb (described s seat) w = q ∙ ap (λ (o : Source). partIn o (asked c)) p ∙ ap (λ (i : Shape). partIn (readAt (offsetsOf w) i) i) (stands .1) in (
+        let x : r ≡ shownIn kcb (described s seat) w = q ∙ ap (λ (o : Source). partIn o (asked c)) p ∙ ap (λ (i : Shape). partIn (readAt eights (offsetsOf w) i) i) (stands .1) in (
           x ∙ (rw (eq-eqb (showRefusal kcb s seat w a) 0 (stands .0))),
-          rw (x, z .passed .registers) (shown-lies s seat w a z),
+          rw (x, z .registers) (shown-lies s seat w a z),
         )
 
 -- the bytes that an answer names are what show answers

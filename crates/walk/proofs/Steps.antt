@@ -3,13 +3,13 @@ use mathlib.Core.Path.{_≡_, refl, sym, ap, ap₂, _∙_}
 use mathlib.Core.Logic.{_≢_}
 use mathlib.Core.Bool.{Bool, true, false, cond, not, _||_}
 use mathlib.Core.List.{List, [], _∷_, _++_}
-use Prim.Native.Nat.{ℕ, suc, _+_}
+use Prim.Native.Nat.{ℕ, suc, _+_, _<_}
 use native.Mathlib.Omega.{arith}
 use lib.Dec.{eqb}
 use lib.ListN.{length}
 use borrow.Author.Tests.{eqb-true}
 use Rattle.addresses.specs.Addresses.{gather}
-use Rattle.form.specs.Order.{rule, first, numbered}
+use Rattle.form.specs.Order.{Rule, rule, first}
 use Rattle.form.specs.Reading.{refusalOf}
 use Rattle.form.specs.declared.Refusal.{Refusal}
 use Rattle.places.specs.declared.Shape.{Shape as Coded}
@@ -19,6 +19,7 @@ use Rattle.station.specs.declared.Station.{Station}
 use Rattle.station.specs.Paper.{Paper, kcb, refusalUnder, shapeAt}
 use Rattle.station.specs.Attachment.{wrongSeat, described}
 use Rattle.station.proofs.Attachments.{under-none, under-high}
+use Rattle.station.specs.Outcome.{Positive}
 use Rattle.station.proofs.Orders.{kept, left}
 use Rattle.walk.specs.declared.Walk.{Walk}
 use Rattle.walk.specs.declared.Fetch.{Fetch}
@@ -29,6 +30,7 @@ use Rattle.walk.specs.Orders.{Ask, asking, offsetsOf, withOffsets, wrong
 use Rattle.walk.specs.Steps.{bytesAt, movedOn, stepWalk, stepOut}
 use Rattle.walk.specs.Asks.{Reached, Within, IsStanding, refusalIn}
 use Rattle.walk.proofs.Passes.{Ready, ready}
+use Rattle.places.specs.Places.{eights}
 
 -- ---- step's number from show's
 
@@ -49,12 +51,15 @@ last false false false false true h = refused-same 10 h
 last false false false false false true = ((λ z. refl), λ z. absurd (z refl))
 last false false false false false false = ((λ z. refl), λ z. absurd (z refl))
 
-behind : (bs : List Bool) (k : ℕ) (c d e f g h : Bool)
-    → Late (first (numbered (suc k) bs ++ (rule 17 c ∷ rule 18 d ∷ rule 19 e ∷ rule 20 f ∷ rule 11 (g || h) ∷ [])))
-    (first (numbered (suc k) bs ++ (rule 17 c ∷ rule 18 d ∷ rule 19 e ∷ rule 20 f ∷ rule 11 g ∷ []))) h
-behind [] k c d e f g h = last c d e f g h
-behind (true ∷ bs) k c d e f g h = refused-same k h
-behind (false ∷ bs) k c d e f g h = behind bs (suc k) c d e f g h
+refused-some : (n : ℕ) (h : Bool) → 0 < n → Late n n h
+refused-some n h l = ((λ z. absurd (omega arith)), λ z. refl)
+
+behind : (qs : List Rule) → Positive qs → (c d e f g h : Bool)
+    → Late (first (qs ++ (rule 17 c ∷ rule 18 d ∷ rule 19 e ∷ rule 20 f ∷ rule 11 (g || h) ∷ [])))
+    (first (qs ++ (rule 17 c ∷ rule 18 d ∷ rule 19 e ∷ rule 20 f ∷ rule 11 g ∷ []))) h
+behind [] p c d e f g h = last c d e f g h
+behind (rule n true ∷ qs) p c d e f g h = refused-some n h (p .0)
+behind (rule n false ∷ qs) p c d e f g h = behind qs (p .1) c d e f g h
 
 all : (a b : Bool) (n m : ℕ) (h : Bool) → Late n m h → Late (cond a 11 (cond b 13 n)) (cond a 11 (cond b 13 m)) h
 all true b n m h l = refused-same 10 h
@@ -66,8 +71,8 @@ module _ (P : Paper) (s : Station) (seat : List ℕ) (w : Walk) (a : Ask) where
   unfolding stepRefusal showRefusal
   late =
       let d = described s seat in
-      all (wrongSeat s seat || wrongRegisters a) (not (s .attached)) _ _ (wrongOut P d w a)
-      (behind (P .conditions d) 0 (otherNumber s w) (astray P d w) (atEnd P d w) (otherType P d w a) (wrongStack P d a) (wrongOut P d w a))
+      all (wrongSeat s seat || wrongRegisters P a) (not (s .attached)) _ _ (wrongOut P d w a)
+      (behind (P .order d) (P .counted d) (otherNumber s w) (astray P d w) (atEnd P d w) (otherType P d w a) (wrongStack P d a) (wrongOut P d w a))
 
   -- what show refuses, step refuses with the same number
   pub step-early : showRefusal P s seat w a ≢ 0 → stepRefusal P s seat w a ≡ showRefusal P s seat w a
@@ -137,25 +142,25 @@ module _ (s : Station) (seat : List ℕ) (w : Walk) (regs stack out : List ℕ) 
     pub small-here : Small (asked c)
     small-here = rw (stands .1) (is-ready .small)
 
-    pub copies-here : (f : Fetch) (b : Bool) → sourceOf f ≡ readAt (offsetsOf w) (asked c) → b ≡ eqb (length out) (c .size .0) → not b ≡ false
+    pub copies-here : (f : Fetch) (b : Bool) → sourceOf f ≡ readAt eights (offsetsOf w) (asked c) → b ≡ eqb (length out) (c .size .0) → not b ≡ false
         → (length regs ≡ 176) × (length out ≡ c .size .0) × Within f (c .size .0) 176 (length stack)
     copies-here f b q p z =
-        (is-ready .passed .registers, eqb-true (length out) (c .size .0) (sym p ∙ not-one b z), rw size-is (is-ready .fetched f (q ∙ ap (readAt (offsetsOf w)) (stands .1))))
+        (is-ready .registers, eqb-true (length out) (c .size .0) (sym p ∙ not-one b z), rw size-is (is-ready .fetched f (q ∙ ap (readAt eights (offsetsOf w)) (stands .1))))
       where
         not-one : (b : Bool) → not b ≡ false → b ≡ true
         not-one true e = refl
         not-one false e = sym e
 
     pub leaves-moved : (r : Refusal) (b : Bool) (f : Fetch) (v : Walk) (last : List ℕ) → r ≡ refusalOf 0 → b ≡ eqb (length out) (c .size .0) → not b ≡ false
-        → sourceOf f ≡ readAt (offsetsOf w) (asked c) → last ≡ gather (regs ++ stack) (bytesFrom (sourceOf f) (c .size .0))
-        → v ≡ withOffsets (w .number) (suc (w .position)) (step (offsetsOf w) (asked c))
+        → sourceOf f ≡ readAt eights (offsetsOf w) (asked c) → last ≡ gather (regs ++ stack) (bytesFrom 176 (sourceOf f) (c .size .0))
+        → v ≡ withOffsets (w .number) (suc (w .position)) (step eights (offsetsOf w) (asked c))
         → (r ≡ refusalUnder kcb (described s seat) (stepRefusal kcb s seat w a)) × (v ≡ stepWalk kcb s seat w a) × (last ≡ stepOut kcb s seat w a)
-    unfolding wrongOut movedOn bytesAt
+    unfolding wrongOut movedOn bytesAt kcb
     leaves-moved r b f v last p q z g m n =
         let k : wrongOut kcb (described s seat) w a ≡ false = ap (λ (i : ℕ). not (eqb (length out) i)) (sym size-is) ∙ ap not (sym q) ∙ z in
         let x : stepRefusal kcb s seat w a ≡ 0 = step-late kcb s seat w a accepted ∙ (rw k) in
         let y = step-done kcb s seat w a x in (
           p ∙ sym (under-none kcb (described s seat) 0 refl) ∙ ap (refusalUnder kcb (described s seat)) (sym x),
-          n ∙ ap (λ (i : Shape). withOffsets (w .number) (suc (w .position)) (step (offsetsOf w) i)) (stands .1) ∙ sym (y .0),
-          m ∙ ap₂ (λ (o : Source) (i : ℕ). gather (regs ++ stack) (bytesFrom o i)) (g ∙ ap (readAt (offsetsOf w)) (stands .1)) size-is ∙ sym (y .1),
+          n ∙ ap (λ (i : Shape). withOffsets (w .number) (suc (w .position)) (step eights (offsetsOf w) i)) (stands .1) ∙ sym (y .0),
+          m ∙ ap₂ (λ (o : Source) (i : ℕ). gather (regs ++ stack) (bytesFrom 176 o i)) (g ∙ ap (readAt eights (offsetsOf w)) (stands .1)) size-is ∙ sym (y .1),
         )

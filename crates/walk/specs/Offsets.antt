@@ -10,7 +10,7 @@ use Rattle.places.specs.declared.Kind.{Kind}
 use Rattle.places.specs.declared.Kind.the-variants.{General as general, Vector as vector, Upper as upper}
 use Rattle.places.specs.declared.Used.{Used}
 use Rattle.places.specs.Shapes.{Shape, some?}
-use Rattle.places.specs.Places.{Place, inRegisters, onStack, generals, vectors}
+use Rattle.places.specs.Places.{Slot, wide, Place, inRegisters, onStack, generals, vectors}
 use Rattle.places.specs.Images.{slots, spread}
 use Rattle.walk.specs.declared.Fetch.{Fetch}
 use Rattle.walk.specs.declared.Fetch.the-variants.{One, Two, Stack}
@@ -39,31 +39,31 @@ reads g f (general ∷ ks) = g ∷ reads (g + 8) f ks
 reads g f (vector ∷ ks) = f ∷ reads g (f + 16) ks
 reads g f (upper ∷ ks) = (f - 8) ∷ reads g f ks
 
--- "the overflow offset is raised to 16 where the alignment exceeds 8"
-unfoldable pub raised : Offsets → Shape → ℕ
-raised o s = cond (ltb 8 (s .align)) (raise 16 (o .overflow)) (o .overflow)
+-- "the overflow offset is raised to 16 where the alignment exceeds 8": to the alignment where that exceeds the slot
+unfoldable pub raised : Slot → Offsets → Shape → ℕ
+raised slot o s = cond (ltb (wide slot) (s .align)) (raise (s .align) (o .overflow)) (o .overflow)
 
-abbrev pub readIf : Bool → Offsets → Shape → Source
-readIf true o s = fromRegisters (reads (o .general) (o .vector) (s .kinds))
-readIf false o s = fromStack (raised o s)
+abbrev pub readIf : Slot → Bool → Offsets → Shape → Source
+readIf slot true o s = fromRegisters (reads (o .general) (o .vector) (s .kinds))
+readIf slot false o s = fromStack (raised slot o s)
 
 -- "both offsets move on"; "its size is added, and the result is raised to 8"
-abbrev pub stepIf : Bool → Offsets → Shape → Offsets
-stepIf true o s =
+abbrev pub stepIf : Slot → Bool → Offsets → Shape → Offsets
+stepIf slot true o s =
     record { general = o .general + 8 * generals (s .kinds); vector = o .vector + 16 * vectors (s .kinds); overflow = o .overflow }
-stepIf false o s = record { general = o .general; vector = o .vector; overflow = raise 8 (raised o s + s .size) }
+stepIf slot false o s = record { general = o .general; vector = o .vector; overflow = raise (wide slot) (raised slot o s + s .size) }
 
 -- where the next argument is fetched, and the offsets after it
-unfoldable pub readAt : Offsets → Shape → Source
-readAt o s = readIf (holds o (s .kinds)) o s
+unfoldable pub readAt : Slot → Offsets → Shape → Source
+readAt slot o s = readIf slot (holds o (s .kinds)) o s
 
-unfoldable pub step : Offsets → Shape → Offsets
-step o s = stepIf (holds o (s .kinds)) o s
+unfoldable pub step : Slot → Offsets → Shape → Offsets
+step slot o s = stepIf slot (holds o (s .kinds)) o s
 
--- the addresses of its bytes, in the register image with the stack image after it
-abbrev pub bytesFrom : Source → ℕ → List ℕ
-bytesFrom (fromRegisters os) n = spread os n
-bytesFrom (fromStack o) n = run (176 + o) n
+-- the addresses of its bytes, in the register image, of base bytes, with the stack image after it
+abbrev pub bytesFrom : ℕ → Source → ℕ → List ℕ
+bytesFrom base (fromRegisters os) n = spread os n
+bytesFrom base (fromStack o) n = run (base + o) n
 
 -- how code holds a source: at most two eightbytes
 abbrev pub sourceOf : Fetch → Source
@@ -83,10 +83,10 @@ sourceIn (inRegisters rs) = fromRegisters (slots rs)
 sourceIn (onStack o) = fromStack o
 
 -- a walk over all of these arguments: where each is fetched, and the offsets after them
-abbrev pub visits : Offsets → List Shape → List Source
-visits o [] = []
-visits o (s ∷ ss) = readAt o s ∷ visits (step o s) ss
+abbrev pub visits : Slot → Offsets → List Shape → List Source
+visits slot o [] = []
+visits slot o (s ∷ ss) = readAt slot o s ∷ visits slot (step slot o s) ss
 
-abbrev pub steps : Offsets → List Shape → Offsets
-steps o [] = o
-steps o (s ∷ ss) = steps (step o s) ss
+abbrev pub steps : Slot → Offsets → List Shape → Offsets
+steps slot o [] = o
+steps slot o (s ∷ ss) = steps slot (step slot o s) ss

@@ -4,7 +4,7 @@ use mathlib.Core.List.{List, [], _∷_, _++_}
 use Prim.Native.Nat.{ℕ}
 use lib.Dec.{ltb, eqb}
 use lib.ListN.{length}
-use Rattle.form.specs.Order.{Rule, rule, first, numbered}
+use Rattle.form.specs.Order.{Rule, rule, first}
 use Rattle.station.specs.declared.Station.{Station}
 use Rattle.station.specs.Paper.{Paper, arguments, shapeAt, typeAt, usedAt, areaOf}
 use Rattle.station.specs.Attachment.{wrongSeat, described}
@@ -28,22 +28,22 @@ abbrev pub withOffsets : ℕ → ℕ → Offsets → Walk
 withOffsets n p o =
     record { number = n; position = p; general = record { 0 = o .general }; vector = record { 0 = o .vector }; overflow = record { 0 = o .overflow } }
 
--- 11: "The register image is 176 bytes"
-unfoldable pub wrongRegisters : Ask → Bool
-wrongRegisters a = not (eqb (length (a .registers)) 176)
-
 -- 17: "walk of another attachment number"
 unfoldable pub otherNumber : Station → Walk → Bool
 otherNumber s w = not (eqb (w .number) (s .number))
 
 module _ (P : Paper) where
+  -- 11: "The register image is 176 bytes"
+  unfoldable pub wrongRegisters : Ask → Bool
+  wrongRegisters a = not (eqb (length (a .registers)) (P .registers))
+
   -- the record that stands before argument p: "the offsets .. this description gives there"
   unfoldable pub standing : List ℕ → ℕ → ℕ → Walk
   standing d n p = withOffsets n p (walkAt (usedAt P d p))
 
   -- "1..10, 16"
   abbrev pub variadicOrder : List ℕ → List Rule
-  variadicOrder d = numbered 1 (P .conditions d) ++ (rule 16 (not (P .variadic d)) ∷ [])
+  variadicOrder d = P .order d ++ (rule 16 (not (P .variadic d)) ∷ [])
 
   -- "Open: 11, 13, 1..10, 16"
   abbrev pub openOrder : Station → List ℕ → List Rule
@@ -71,7 +71,7 @@ module _ (P : Paper) where
   -- "1..10, 17, 18, 19, 20, then" what comes late
   abbrev pub restOrder : Station → List ℕ → Walk → Ask → List Rule → List Rule
   restOrder s d w a late =
-      numbered 1 (P .conditions d)
+      P .order d
       ++ (rule 17 (otherNumber s w) ∷ rule 18 (astray d w) ∷ rule 19 (atEnd d w) ∷ rule 20 (otherType d w a) ∷ late)
 
   -- "11 for seat, station and register image, 13", and the rest

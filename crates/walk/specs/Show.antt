@@ -69,7 +69,7 @@ Lies (Refused r) regs stack = Unit {0}
 module _ (P : Paper) where
   -- where 3.5.7 fetches the argument that the walk stands before
   unfoldable pub shownIn : List ℕ → Walk → ShownAnswer
-  shownIn d w = partIn (readAt (offsetsOf w) (shapeAt P d (w .position))) (shapeAt P d (w .position))
+  shownIn d w = partIn (readAt (P .slot) (offsetsOf w) (shapeAt P d (w .position))) (shapeAt P d (w .position))
 
   unfoldable pub shownAnswer : Station → List ℕ → Walk → Ask → ShownAnswer
   shownAnswer s seat w a =

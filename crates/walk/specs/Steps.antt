@@ -28,11 +28,11 @@ module _ (P : Paper) where
 
   -- the argument's bytes: fetched where 3.5.7 says, from the register image with the stack image after it
   unfoldable pub bytesAt : List ℕ → Walk → Ask → List ℕ
-  bytesAt d w a = gather (a .registers ++ a .stack) (bytesFrom (readAt (offsetsOf w) (shapeAt P d (w .position))) (shapeAt P d (w .position) .size))
+  bytesAt d w a = gather (a .registers ++ a .stack) (bytesFrom (P .registers) (readAt (P .slot) (offsetsOf w) (shapeAt P d (w .position))) (shapeAt P d (w .position) .size))
 
   -- the record after the argument
   unfoldable pub movedOn : List ℕ → Walk → Walk
-  movedOn d w = withOffsets (w .number) (suc (w .position)) (step (offsetsOf w) (shapeAt P d (w .position)))
+  movedOn d w = withOffsets (w .number) (suc (w .position)) (step (P .slot) (offsetsOf w) (shapeAt P d (w .position)))
 
   unfoldable pub stepWalk : Station → List ℕ → Walk → Ask → Walk
   stepWalk s seat w a = leaves (stepRefusal P s seat w a) (movedOn (described s seat) w) w

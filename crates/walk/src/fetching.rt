@@ -14,7 +14,7 @@ ghost use Prim.Native.Nat.{suc, _+_, _*_, _^_, _≤_};
 ghost use lib.Dec.{ltb};
 ghost use Rattle.units.specs.Raise.{raise};
 ghost use Rattle.places.specs.Shapes.{some?};
-ghost use Rattle.places.specs.Places.{generalFor, vectorFor};
+ghost use Rattle.places.specs.Places.{eights, generalFor, vectorFor};
 ghost use Rattle.places.specs.Recorded.{listed, asked as askedOf, Small};
 ghost use Rattle.walk.specs.Offsets.{holds, readAt, step as stepOffsets, sourceOf, walkAt};
 ghost use Rattle.walk.specs.Orders.{offsetsOf, withOffsets};
@@ -133,8 +133,8 @@ fn read(walk: Walk, passed: Counts, kind: Kind) -> Bytes
 
 // Where the argument that the walk stands before is fetched.
 pub fn fetch_at(walk: Walk, shape: Shape) -> Fetch
-    requires { ⌜ Reached walk ⌝ }
-    ensures { λ r. ⌜ sourceOf r ≡ readAt (offsetsOf walk) (askedOf shape) ⌝ }
+    requires { ⌜ Reached walk × Small (askedOf shape) ⌝ }
+    ensures { λ r. ⌜ sourceOf r ≡ readAt eights (offsetsOf walk) (askedOf shape) ⌝ }
 {
     let kinds = shape.kinds;
     let offset = raise_overflow(walk.overflow, shape.align);
@@ -156,7 +156,7 @@ pub fn fetch_at(walk: Walk, shape: Shape) -> Fetch
 // The walk behind that argument: "both offsets move on", or "its size is added, and the result is raised to 8".
 pub fn moved_on(walk: Walk, shape: Shape) -> Walk
     requires { ⌜ Reached walk × Small (askedOf shape) ⌝ }
-    ensures { λ r. ⌜ r ≡ withOffsets (walk .number) (suc (walk .position)) (stepOffsets (offsetsOf walk) (askedOf shape)) ⌝ }
+    ensures { λ r. ⌜ r ≡ withOffsets (walk .number) (suc (walk .position)) (stepOffsets eights (offsetsOf walk) (askedOf shape)) ⌝ }
 {
     let number = walk.number;
     let position = walk.position + 1;

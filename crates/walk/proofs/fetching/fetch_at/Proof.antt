@@ -14,7 +14,7 @@ fits-requires : tie.Need-fits-requires
 fits-requires c κs = search needs
 
 returns : tie.Need-returns
-returns c = read-stack (c .before .before .before .args .walk) (c .before .before .before .args .shape) (c .before .before .raise-overflow .result .0) (sym (c .before .fits2 .ensures) ∙ not-true _ (c .if1 .taken)) (c .before .before .raise-overflow .ensures)
+returns c = read-stack (c .before .before .before .args .walk) (c .before .before .before .args .shape) (c .before .before .raise-overflow .result .0) (sym (c .before .fits2 .ensures) ∙ not-true _ (c .if1 .taken)) (c .before .before .before .pre .1 .aligned) (c .before .before .raise-overflow .ensures)
 
 registers-for-requires : tie.Need-registers-for-requires
 registers-for-requires c κs = search needs
@@ -38,7 +38,7 @@ registers-for-requires-2 : tie.Need-registers-for-requires-2
 registers-for-requires-2 c κs = search needs
 
 read-requires-3 : tie.Need-read-requires-3
-read-requires-3 c κs = let z = single-few (c .before .before .before .kinds2 .given .0 .0) (c .registers-for2 .result .general .0) (c .registers-for2 .result .vector .0) (c .registers-for2 .ensures .general) (c .registers-for2 .ensures .vector) in (c .before .before .before .before .before .before .before .before .before .pre, z .0, z .1)
+read-requires-3 c κs = let z = single-few (c .before .before .before .kinds2 .given .0 .0) (c .registers-for2 .result .general .0) (c .registers-for2 .result .vector .0) (c .registers-for2 .ensures .general) (c .registers-for2 .ensures .vector) in (c .before .before .before .before .before .before .before .before .before .pre .0, z .0, z .1)
 
 returns-2 : tie.Need-returns-2
 returns-2 c = absurd (none-fits (c .before .before .before .before .before .before .args .walk) (c .before .before .before .before .before .before .args .shape .kinds) (c .before .before .before .before .fits2 .result) (c .enum-told .given .1) (c .before .before .before .before .fits2 .ensures) (not-false _ (c .before .before .before .if1 .left)))

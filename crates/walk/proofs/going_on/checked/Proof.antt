@@ -27,12 +27,14 @@ refusal-of-requires-2 : tie.Need-refusal-of-requires-2
 refusal-of-requires-2 c κs = search needs
 
 returns-2 : tie.Need-returns-2
+unfolding kcb
 returns-2 c = refused-as kcb _ _ 11 (c .refusal-of2 .result) (c .refusal-of2 .ensures) (omega arith) (show-registers kcb (c .before .before .before .before .before .before .before .args .station) (now (c .before .before .before .before .before .before .before .args .seat)) (c .before .before .before .before .before .before .before .args .walk) (asking (now (c .before .before .before .before .before .before .before .args .registers)) (now (c .before .before .before .before .before .before .before .args .stack)) (c .before .before .before .before .before .before .before .args .asked) []) (sym (c .before .before .before .wrong-seat .ensures) ∙ c .before .before .if1 .left) (c .before .if2 .taken))
 
 refusal-of-requires-3 : tie.Need-refusal-of-requires-3
 refusal-of-requires-3 c κs = search needs
 
 returns-3 : tie.Need-returns-3
+unfolding kcb
 returns-3 c = refused-as kcb _ _ 13 (c .refusal-of3 .result) (c .refusal-of3 .ensures) (omega arith) (show-idle kcb (c .before .before .before .before .before .before .before .before .before .args .station) (now (c .before .before .before .before .before .before .before .before .before .args .seat)) (c .before .before .before .before .before .before .before .before .before .args .walk) (asking (now (c .before .before .before .before .before .before .before .before .before .args .registers)) (now (c .before .before .before .before .before .before .before .before .before .args .stack)) (c .before .before .before .before .before .before .before .before .before .args .asked) []) (sym (c .before .before .before .before .before .wrong-seat .ensures) ∙ c .before .before .before .before .if1 .left) (c .before .before .before .if2 .left) (not-true _ (c .before .if3 .taken)))
 
 slice-aggregate-stands : tie.Need-slice-aggregate-stands
@@ -42,6 +44,7 @@ stands-requires : tie.Need-stands-requires
 stands-requires c κs = search needs
 
 returns-4 : tie.Need-returns-4
+unfolding kcb
 returns-4 c = stands-there kcb (c .before .before .before .before .before .before .before .before .before .before .before .args .station) (now (c .before .before .before .before .before .before .before .before .before .before .before .args .seat)) (c .before .before .before .before .before .before .before .before .before .before .before .args .walk) (now (c .before .before .before .before .before .before .before .before .before .before .before .args .registers)) (now (c .before .before .before .before .before .before .before .before .before .before .before .args .stack)) (c .before .before .before .before .before .before .before .before .before .before .before .args .asked) (c .stands .result) (sym (c .before .before .before .before .before .before .before .wrong-seat .ensures) ∙ c .before .before .before .before .before .before .if1 .left) (c .before .before .before .before .before .if2 .left) (not-false _ (c .before .before .before .if3 .left)) (c .stands .ensures)
 
 pub checked-spec : {M : Type 1} → statement M

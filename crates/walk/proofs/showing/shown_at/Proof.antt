@@ -3,7 +3,7 @@
 use mathlib.Core.List.{[]}
 use borrow.Author.Needs.{needs}
 use denote.Ref.{now}
-use Rattle.walk.proofs.Shown.{shown-refused, reached-here, shown-there}
+use Rattle.walk.proofs.Shown.{shown-refused, reached-here, small-here, shown-there}
 use Rattle.walk.specs.Orders.{asking}
 use Rattle.walk.proofs.showing.shown_at.Statement.{statement}
 use Rattle.walk.proofs.showing.shown_at.Tie as tie
@@ -24,7 +24,7 @@ returns : tie.Need-returns
 returns c = (shown-refused (c .before .before .before .before .before .before .before .args .station) (now (c .before .before .before .before .before .before .before .args .seat)) (c .before .before .before .before .before .before .before .args .walk) (asking (now (c .before .before .before .before .before .before .before .args .registers)) (now (c .before .before .before .before .before .before .before .args .stack)) (c .before .before .before .before .before .before .before .args .asked) []) (c .before .before .before .checked .result) (c .before .before .before .checked .ensures) (c .before .enum-told .given .0 .0) (c .refusal-in .result) (c .before .enum-told .given .1) (c .refusal-in .ensures), tt)
 
 fetch-at-requires : tie.Need-fetch-at-requires
-fetch-at-requires c κs = reached-here (c .before .before .before .before .before .before .before .args .station) (now (c .before .before .before .before .before .before .before .args .seat)) (c .before .before .before .before .before .before .before .args .walk) (asking (now (c .before .before .before .before .before .before .before .args .registers)) (now (c .before .before .before .before .before .before .before .args .stack)) (c .before .before .before .before .before .before .before .args .asked) []) (c .before .before .before .checked .result) (c .before .before .before .checked .ensures) (c .before .standing .given .0 .0) (c .before .standing .given .1)
+fetch-at-requires c κs = (reached-here (c .before .before .before .before .before .before .before .args .station) (now (c .before .before .before .before .before .before .before .args .seat)) (c .before .before .before .before .before .before .before .args .walk) (asking (now (c .before .before .before .before .before .before .before .args .registers)) (now (c .before .before .before .before .before .before .before .args .stack)) (c .before .before .before .before .before .before .before .args .asked) []) (c .before .before .before .checked .result) (c .before .before .before .checked .ensures) (c .before .standing .given .0 .0) (c .before .standing .given .1), small-here (c .before .before .before .before .before .before .before .args .station) (now (c .before .before .before .before .before .before .before .args .seat)) (c .before .before .before .before .before .before .before .args .walk) (asking (now (c .before .before .before .before .before .before .before .args .registers)) (now (c .before .before .before .before .before .before .before .args .stack)) (c .before .before .before .before .before .before .before .args .asked) []) (c .before .before .before .checked .result) (c .before .before .before .checked .ensures) (c .before .standing .given .0 .0) (c .before .standing .given .1))
 
 part-of-requires : tie.Need-part-of-requires
 part-of-requires c κs = search needs

@@ -31,7 +31,7 @@ returns-2 : tie.Need-returns-2
 returns-2 c = leaves-out (c .before .before .before .before .before .before .before .before .before .before .before .before .args .station) (now (c .before .before .before .before .before .before .before .before .before .before .before .before .args .seat)) (c .before .before .before .before .before .before .before .before .before .before .before .before .args .walk) (now (c .before .before .before .before .before .before .before .before .before .before .before .before .args .registers)) (now (c .before .before .before .before .before .before .before .before .before .before .before .before .args .stack)) (now (c .before .before .before .before .before .before .before .before .before .before .before .before .args .out)) (c .before .before .before .before .before .before .before .before .before .before .before .before .args .asked) (c .before .before .before .before .before .before .before .checked .result) (c .before .before .before .before .before .before .before .checked .ensures) (c .before .before .before .before .before .standing .given .0 .0) (c .before .before .before .before .before .standing .given .1) (c .refusal-of .result) (c .before .before .same .result) (c .refusal-of .ensures) (c .before .before .same .ensures) (c .before .if1 .taken)
 
 fetch-at-requires : tie.Need-fetch-at-requires
-fetch-at-requires c κs = reached-here (c .before .before .before .before .before .before .before .before .before .before .before .args .station) (now (c .before .before .before .before .before .before .before .before .before .before .before .args .seat)) (c .before .before .before .before .before .before .before .before .before .before .before .args .walk) (now (c .before .before .before .before .before .before .before .before .before .before .before .args .registers)) (now (c .before .before .before .before .before .before .before .before .before .before .before .args .stack)) (now (c .before .before .before .before .before .before .before .before .before .before .before .args .out)) (c .before .before .before .before .before .before .before .before .before .before .before .args .asked) (c .before .before .before .before .before .before .checked .result) (c .before .before .before .before .before .before .checked .ensures) (c .before .before .before .before .standing .given .0 .0) (c .before .before .before .before .standing .given .1)
+fetch-at-requires c κs = (reached-here (c .before .before .before .before .before .before .before .before .before .before .before .args .station) (now (c .before .before .before .before .before .before .before .before .before .before .before .args .seat)) (c .before .before .before .before .before .before .before .before .before .before .before .args .walk) (now (c .before .before .before .before .before .before .before .before .before .before .before .args .registers)) (now (c .before .before .before .before .before .before .before .before .before .before .before .args .stack)) (now (c .before .before .before .before .before .before .before .before .before .before .before .args .out)) (c .before .before .before .before .before .before .before .before .before .before .before .args .asked) (c .before .before .before .before .before .before .checked .result) (c .before .before .before .before .before .before .checked .ensures) (c .before .before .before .before .standing .given .0 .0) (c .before .before .before .before .standing .given .1), small-here (c .before .before .before .before .before .before .before .before .before .before .before .args .station) (now (c .before .before .before .before .before .before .before .before .before .before .before .args .seat)) (c .before .before .before .before .before .before .before .before .before .before .before .args .walk) (now (c .before .before .before .before .before .before .before .before .before .before .before .args .registers)) (now (c .before .before .before .before .before .before .before .before .before .before .before .args .stack)) (now (c .before .before .before .before .before .before .before .before .before .before .before .args .out)) (c .before .before .before .before .before .before .before .before .before .before .before .args .asked) (c .before .before .before .before .before .before .checked .result) (c .before .before .before .before .before .before .checked .ensures) (c .before .before .before .before .standing .given .0 .0) (c .before .before .before .before .standing .given .1))
 
 copy-out-requires : tie.Need-copy-out-requires
 copy-out-requires c κs = copies-here (c .before .before .before .before .before .before .before .before .before .before .before .before .before .args .station) (now (c .before .before .before .before .before .before .before .before .before .before .before .before .before .args .seat)) (c .before .before .before .before .before .before .before .before .before .before .before .before .before .args .walk) (now (c .before .before .before .before .before .before .before .before .before .before .before .before .before .args .registers)) (now (c .before .before .before .before .before .before .before .before .before .before .before .before .before .args .stack)) (now (c .before .before .before .before .before .before .before .before .before .before .before .before .before .args .out)) (c .before .before .before .before .before .before .before .before .before .before .before .before .before .args .asked) (c .before .before .before .before .before .before .before .before .checked .result) (c .before .before .before .before .before .before .before .before .checked .ensures) (c .before .before .before .before .before .before .standing .given .0 .0) (c .before .before .before .before .before .before .standing .given .1) (c .before .fetch-at .result) (c .before .before .before .same .result) (c .before .fetch-at .ensures) (c .before .before .before .same .ensures) (c .before .before .if1 .left)
