@@ -68,15 +68,15 @@ module _ (d img jmg : List ℕ) (same : (k : ℕ) → (Unused d k → ⊥) → g
           ap number (gather-same rdi img jmg (all-run {P = λ p. getD img p 0 ≡ getD jmg p 0} 0 8 (λ k l m. same k (λ u. omega (arith, u .past e)))))
 
 module _ (d : List ℕ) (accepted : verdict d ≡ 0) where
-  once : NoDup (addressesOf d)
+  pub once : NoDup (addressesOf d)
   unfolding addressesOf
   once = addresses-packed 176 eights (shapes d) (usedFirst d) (all-shaped d (right d accepted)) (all-seated (shapes d)) .once
 
-  inside : Below (176 + areaOf d) (addressesOf d)
+  pub inside : Below (176 + areaOf d) (addressesOf d)
   unfolding addressesOf areaOf
   inside = addresses-below 176 eights (shapes d) (usedFirst d) (all-shaped d (right d accepted)) (all-seated (shapes d))
 
-  past : hidden d ≡ true → All (λ k. 8 ≤ k) (addressesOf d)
+  pub past : hidden d ≡ true → All (λ k. 8 ≤ k) (addressesOf d)
   unfolding addressesOf
   past e = addresses-past eights (shapes d) (usedFirst d) (all-shaped d (right d accepted)) (rw e (omega arith))
 

@@ -1,5 +1,7 @@
 pub mod Answers
 pub mod Images
+pub mod Frames
+pub mod Amd64
 pub mod Theorems
 pub mod Blanks
 pub mod Turns

@@ -1,14 +1,15 @@
 -- The two images of a call, as one list: document 01, "Images and moving bytes", "The register image is 176 bytes .. The stack image is
 -- the rounded area". Of any bytes. Assumes nothing: these are definitions.
 use mathlib.Core.Bool.{Bool, cond}
-use mathlib.Core.List.{List, _++_}
+use mathlib.Core.List.{List, [], _++_}
 use Prim.Native.Nat.{ℕ, _+_}
 use lib.ListN.{replicate}
 use Rattle.addresses.specs.Addresses.{gather, scatter}
 use Rattle.places.specs.Images.{addresses, total}
 use Rattle.layout.specs.Arguments.{shapesFrom, shapes, hidden, usedFirst, areaOf}
-use Rattle.images.specs.Words.{littleEndian, addressIn}
+use Rattle.images.specs.Words.{littleEndian, rdi, addressIn}
 use Rattle.places.specs.Places.{eights}
+use Rattle.moving.specs.Frames.{Frame}
 
 -- the address of each value byte, "argument after argument"
 unfoldable pub addressesOf : List ℕ → List ℕ
@@ -37,3 +38,7 @@ gathered d img = gather img (addressesOf d)
 -- "rdi's hidden address", where it is used, and else 0
 unfoldable pub hiddenIn : List ℕ → List ℕ → ℕ
 hiddenIn d img = cond (hidden d) (addressIn img) 0
+
+-- what the images of a description are: the 176 bytes of the registers and the stack area, the hidden address in rdi
+unfoldable pub frameOf : List ℕ → Frame
+frameOf d = record { places = addressesOf d; address = cond (hidden d) rdi []; long = 176 + areaOf d }

@@ -1,5 +1,6 @@
 pub mod Answers
 pub mod Statements
 pub mod Images
+pub mod Frames
 pub mod Asks
 pub mod Orders
