@@ -17,7 +17,6 @@ use Rattle.places.proofs.Prefix.{after-at}
 use Rattle.places.proofs.Offsets.{after-slotted}
 use Rattle.station.specs.declared.Station.{Station}
 use Rattle.station.specs.Paper.{Paper, verdictOf, arguments, shapeAt, typeAt, usedAt, areaOf}
-use Rattle.station.proofs.Orders.{first-append}
 use Rattle.walk.specs.declared.Walk.{Walk}
 use Rattle.walk.specs.Offsets.{Offsets, Source, readAt, bytesFrom, walkAt, sourceIn}
 use Rattle.walk.specs.Orders.{Ask, offsetsOf, withOffsets, wrongRegisters, otherNumber, standing, openRefusal, astray, atEnd, otherType, wrongStack, wrongOut, stepRefusal, showRefusal}
@@ -28,6 +27,7 @@ use Rattle.histories.specs.Lawful.{Lawful, Holds}
 use Rattle.histories.specs.Values.{cut, imagesFor}
 use Rattle.histories.proofs.Attachments.{described-held, right-held}
 use Rattle.histories.proofs.Images.{cut-gathered, length-images, gather-images}
+use Rattle.form.proofs.Order.{first-behind}
 
 pub seated-at : (base : ℕ) (o : Shape) (ss : List Shape) (p : ℕ) → All (Seated base) ss → p < length ss → Seated base (getD ss p o)
 seated-at base o [] p h l = absurd (omega arith)
@@ -55,7 +55,7 @@ module _ (P : Paper) where
   unfolding openRefusal verdictOf
   open-held L s seat d h =
       rw (right-held P L s seat d h, described-held P s seat d h, h .attached)
-      (first-append (P .order d) (rule 16 (not (P .variadic d)) ∷ []) (P .counted d) (h .accepted) ∙ by (P .variadic d))
+      (first-behind (P .order d) (rule 16 (not (P .variadic d)) ∷ []) (P .counted d) (h .accepted) ∙ by (P .variadic d))
     where
       by : (b : Bool) → first (rule 16 (not b) ∷ []) ≡ cond b 0 16
       by true = refl
@@ -79,7 +79,7 @@ module _ (P : Paper) where
   step-held L s seat d w a h =
       rw (right-held P L s seat d h, described-held P s seat d h, h .attached)
       (ap (λ (n : ℕ). cond (wrongRegisters P a) 11 n)
-      (first-append (P .order d) (lateOrder s d w a (rule 11 (wrongStack P d a || wrongOut P d w a) ∷ [])) (P .counted d) (h .accepted)))
+      (first-behind (P .order d) (lateOrder s d w a (rule 11 (wrongStack P d a || wrongOut P d w a) ∷ [])) (P .counted d) (h .accepted)))
 
   pub show-held : Lawful P → (s : Station) (seat d : List ℕ) (w : Walk) (a : Ask) → Holds P s seat d
       → showRefusal P s seat w a ≡ first (heldOrder s d w a (rule 11 (wrongStack P d a) ∷ []))
@@ -87,7 +87,7 @@ module _ (P : Paper) where
   show-held L s seat d w a h =
       rw (right-held P L s seat d h, described-held P s seat d h, h .attached)
       (ap (λ (n : ℕ). cond (wrongRegisters P a) 11 n)
-      (first-append (P .order d) (lateOrder s d w a (rule 11 (wrongStack P d a) ∷ [])) (P .counted d) (h .accepted)))
+      (first-behind (P .order d) (lateOrder s d w a (rule 11 (wrongStack P d a) ∷ [])) (P .counted d) (h .accepted)))
 
   -- ---- where a walk stands
 

@@ -2,53 +2,53 @@
 use mathlib.Core.Path.{_≡_, refl, sym, ap, _∙_}
 use mathlib.Core.Bool.{Bool, true, false, cond}
 use mathlib.Core.List.{List, [], _∷_, _++_}
-use mathlib.Core.Logic.{_↔_}
+use mathlib.Core.Logic.{_↔_, _≢_}
 use Prim.Native.Nat.{ℕ, _+_, _≤_, _<_}
 use native.Mathlib.Omega.{arith}
 use borrow.Author.Tests.{eq-eqb, ne-eqb, eqb-true, lt-ltb, le-ltb, ltb-false}
 use lib.Dec.{eqb}
-use lib.ListN.{getD, replicate}
+use lib.ListN.{replicate}
 use Rattle.description.specs.Description.{argumentsIn}
-use Rattle.form.specs.Order.{FirstAt}
+use Rattle.form.specs.Order.{rule, NoneHolds, Answers}
 use Rattle.form.specs.Reading.{refusalOf}
 use Rattle.types.specs.Wrong.{refusalFor}
 use Rattle.types.proofs.Wrong.{no-type}
 use Rattle.form.specs.declared.Refusal.{Refusal}
-use Rattle.form.proofs.Order.{first-exactly, none-exactly, first-before, first-behind, none-before}
+use Rattle.form.proofs.Order.{refuses-exactly, accepts-exactly, first-before, first-behind, first-both, positive-append}
 use Rattle.places.specs.declared.Used.{Used}
 use Rattle.places.specs.Places.{eights, fresh, next}
 use Rattle.layout.specs.Arguments.{shapeAt, usedFirst, usedAt, hidden}
-use Rattle.layout.specs.Verdict.{verdictConditions, verdict}
+use Rattle.layout.specs.Verdict.{checkOrder, verdict}
 use Rattle.layout.specs.Layout.{layoutOf, layoutAnswer, tableAfter}
 use Rattle.layout.specs.Asks.{AskArgument}
 use Rattle.layout.specs.Placements.{placementAt, stepAt}
-use Rattle.layout.specs.Lists.{shortList, listRefusal, listAnswer, listCount, listUsed, begunOf, openedOf}
+use Rattle.layout.specs.Lists.{shortList, listRefusal, listAnswer, listCount, listUsed, begunOf, openedOf, layoutOrder}
 use Rattle.layout.specs.declared.Layout.{Layout}
 use Rattle.layout.specs.declared.lent_list.Begun.{Begun}
 use Rattle.layout.specs.declared.lent_list.Opened.{Opened}
 use Rattle.layout.specs.declared.LayoutAnswer.the-variants.{Laid, Refused}
 use Rattle.layout.proofs.Arguments.{used-none, used-next}
-use Rattle.layout.proofs.Verdict.{accepted-uses}
+use Rattle.layout.proofs.Verdict.{accepted-uses, check-positive}
 use Rattle.layout.proofs.Layouts.{asks-at, laid-accepted, refused-verdict, refused-nonzero}
 
--- the answer is n exactly where condition n holds and no lower one does: here n is 1 + i, and 11 comes last
-pub list-exactly : (d : List ℕ) (room i : ℕ) → (listRefusal d room ≡ 1 + i) ↔ FirstAt (verdictConditions d ++ shortList d room ∷ []) i
+-- the answer is n exactly where condition n holds and none before it; 11 comes last
+pub list-exactly : (d : List ℕ) (room n : ℕ) → n ≢ 0 → (listRefusal d room ≡ n) ↔ Answers (layoutOrder d room) n
 unfolding listRefusal
-list-exactly d room i = first-exactly (verdictConditions d ++ shortList d room ∷ []) 1 i (omega arith)
+list-exactly d room n h = refuses-exactly (layoutOrder d room) n h
 
-pub list-none-exactly : (d : List ℕ) (room : ℕ) → (listRefusal d room ≡ 0) ↔ ((j : ℕ) → getD (verdictConditions d ++ shortList d room ∷ []) j false ≡ false)
+pub list-none-exactly : (d : List ℕ) (room : ℕ) → (listRefusal d room ≡ 0) ↔ NoneHolds (layoutOrder d room)
 unfolding listRefusal
-list-none-exactly d room = none-exactly (verdictConditions d ++ shortList d room ∷ []) 1 (omega arith)
+list-none-exactly d room = accepts-exactly (layoutOrder d room) (positive-append (checkOrder d) (rule 11 (shortList d room) ∷ []) (check-positive d) (omega arith, tt))
 
 -- which number, from what the code looks at
 module _ (d : List ℕ) (room : ℕ) where
   list-verdict : (verdict d ≡ 0 → ⊥) → listRefusal d room ≡ verdict d
   unfolding listRefusal verdict
-  list-verdict h = first-before (verdictConditions d) (shortList d room ∷ []) 1 h
+  list-verdict h = first-before (checkOrder d) (rule 11 (shortList d room) ∷ []) h
 
   behind : verdict d ≡ 0 → (b : Bool) → shortList d room ≡ b → listRefusal d room ≡ cond b 11 0
   unfolding listRefusal verdict
-  behind v b e = first-behind (verdictConditions d) (shortList d room ∷ []) 1 (omega arith) v ∙ rw e
+  behind v b e = first-behind (checkOrder d) (rule 11 (shortList d room) ∷ []) (check-positive d) v ∙ rw e
 
   eleven : verdict d ≡ 0 → room < argumentsIn d → listRefusal d room ≡ 11
   unfolding shortList
@@ -60,11 +60,11 @@ module _ (d : List ℕ) (room : ℕ) where
 
   pub list-accepted : listRefusal d room ≡ 0 → verdict d ≡ 0
   unfolding listRefusal verdict
-  list-accepted h = none-before (verdictConditions d) (shortList d room ∷ []) 1 (omega arith) h
+  list-accepted h = first-both (checkOrder d) (rule 11 (shortList d room) ∷ []) (check-positive d) h .0
 
   pub list-room : listRefusal d room ≡ 0 → argumentsIn d ≤ room
   unfolding shortList
-  list-room h = ltb-false room (argumentsIn d) (list-none-exactly d room .0 h 10)
+  list-room h = ltb-false room (argumentsIn d) (list-none-exactly d room .0 h .1 .1 .1 .1 .1 .1 .1 .1 .1 .1 .0)
 
   -- what `begin` answers
   begun-accepted : listRefusal d room ≡ 0 → (r : Begun) → r .answer ≡ Laid (layoutOf d) → r .count ≡ argumentsIn d → r .used ≡ usedFirst d → r ≡ begunOf d room

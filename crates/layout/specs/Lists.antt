@@ -6,13 +6,13 @@ use Prim.Native.Nat.{ℕ}
 use lib.Dec.{ltb, eqb}
 use lib.ListN.{replicate}
 use Rattle.description.specs.Description.{argumentsIn}
-use Rattle.form.specs.Order.{first, numbered}
+use Rattle.form.specs.Order.{Rule, rule, first}
 use Rattle.types.specs.Wrong.{refusalFor}
 unfoldable pub use Rattle.types.specs.Table.{filled}
 use Rattle.places.specs.declared.Used.{Used}
 use Rattle.places.specs.Places.{fresh}
 use Rattle.layout.specs.Arguments.{usedAt}
-use Rattle.layout.specs.Verdict.{verdictConditions}
+use Rattle.layout.specs.Verdict.{checkOrder}
 use Rattle.layout.specs.Layout.{layoutOf, tableAfter}
 use Rattle.layout.specs.declared.LayoutAnswer.{LayoutAnswer}
 use Rattle.layout.specs.declared.LayoutAnswer.the-variants.{Laid, Refused}
@@ -24,8 +24,11 @@ unfoldable pub shortList : List ℕ → ℕ → Bool
 shortList d room = ltb room (argumentsIn d)
 
 -- "Layout: 1..10, 11"
+abbrev pub layoutOrder : List ℕ → ℕ → List Rule
+layoutOrder d room = checkOrder d ++ rule 11 (shortList d room) ∷ []
+
 unfoldable pub listRefusal : List ℕ → ℕ → ℕ
-listRefusal d room = first (numbered 1 (verdictConditions d ++ shortList d room ∷ []))
+listRefusal d room = first (layoutOrder d room)
 
 unfoldable pub listAnswer : List ℕ → ℕ → LayoutAnswer
 listAnswer d room = cond (eqb (listRefusal d room) 0) (Laid (layoutOf d)) (Refused (refusalFor d (listRefusal d room)))

@@ -2,29 +2,29 @@
 use mathlib.Core.Path.{_≡_, refl, sym, _∙_}
 use mathlib.Core.Bool.{Bool, true, false, cond, and-eq-true-iff, true≢false}
 use mathlib.Core.List.{List, [], _∷_, _++_}
-use mathlib.Core.Logic.{_↔_}
+use mathlib.Core.Logic.{_↔_, _≢_}
 use Prim.Native.Nat.{ℕ, zero, suc, _+_, _≤_, _<_}
 use native.Mathlib.Omega.{arith}
 use borrow.Author.Tests.{eq-eqb, eqb-true, lt-ltb, le-ltb, ltb-true, ltb-false, not-false}
 use lib.Dec.{eqb, ltb}
 use lib.ListN.{length, getD}
 use Rattle.description.specs.Description.{argumentsIn, kindAt, aAt, argumentAt}
-use Rattle.form.specs.Order.{first, numbered, FirstAt}
-use Rattle.form.proofs.Order.{first-exactly, first-before, first-behind, none-before, none-holds}
+use Rattle.form.specs.Order.{rule, Answers, Without}
+use Rattle.form.proofs.Order.{refuses-exactly, accepts-exactly, first-before, first-behind, first-both, none-till, held}
 use Rattle.form.proofs.Search.{first-holds, first-least}
 use Rattle.form.proofs.Form.{or-none}
 use Rattle.layout.specs.Layout.{valuesOf, layoutOf}
-use Rattle.layout.specs.Verdict.{verdictConditions, verdict}
-use Rattle.moving.specs.Orders.{wrongLength, isBool, brokenByte, brokenBool, firstBroken, wrongBool, BrokenAt, gatherConditions, placeConditions, gatherRefusal, placeRefusal}
+use Rattle.layout.specs.Verdict.{checkOrder, verdict}
+use Rattle.moving.specs.Orders.{wrongLength, isBool, brokenByte, brokenBool, firstBroken, wrongBool, BrokenAt, gatherOrder, placeOrder, gatherRefusal, placeRefusal}
 use Rattle.moving.specs.Asks.{Lent}
 use Rattle.moving.specs.Images.{valueStart}
+use Rattle.layout.proofs.Verdict.{check-positive}
 
--- where none of the first i conditions holds, none of an order within them does
-pub none-left : (bs cs : List Bool) (n i : ℕ) → length bs ≤ i → ((j : ℕ) → j < i → getD (bs ++ cs) j false ≡ false) → first (numbered n bs) ≡ 0
-none-left [] cs n i l f = refl
-none-left (true ∷ bs) cs n i l f = absurd (true≢false (f 0 (omega arith)))
-none-left (false ∷ bs) cs n zero l f = absurd (omega arith)
-none-left (false ∷ bs) cs n (suc i) l f = none-left bs cs (suc n) i (omega arith) (λ j h. f (suc j) (omega arith))
+-- 1 to 10 are no other number
+pub check-without : (d : List ℕ) (n : ℕ) → 10 < n → Without n (checkOrder d)
+check-without d n l =
+    ((λ z. omega arith), ((λ z. omega arith), ((λ z. omega arith), ((λ z. omega arith), ((λ z. omega arith),
+    ((λ z. omega arith), ((λ z. omega arith), ((λ z. omega arith), ((λ z. omega arith), ((λ z. omega arith), tt))))))))))
 
 module _ (d : List ℕ) where
   -- ---- the lengths
@@ -50,11 +50,11 @@ module _ (d : List ℕ) where
   module _ (v r s : ℕ) where
     pub gather-verdict : (verdict d ≡ 0 → ⊥) → gatherRefusal d v r s ≡ verdict d
     unfolding gatherRefusal verdict
-    gather-verdict h = first-before (verdictConditions d) (wrongLength (layoutOf d) v r s ∷ []) 1 h
+    gather-verdict h = first-before (checkOrder d) (rule 11 (wrongLength (layoutOf d) v r s) ∷ []) h
 
     gather-behind : verdict d ≡ 0 → (b : Bool) → wrongLength (layoutOf d) v r s ≡ b → gatherRefusal d v r s ≡ cond b 11 0
     unfolding gatherRefusal verdict
-    gather-behind a b e = first-behind (verdictConditions d) (wrongLength (layoutOf d) v r s ∷ []) 1 (omega arith) a ∙ rw e
+    gather-behind a b e = first-behind (checkOrder d) (rule 11 (wrongLength (layoutOf d) v r s) ∷ []) (check-positive d) a ∙ rw e
 
     pub gather-eleven : verdict d ≡ 0 → wrongLength (layoutOf d) v r s ≡ true → gatherRefusal d v r s ≡ 11
     gather-eleven a e = gather-behind a true e
@@ -62,30 +62,30 @@ module _ (d : List ℕ) where
     gather-lent : gatherRefusal d v r s ≡ 0 → Lent d v r s
     unfolding gatherRefusal verdict
     gather-lent h =
-        right-lent v r s (none-before (verdictConditions d) (wrongLength (layoutOf d) v r s ∷ []) 1 (omega arith) h)
-        (none-holds (gatherConditions d v r s) 1 (omega arith) h 10)
+        let both = first-both (checkOrder d) (rule 11 (wrongLength (layoutOf d) v r s) ∷ []) (check-positive d) h in
+        right-lent v r s (both .0) (accepts-exactly (rule 11 (wrongLength (layoutOf d) v r s) ∷ []) (omega arith, tt) .0 (both .1) .0)
 
     -- gathering is accepted exactly when the description is and the lengths are right
     pub gather-accepted : (gatherRefusal d v r s ≡ 0) ↔ Lent d v r s
     gather-accepted = (gather-lent, λ h. gather-behind (h .accepted) false (lent-right v r s h))
 
-    -- the number is n exactly where condition n holds and no lower one does: here n is 1 + i
-    pub gather-exactly : (i : ℕ) → (gatherRefusal d v r s ≡ 1 + i) ↔ FirstAt (gatherConditions d v r s) i
+    -- the number is n exactly where condition n holds and none before it
+    pub gather-exactly : (n : ℕ) → n ≢ 0 → (gatherRefusal d v r s ≡ n) ↔ Answers (gatherOrder d v r s) n
     unfolding gatherRefusal
-    gather-exactly i = first-exactly (gatherConditions d v r s) 1 i (omega arith)
+    gather-exactly n h = refuses-exactly (gatherOrder d v r s) n h
 
   -- ---- placing
 
   module _ (vals : List ℕ) (r s : ℕ) where
     pub place-verdict : (verdict d ≡ 0 → ⊥) → placeRefusal d vals r s ≡ verdict d
     unfolding placeRefusal verdict
-    place-verdict h = first-before (verdictConditions d) (wrongLength (layoutOf d) (length vals) r s ∷ wrongBool d vals ∷ []) 1 h
+    place-verdict h = first-before (checkOrder d) (rule 11 (wrongLength (layoutOf d) (length vals) r s) ∷ rule 12 (wrongBool d vals) ∷ []) h
 
     place-behind : verdict d ≡ 0 → (a b : Bool) → wrongLength (layoutOf d) (length vals) r s ≡ a → wrongBool d vals ≡ b
         → placeRefusal d vals r s ≡ cond a 11 (cond b 12 0)
     unfolding placeRefusal verdict
     place-behind ok a b e f =
-        first-behind (verdictConditions d) (wrongLength (layoutOf d) (length vals) r s ∷ wrongBool d vals ∷ []) 1 (omega arith) ok ∙ rw (e, f)
+        first-behind (checkOrder d) (rule 11 (wrongLength (layoutOf d) (length vals) r s) ∷ rule 12 (wrongBool d vals) ∷ []) (check-positive d) ok ∙ rw (e, f)
 
     pub place-eleven : verdict d ≡ 0 → wrongLength (layoutOf d) (length vals) r s ≡ true → placeRefusal d vals r s ≡ 11
     place-eleven ok e = place-behind ok true _ e refl
@@ -99,23 +99,25 @@ module _ (d : List ℕ) where
     place-lent : placeRefusal d vals r s ≡ 0 → Lent d (length vals) r s × (wrongBool d vals ≡ false)
     unfolding placeRefusal verdict
     place-lent h =
-        let none = none-holds (placeConditions d vals r s) 1 (omega arith) h in
-        (right-lent (length vals) r s (none-before (verdictConditions d) (wrongLength (layoutOf d) (length vals) r s ∷ wrongBool d vals ∷ []) 1 (omega arith) h) (none 10), none 11)
+        let both = first-both (checkOrder d) (rule 11 (wrongLength (layoutOf d) (length vals) r s) ∷ rule 12 (wrongBool d vals) ∷ []) (check-positive d) h in
+        let none = accepts-exactly (rule 11 (wrongLength (layoutOf d) (length vals) r s) ∷ rule 12 (wrongBool d vals) ∷ []) (omega arith, (omega arith, tt)) .0 (both .1) in
+        (right-lent (length vals) r s (both .0) (none .0), none .1 .0)
 
     -- placing is accepted exactly when the description is, the lengths are right, and no _Bool is broken
     pub place-accepted : (placeRefusal d vals r s ≡ 0) ↔ (Lent d (length vals) r s × (wrongBool d vals ≡ false))
     place-accepted = (place-lent, λ h. place-none (h .0) (h .1))
 
-    pub place-exactly : (i : ℕ) → (placeRefusal d vals r s ≡ 1 + i) ↔ FirstAt (placeConditions d vals r s) i
+    pub place-exactly : (n : ℕ) → n ≢ 0 → (placeRefusal d vals r s ≡ n) ↔ Answers (placeOrder d vals r s) n
     unfolding placeRefusal
-    place-exactly i = first-exactly (placeConditions d vals r s) 1 i (omega arith)
+    place-exactly n h = refuses-exactly (placeOrder d vals r s) n h
 
     pub twelve-lent : placeRefusal d vals r s ≡ 12 → Lent d (length vals) r s × (wrongBool d vals ≡ true)
-    unfolding verdict
+    unfolding placeRefusal verdict
     twelve-lent h =
-        let at = place-exactly 11 .0 h in
-        let ok : verdict d ≡ 0 = none-left (verdictConditions d) (wrongLength (layoutOf d) (length vals) r s ∷ wrongBool d vals ∷ []) 1 11 (omega arith) (at .lower) in
-        (right-lent (length vals) r s ok (at .lower 10 (omega arith)), at .holds)
+        let ok : verdict d ≡ 0 = none-till (checkOrder d) (rule 11 (wrongLength (layoutOf d) (length vals) r s) ∷ rule 12 (wrongBool d vals) ∷ []) 12 (check-without d 12 (omega arith)) h in
+        let late = held (rule 11 (wrongLength (layoutOf d) (length vals) r s) ∷ []) 12 (wrongBool d vals) [] (omega arith, tt) (λ z. omega arith) ((λ z. omega arith), tt) tt
+        (sym (first-behind (checkOrder d) (rule 11 (wrongLength (layoutOf d) (length vals) r s) ∷ rule 12 (wrongBool d vals) ∷ []) (check-positive d) ok) ∙ h) in
+        (right-lent (length vals) r s ok (late .0 .0), late .1)
 
   -- ---- the _Bool arguments
 

@@ -8,9 +8,9 @@ use lib.Dec.{ltb, eqb}
 use lib.ListN.{length, getD}
 use Rattle.description.specs.Description.{argumentsIn, kindAt, aAt, argumentAt}
 use Rattle.form.specs.Search.{firstFrom}
-use Rattle.form.specs.Order.{first, numbered}
+use Rattle.form.specs.Order.{Rule, rule, first}
 use Rattle.layout.specs.declared.Layout.{Layout}
-use Rattle.layout.specs.Verdict.{verdictConditions}
+use Rattle.layout.specs.Verdict.{checkOrder}
 use Rattle.layout.specs.Layout.{layoutOf}
 use Rattle.moving.specs.Images.{valueStart}
 
@@ -46,17 +46,17 @@ pub record BrokenAt (d vals : List ℕ) (i : ℕ) : Type 0 where
   pub byte : 1 < getD vals (valueStart d i) 0
 
 -- 1 to 11
-abbrev pub gatherConditions : List ℕ → ℕ → ℕ → ℕ → List Bool
-gatherConditions d values registers stack = verdictConditions d ++ wrongLength (layoutOf d) values registers stack ∷ []
+abbrev pub gatherOrder : List ℕ → ℕ → ℕ → ℕ → List Rule
+gatherOrder d values registers stack = checkOrder d ++ rule 11 (wrongLength (layoutOf d) values registers stack) ∷ []
 
 -- 1 to 12
-abbrev pub placeConditions : List ℕ → List ℕ → ℕ → ℕ → List Bool
-placeConditions d vals registers stack = verdictConditions d ++ wrongLength (layoutOf d) (length vals) registers stack ∷ wrongBool d vals ∷ []
+abbrev pub placeOrder : List ℕ → List ℕ → ℕ → ℕ → List Rule
+placeOrder d vals registers stack = checkOrder d ++ rule 11 (wrongLength (layoutOf d) (length vals) registers stack) ∷ rule 12 (wrongBool d vals) ∷ []
 
 -- which of them refuses gathering into so many value bytes, from images of these lengths; or 0
 unfoldable pub gatherRefusal : List ℕ → ℕ → ℕ → ℕ → ℕ
-gatherRefusal d values registers stack = first (numbered 1 (gatherConditions d values registers stack))
+gatherRefusal d values registers stack = first (gatherOrder d values registers stack)
 
 -- and placing these values
 unfoldable pub placeRefusal : List ℕ → List ℕ → ℕ → ℕ → ℕ
-placeRefusal d vals registers stack = first (numbered 1 (placeConditions d vals registers stack))
+placeRefusal d vals registers stack = first (placeOrder d vals registers stack)

@@ -7,10 +7,9 @@ use Prim.Native.Nat.{ℕ, zero, suc}
 use native.Mathlib.Omega.{arith}
 use borrow.Author.Tests.{ne-eqb, ltb-true}
 use lib.Dec.{eqb, ltb}
-use Rattle.form.specs.Order.{Rule, rule, first}
-use Rattle.station.specs.Outcome.{Positive}
-use Rattle.station.proofs.Orders.{accepts-exactly, refuses-exactly}
+use Rattle.form.specs.Order.{Rule, rule, first, Positive}
 use Rattle.promises.specs.Meaning.{Meaning, accepted, refused, numberOf, outcome, Answered}
+use Rattle.form.proofs.Order.{accepts-exactly, refuses-exactly}
 
 number-outcome : {X : Type 0} (n : ℕ) (v : X) → numberOf (outcome n v) ≡ n
 number-outcome zero v = refl

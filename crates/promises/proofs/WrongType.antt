@@ -9,7 +9,7 @@ use borrow.Author.Tests.{eq-eqb, ne-eqb, ltb-true}
 use lib.Dec.{eqb}
 use Rattle.description.specs.Description.{typesIn}
 use Rattle.form.specs.Conditions.{wrongRecord, firstBroken}
-use Rattle.form.specs.Order.{Rule, rule, first, numbered}
+use Rattle.form.specs.Order.{Rule, rule, first}
 use Rattle.form.specs.Reading.{refusalAt, refusalBy}
 use Rattle.form.proofs.Form.{broken-first, broken-least}
 use Rattle.types.specs.Large.{tooLarge, firstLarge}
@@ -19,7 +19,7 @@ use Rattle.questions.specs.Questions.{questionRefusal}
 use Rattle.layout.specs.Verdict.{verdict}
 use Rattle.layout.specs.Lists.{listRefusal}
 use Rattle.moving.specs.Orders.{placeRefusal, gatherRefusal}
-use Rattle.returning.specs.Orders.{putConditions, takeConditions, putRefusal, takeRefusal}
+use Rattle.returning.specs.Orders.{putOrder, takeOrder, putRefusal, takeRefusal}
 use Rattle.station.specs.Paper.{kcb, refusalUnder}
 use Rattle.station.specs.Attachment.{described, attachRefusal}
 use Rattle.station.proofs.Kcb.{kcb-refusal}
@@ -83,8 +83,8 @@ wrong-type = record {
   lay-out = λ d room. names d (layoutOrder d room) (alone (wrongRecord d)) (alone (tooLarge d));
   place-values = λ d values registers stack. names d (placeOrder d values registers stack) (alone (wrongRecord d)) (alone (tooLarge d));
   gather-values = λ d values registers stack. names d (gatherOrder d values registers stack) (alone (wrongRecord d)) (alone (tooLarge d));
-  put-returned = λ d value image. names d (numbered 1 (putConditions d value image)) (alone (wrongRecord d)) (alone (tooLarge d));
-  take-returned = λ d image value. names d (numbered 1 (takeConditions d image value)) (alone (wrongRecord d)) (alone (tooLarge d));
+  put-returned = λ d value image. names d (putOrder d value image) (alone (wrongRecord d)) (alone (tooLarge d));
+  take-returned = λ d image value. names d (takeOrder d image value) (alone (wrongRecord d)) (alone (tooLarge d));
   attach = λ s seat d. seated d _ (names d (attachOrder s seat d) (alone (wrongRecord d)) (alone (tooLarge d)));
   open-walk = λ s seat. seated (described s seat) _ (names (described s seat) (openOrder s seat) (alone (wrongRecord (described s seat))) (alone (tooLarge (described s seat))));
   step = λ s seat w a. seated (described s seat) _ (names (described s seat) (stepOrder s seat w a) (alone (wrongRecord (described s seat))) (alone (tooLarge (described s seat))));

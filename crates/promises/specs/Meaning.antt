@@ -8,7 +8,7 @@ use Rattle.description.specs.declared.Header.{Header}
 use Rattle.form.specs.declared.Refusal.{Refusal}
 use Rattle.form.specs.declared.Reading.{Reading}
 use Rattle.form.specs.declared.Reading.the-variants.{Accepted, Refused as NotRead}
-use Rattle.form.specs.Order.{Rule}
+use Rattle.form.specs.Order.{Rule, NoneHolds, Answers}
 use Rattle.classes.specs.declared.Class.{Class}
 use Rattle.questions.specs.declared.ExtentAnswer.{ExtentAnswer}
 use Rattle.questions.specs.declared.ExtentAnswer.the-variants.{Known, Refused as NoExtent}
@@ -27,7 +27,6 @@ use Rattle.moving.specs.declared.PlaceAnswer.{PlaceAnswer}
 use Rattle.moving.specs.declared.PlaceAnswer.the-variants.{Placed, Refused as NotPlaced}
 use Rattle.moving.specs.declared.GatherAnswer.{GatherAnswer}
 use Rattle.moving.specs.declared.GatherAnswer.the-variants.{Gathered, Refused as NotGathered}
-use Rattle.station.specs.Outcome.{NoneHolds, Answers}
 use Rattle.walk.specs.declared.Walk.{Walk}
 use Rattle.walk.specs.declared.OpenAnswer.{OpenAnswer}
 use Rattle.walk.specs.declared.OpenAnswer.the-variants.{Opened, Refused as NotOpened}

@@ -6,7 +6,7 @@ use Prim.Native.Nat.{ℕ}
 use lib.Dec.{leb}
 use lib.ListN.{length}
 use Rattle.form.specs.Conditions.{tooShort, wrongMark, wrongVersion, wrongCounts, wrongLength, wrongRecord}
-use Rattle.form.specs.Order.{Rule, rule, numbered}
+use Rattle.form.specs.Order.{Rule, rule}
 use Rattle.types.specs.Large.{tooLarge}
 use Rattle.questions.specs.Questions.{notBelow}
 use Rattle.uses.specs.Uses.{wrongUse, narrowUnnamed}
@@ -20,36 +20,24 @@ use Rattle.station.specs.Attachment.{wrongSeat, described}
 use Rattle.walk.specs.declared.Walk.{Walk}
 use Rattle.walk.specs.Orders.{Ask, wrongRegisters, otherNumber, astray, atEnd, otherType, wrongStack, wrongOut}
 
--- the conditions of the description alone, 1 to 6, 7, 8 and 9, 10
-abbrev pub six : List ℕ → List Bool
-six d = tooShort d ∷ wrongMark d ∷ wrongVersion d ∷ wrongCounts d ∷ wrongLength d ∷ wrongRecord d ∷ []
+-- what the calls look at that look at less: the form, sizes, uses
+abbrev pub formOrder : List ℕ → List Rule
+formOrder d =
+    rule 1 (tooShort d) ∷ rule 2 (wrongMark d) ∷ rule 3 (wrongVersion d) ∷ rule 4 (wrongCounts d) ∷ rule 5 (wrongLength d) ∷ rule 6 (wrongRecord d) ∷ []
 
-abbrev pub seven : List ℕ → List Bool
-seven d = six d ++ tooLarge d ∷ []
+abbrev pub typesOrder : List ℕ → List Rule
+typesOrder d = formOrder d ++ rule 7 (tooLarge d) ∷ []
 
-abbrev pub nine : List ℕ → List Bool
-nine d = seven d ++ wrongUse d ∷ narrowUnnamed d ∷ []
-
-abbrev pub ten : List ℕ → List Bool
-ten d = nine d ++ wideArea d ∷ []
+abbrev pub usesOrder : List ℕ → List Rule
+usesOrder d = typesOrder d ++ rule 8 (wrongUse d) ∷ rule 9 (narrowUnnamed d) ∷ []
 
 -- "Order: 1..10 as numbered, each over the whole description"
 abbrev pub checkOrder : List ℕ → List Rule
-checkOrder d = numbered 1 (ten d)
-
--- what the calls below it look at: the form, sizes, uses
-abbrev pub formOrder : List ℕ → List Rule
-formOrder d = numbered 1 (six d)
-
-abbrev pub typesOrder : List ℕ → List Rule
-typesOrder d = numbered 1 (seven d)
-
-abbrev pub usesOrder : List ℕ → List Rule
-usesOrder d = numbered 1 (nine d)
+checkOrder d = usesOrder d ++ rule 10 (wideArea d) ∷ []
 
 -- "A question about one type (size, alignment, classes, run): 1..7, then 8 for a type number not below T; arrays are answered"
 abbrev pub questionOrder : List ℕ → ℕ → List Rule
-questionOrder d t = numbered 1 (seven d) ++ rule 8 (notBelow d t) ∷ []
+questionOrder d t = typesOrder d ++ rule 8 (notBelow d t) ∷ []
 
 -- "Layout: 1..10, 11", for a list of so many records
 abbrev pub layoutOrder : List ℕ → ℕ → List Rule

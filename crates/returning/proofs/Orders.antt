@@ -9,17 +9,18 @@ use borrow.Author.Tests.{eq-eqb, ne-eqb, eqb-true, lt-ltb, ltb-true, not-true, n
 use lib.Dec.{eqb, ltb}
 use lib.ListN.{length, getD}
 use Rattle.description.specs.Description.{returnIn, kindAt, aAt}
-use Rattle.form.specs.Order.{FirstAt}
-use Rattle.form.proofs.Order.{first-exactly, first-before, first-behind, none-before, none-holds}
+use Rattle.form.specs.Order.{rule, Answers}
+use Rattle.form.proofs.Order.{refuses-exactly, accepts-exactly, first-before, first-behind, first-both, none-till, never, without-append, held}
 use Rattle.form.proofs.Form.{or-none}
 use Rattle.layout.specs.Arguments.{isVoid}
-use Rattle.layout.specs.Verdict.{verdictConditions, verdict}
+use Rattle.layout.specs.Verdict.{checkOrder, verdict}
 use Rattle.moving.specs.Orders.{isBool, brokenByte}
-use Rattle.moving.proofs.Orders.{none-left}
+use Rattle.moving.proofs.Orders.{check-without}
 use Rattle.returning.specs.Returned.{returnLength}
-use Rattle.returning.specs.Orders.{wrongLength, wrongBool, furtherTaking, furtherPutting, takeConditions, putConditions, takeRefusal, putRefusal}
+use Rattle.returning.specs.Orders.{wrongLength, wrongBool, furtherTaking, furtherPutting, takeOrder, putOrder, takeRefusal, putRefusal}
 use Rattle.returning.specs.Asks.{Lent}
 use Rattle.returning.specs.Statements.{ReturnsBool}
+use Rattle.layout.proofs.Verdict.{check-positive}
 
 module _ (d : List ℕ) where
   -- ---- the lengths
@@ -39,11 +40,11 @@ module _ (d : List ℕ) where
   module _ (img : List ℕ) (v : ℕ) where
     pub take-verdict : (verdict d ≡ 0 → ⊥) → takeRefusal d img v ≡ verdict d
     unfolding takeRefusal verdict
-    take-verdict h = first-before (verdictConditions d) (furtherTaking d img v) 1 h
+    take-verdict h = first-before (checkOrder d) (furtherTaking d img v) h
 
     take-behind : verdict d ≡ 0 → (b : Bool) → wrongLength (returnLength d) v (length img) ≡ b → takeRefusal d img v ≡ cond b 11 0
     unfolding takeRefusal verdict
-    take-behind a b e = first-behind (verdictConditions d) (furtherTaking d img v) 1 (omega arith) a ∙ rw e
+    take-behind a b e = first-behind (checkOrder d) (furtherTaking d img v) (check-positive d) a ∙ rw e
 
     pub take-eleven : verdict d ≡ 0 → wrongLength (returnLength d) v (length img) ≡ true → takeRefusal d img v ≡ 11
     take-eleven a e = take-behind a true e
@@ -51,33 +52,34 @@ module _ (d : List ℕ) where
     take-lent : takeRefusal d img v ≡ 0 → Lent d v (length img)
     unfolding takeRefusal verdict
     take-lent h =
-        right-lent v (length img) (none-before (verdictConditions d) (furtherTaking d img v) 1 (omega arith) h)
-        (none-holds (takeConditions d img v) 1 (omega arith) h 10)
+        let both = first-both (checkOrder d) (furtherTaking d img v) (check-positive d) h in
+        right-lent v (length img) (both .0) (accepts-exactly (furtherTaking d img v) (omega arith, tt) .0 (both .1) .0)
 
     -- taking is accepted exactly when the description is and the lengths are right
     pub take-accepted : (takeRefusal d img v ≡ 0) ↔ Lent d v (length img)
     take-accepted = (take-lent, λ h. take-behind (h .accepted) false (lent-right v (length img) h))
 
-    -- the number is n exactly where condition n holds and no lower one does: here n is 1 + i
-    pub take-exactly : (i : ℕ) → (takeRefusal d img v ≡ 1 + i) ↔ FirstAt (takeConditions d img v) i
+    -- the number is n exactly where condition n holds and none before it
+    pub take-exactly : (n : ℕ) → n ≢ 0 → (takeRefusal d img v ≡ n) ↔ Answers (takeOrder d img v) n
     unfolding takeRefusal
-    take-exactly i = first-exactly (takeConditions d img v) 1 i (omega arith)
+    take-exactly n h = refuses-exactly (takeOrder d img v) n h
 
     -- there is no twelfth
     pub take-never : takeRefusal d img v ≢ 12
-    take-never h = true≢false (sym (take-exactly 11 .0 h .holds))
+    unfolding takeRefusal
+    take-never = never (takeOrder d img v) 12 (λ z. omega arith) (without-append (checkOrder d) (furtherTaking d img v) 12 (check-without d 12 (omega arith)) ((λ z. omega arith), tt))
 
   -- ---- putting
 
   module _ (v : List ℕ) (i : ℕ) where
     pub put-verdict : (verdict d ≡ 0 → ⊥) → putRefusal d v i ≡ verdict d
     unfolding putRefusal verdict
-    put-verdict h = first-before (verdictConditions d) (furtherPutting d v i) 1 h
+    put-verdict h = first-before (checkOrder d) (furtherPutting d v i) h
 
     put-behind : verdict d ≡ 0 → (a b : Bool) → wrongLength (returnLength d) (length v) i ≡ a → wrongBool d v ≡ b → putRefusal d v i ≡ cond a 11 (cond b 12 0)
     unfolding putRefusal verdict
     put-behind ok a b e f =
-        first-behind (verdictConditions d) (furtherPutting d v i) 1 (omega arith) ok ∙ rw (e, f)
+        first-behind (checkOrder d) (furtherPutting d v i) (check-positive d) ok ∙ rw (e, f)
 
     pub put-eleven : verdict d ≡ 0 → wrongLength (returnLength d) (length v) i ≡ true → putRefusal d v i ≡ 11
     put-eleven ok e = put-behind ok true _ e refl
@@ -91,23 +93,25 @@ module _ (d : List ℕ) where
     put-lent : putRefusal d v i ≡ 0 → Lent d (length v) i × (wrongBool d v ≡ false)
     unfolding putRefusal verdict
     put-lent h =
-        let none = none-holds (putConditions d v i) 1 (omega arith) h in
-        (right-lent (length v) i (none-before (verdictConditions d) (furtherPutting d v i) 1 (omega arith) h) (none 10), none 11)
+        let both = first-both (checkOrder d) (furtherPutting d v i) (check-positive d) h in
+        let none = accepts-exactly (furtherPutting d v i) (omega arith, (omega arith, tt)) .0 (both .1) in
+        (right-lent (length v) i (both .0) (none .0), none .1 .0)
 
     -- putting is accepted exactly when the description is, the lengths are right, and no _Bool is broken
     pub put-accepted : (putRefusal d v i ≡ 0) ↔ (Lent d (length v) i × (wrongBool d v ≡ false))
     put-accepted = (put-lent, λ h. put-none (h .0) (h .1))
 
-    pub put-exactly : (n : ℕ) → (putRefusal d v i ≡ 1 + n) ↔ FirstAt (putConditions d v i) n
+    pub put-exactly : (n : ℕ) → n ≢ 0 → (putRefusal d v i ≡ n) ↔ Answers (putOrder d v i) n
     unfolding putRefusal
-    put-exactly n = first-exactly (putConditions d v i) 1 n (omega arith)
+    put-exactly n h = refuses-exactly (putOrder d v i) n h
 
     pub twelve-lent : putRefusal d v i ≡ 12 → Lent d (length v) i × (wrongBool d v ≡ true)
-    unfolding verdict
+    unfolding putRefusal verdict
     twelve-lent h =
-        let at = put-exactly 11 .0 h in
-        let ok : verdict d ≡ 0 = none-left (verdictConditions d) (furtherPutting d v i) 1 11 (omega arith) (at .lower) in
-        (right-lent (length v) i ok (at .lower 10 (omega arith)), at .holds)
+        let ok : verdict d ≡ 0 = none-till (checkOrder d) (furtherPutting d v i) 12 (check-without d 12 (omega arith)) h in
+        let late = held (rule 11 (wrongLength (returnLength d) (length v) i) ∷ []) 12 (wrongBool d v) [] (omega arith, tt) (λ z. omega arith) ((λ z. omega arith), tt) tt
+        (sym (first-behind (checkOrder d) (furtherPutting d v i) (check-positive d) ok) ∙ h) in
+        (right-lent (length v) i ok (late .0 .0), late .1)
 
   -- ---- a returned _Bool
 

@@ -6,9 +6,9 @@ use Prim.Native.Nat.{ℕ}
 use lib.Dec.{eqb}
 use lib.ListN.{length, getD}
 use Rattle.description.specs.Description.{returnIn}
-use Rattle.form.specs.Order.{first, numbered}
+use Rattle.form.specs.Order.{Rule, rule, first}
 use Rattle.layout.specs.Arguments.{isVoid}
-use Rattle.layout.specs.Verdict.{verdictConditions}
+use Rattle.layout.specs.Verdict.{checkOrder}
 use Rattle.moving.specs.Orders.{brokenByte}
 use Rattle.returning.specs.Returned.{returnLength}
 
@@ -21,22 +21,22 @@ unfoldable pub wrongBool : List ℕ → List ℕ → Bool
 wrongBool d v = not (isVoid d) && brokenByte d (returnIn d) (getD v 0 0)
 
 -- what is judged behind 1 to 10: 11 in taking, and 11, then 12 in putting
-abbrev pub furtherTaking : List ℕ → List ℕ → ℕ → List Bool
-furtherTaking d img value = wrongLength (returnLength d) value (length img) ∷ []
+abbrev pub furtherTaking : List ℕ → List ℕ → ℕ → List Rule
+furtherTaking d img value = rule 11 (wrongLength (returnLength d) value (length img)) ∷ []
 
-abbrev pub furtherPutting : List ℕ → List ℕ → ℕ → List Bool
-furtherPutting d v image = wrongLength (returnLength d) (length v) image ∷ wrongBool d v ∷ []
+abbrev pub furtherPutting : List ℕ → List ℕ → ℕ → List Rule
+furtherPutting d v image = rule 11 (wrongLength (returnLength d) (length v) image) ∷ rule 12 (wrongBool d v) ∷ []
 
-abbrev pub takeConditions : List ℕ → List ℕ → ℕ → List Bool
-takeConditions d img value = verdictConditions d ++ furtherTaking d img value
+abbrev pub takeOrder : List ℕ → List ℕ → ℕ → List Rule
+takeOrder d img value = checkOrder d ++ furtherTaking d img value
 
-abbrev pub putConditions : List ℕ → List ℕ → ℕ → List Bool
-putConditions d v image = verdictConditions d ++ furtherPutting d v image
+abbrev pub putOrder : List ℕ → List ℕ → ℕ → List Rule
+putOrder d v image = checkOrder d ++ furtherPutting d v image
 
 -- which of them refuses taking so many value bytes from this image; or 0
 unfoldable pub takeRefusal : List ℕ → List ℕ → ℕ → ℕ
-takeRefusal d img value = first (numbered 1 (takeConditions d img value))
+takeRefusal d img value = first (takeOrder d img value)
 
 -- and putting this value into an image of so many bytes
 unfoldable pub putRefusal : List ℕ → List ℕ → ℕ → ℕ
-putRefusal d v image = first (numbered 1 (putConditions d v image))
+putRefusal d v image = first (putOrder d v image)

@@ -16,10 +16,11 @@ use Rattle.addresses.specs.Copy.{copied, cleared}
 use Rattle.addresses.proofs.Runs.{gather-run, scatter-whole, all-run}
 use Rattle.addresses.proofs.Parts.{scatter-left}
 use Rattle.station.specs.declared.Station.{Station}
-use Rattle.station.specs.Outcome.{NoneHolds, Answers, Positive}
 use Rattle.station.specs.Paper.{Paper, verdictOf, refusalUnder}
 use Rattle.station.specs.Attachment.{wrongSeat, seatOf, freed, holding, detachOrder, detachRefusal, detachStation, detachSeat, attachOrder, attachRefusal, attachStation, attachSeat}
-use Rattle.station.proofs.Orders.{kept, left, first-rest, or-false, accepts-exactly, refuses-exactly}
+use Rattle.station.proofs.Orders.{kept, left, first-rest, or-false}
+use Rattle.form.specs.Order.{NoneHolds, Answers, Positive}
+use Rattle.form.proofs.Order.{accepts-exactly, refuses-exactly}
 
 -- ---- lengths
 

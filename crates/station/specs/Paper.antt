@@ -9,7 +9,7 @@ use lib.ListN.{length, getD, take}
 use Rattle.addresses.specs.Addresses.{run}
 use Rattle.description.specs.Description.{variadicIn, namedIn, argumentsIn, argumentAt}
 use Rattle.form.specs.Conditions.{firstBroken}
-use Rattle.form.specs.Order.{Rule, first, numbered}
+use Rattle.form.specs.Order.{Rule, first, Positive}
 use Rattle.form.specs.Reading.{refusalBy}
 use Rattle.form.specs.declared.Refusal.{Refusal}
 use Rattle.types.specs.Large.{firstLarge}
@@ -17,8 +17,7 @@ use Rattle.places.specs.declared.Used.{Used}
 use Rattle.places.specs.Shapes.{Shape}
 use Rattle.places.specs.Places.{Slot, eights, after, area}
 use Rattle.layout.specs.Arguments.{shapes as layoutShapes, hidden, usedFirst}
-use Rattle.layout.specs.Verdict.{verdictConditions}
-use Rattle.station.specs.Outcome.{Positive}
+use Rattle.layout.specs.Verdict.{checkOrder}
 
 pub record Paper : Type 0 where
   pub order : List ℕ → List Rule  -- 1 to 10, as this paper has them
@@ -65,7 +64,7 @@ module _ (P : Paper) where
 -- document 01's own: "Byte 6: 0, or 1 for a variadic function", N, and the arguments in their order
 unfoldable pub kcb : Paper
 kcb = record {
-  order = λ d. numbered 1 (verdictConditions d);
+  order = checkOrder;
   counted = λ d. (omega arith, (omega arith, (omega arith, (omega arith, (omega arith, (omega arith, (omega arith, (omega arith, (omega arith, (omega arith, tt))))))))));
   broken = firstBroken;
   large = firstLarge;

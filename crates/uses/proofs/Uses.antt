@@ -2,36 +2,38 @@
 use mathlib.Core.Path.{_≡_, refl, _∙_}
 use mathlib.Core.Bool.{Bool, true, false, cond}
 use mathlib.Core.List.{List, [], _∷_}
-use mathlib.Core.Logic.{_↔_}
+use mathlib.Core.Logic.{_↔_, _≢_}
 use Prim.Native.Nat.{ℕ, _+_, _-_, _≤_, _<_}
 use native.Mathlib.Omega.{arith}
 use borrow.Author.Tests.{ltb-false, leb-false, lt-ltb, le-ltb}
 use lib.Dec.{leb, ltb, eqb}
-use lib.ListN.{getD}
 use Rattle.description.specs.Description.{typesIn, namedIn, argumentsIn, returnIn, kindAt, argumentAt, Whole}
-use Rattle.form.specs.Order.{FirstAt}
-use Rattle.form.proofs.Order.{first-exactly, none-exactly, first-before, first-behind, none-before}
+use Rattle.form.specs.Order.{rule, NoneHolds, Answers, Positive}
+use Rattle.form.proofs.Order.{refuses-exactly, accepts-exactly, first-before, first-behind, first-both, positive-append}
 use Rattle.form.proofs.Search.{first-least}
 use Rattle.form.proofs.Form.{or-none, accepted-whole, accepted-counts}
-use Rattle.types.specs.Large.{typesConditions, typesRefusal}
-use Rattle.types.proofs.Large.{accepted-form}
+use Rattle.types.specs.Large.{typesOrder, typesRefusal}
+use Rattle.types.proofs.Large.{accepted-form, types-positive}
 use Rattle.types.specs.Wrong.{Judged}
 use Rattle.types.proofs.Wrong.{judged}
-use Rattle.uses.specs.Uses.{wrongNumber, wrongReturn, wrongArgument, firstWrong, wrongUse, narrowArgument, narrowUnnamed, firstNarrow, usesConditions, usesRefusal, Typed}
+use Rattle.uses.specs.Uses.{wrongNumber, wrongReturn, wrongArgument, firstWrong, wrongUse, narrowArgument, narrowUnnamed, firstNarrow, usesOrder, usesRefusal, Typed}
 
--- the answer is n exactly where condition n holds and no lower one does: here n is 1 + i
-pub uses-exactly : (d : List ℕ) (i : ℕ) → (usesRefusal d ≡ 1 + i) ↔ FirstAt (usesConditions d) i
+pub uses-positive : (d : List ℕ) → Positive (usesOrder d)
+uses-positive d = positive-append (typesOrder d) (rule 8 (wrongUse d) ∷ rule 9 (narrowUnnamed d) ∷ []) (types-positive d) (omega arith, (omega arith, tt))
+
+-- the answer is n exactly where condition n holds and none before it
+pub uses-exactly : (d : List ℕ) (n : ℕ) → n ≢ 0 → (usesRefusal d ≡ n) ↔ Answers (usesOrder d) n
 unfolding usesRefusal
-uses-exactly d i = first-exactly (usesConditions d) 1 i (omega arith)
+uses-exactly d n h = refuses-exactly (usesOrder d) n h
 
 -- 6 and 7 among them are judged in order
 pub uses-judged : (d : List ℕ) (n : ℕ) → n ≡ usesRefusal d → Judged d n
 unfolding usesRefusal
-uses-judged d n e = judged d (wrongUse d ∷ narrowUnnamed d ∷ []) n e
+uses-judged d n e = judged d (rule 8 (wrongUse d) ∷ rule 9 (narrowUnnamed d) ∷ []) n ((λ z. omega arith), ((λ z. omega arith), tt)) e
 
-pub uses-none-exactly : (d : List ℕ) → (usesRefusal d ≡ 0) ↔ ((j : ℕ) → getD (usesConditions d) j false ≡ false)
+pub uses-none-exactly : (d : List ℕ) → (usesRefusal d ≡ 0) ↔ NoneHolds (usesOrder d)
 unfolding usesRefusal
-uses-none-exactly d = none-exactly (usesConditions d) 1 (omega arith)
+uses-none-exactly d = accepts-exactly (usesOrder d) (uses-positive d)
 
 -- a number that is not wrong names a type
 pub right-below : (d : List ℕ) (t : ℕ) → wrongNumber d t ≡ false → t < typesIn d
@@ -46,12 +48,12 @@ arguments-below d h i l = right-below d (argumentAt d i) (first-least (wrongArgu
 module _ (d : List ℕ) where
   pub uses-types : (typesRefusal d ≡ 0 → ⊥) → usesRefusal d ≡ typesRefusal d
   unfolding usesRefusal typesRefusal
-  uses-types h = first-before (typesConditions d) (wrongUse d ∷ narrowUnnamed d ∷ []) 1 h
+  uses-types h = first-before (typesOrder d) (rule 8 (wrongUse d) ∷ rule 9 (narrowUnnamed d) ∷ []) h
 
   module _ (right : typesRefusal d ≡ 0) where
     behind : (a b : Bool) → wrongUse d ≡ a → narrowUnnamed d ≡ b → usesRefusal d ≡ cond a 8 (cond b 9 0)
     unfolding usesRefusal typesRefusal
-    behind a b e f = first-behind (typesConditions d) (wrongUse d ∷ narrowUnnamed d ∷ []) 1 (omega arith) right ∙ rw (e, f)
+    behind a b e f = first-behind (typesOrder d) (rule 8 (wrongUse d) ∷ rule 9 (narrowUnnamed d) ∷ []) (types-positive d) right ∙ rw (e, f)
 
     pub types-whole : Whole d
     types-whole = accepted-whole d (accepted-form d right)
@@ -89,11 +91,11 @@ module _ (d : List ℕ) where
 module _ (d : List ℕ) (accepted : usesRefusal d ≡ 0) where
   pub accepted-types : typesRefusal d ≡ 0
   unfolding usesRefusal typesRefusal
-  accepted-types = none-before (typesConditions d) (wrongUse d ∷ narrowUnnamed d ∷ []) 1 (omega arith) accepted
+  accepted-types = first-both (typesOrder d) (rule 8 (wrongUse d) ∷ rule 9 (narrowUnnamed d) ∷ []) (types-positive d) accepted .0
 
   uses-right : (wrongReturn d ≡ false) × (ltb (firstWrong d) (argumentsIn d) ≡ false)
   unfolding wrongUse
-  uses-right = or-none (wrongReturn d) (ltb (firstWrong d) (argumentsIn d)) (uses-none-exactly d .0 accepted 7)
+  uses-right = or-none (wrongReturn d) (ltb (firstWrong d) (argumentsIn d)) (uses-none-exactly d .0 accepted .1 .1 .1 .1 .1 .1 .1 .0)
 
   pub accepted-typed : Typed d
   accepted-typed = types-typed d accepted-types (uses-right .0) (ltb-false (firstWrong d) (argumentsIn d) (uses-right .1))
@@ -111,4 +113,4 @@ module _ (d : List ℕ) (accepted : usesRefusal d ≡ 0) where
   pub accepted-wide : (i : ℕ) → namedIn d ≤ i → i < argumentsIn d → narrowArgument d i ≡ false
   unfolding narrowUnnamed
   accepted-wide i n l =
-      first-least (narrowArgument d) (namedIn d) (argumentsIn d - namedIn d) i n (omega (arith, ltb-false (firstNarrow d) (argumentsIn d) (uses-none-exactly d .0 accepted 8)))
+      first-least (narrowArgument d) (namedIn d) (argumentsIn d - namedIn d) i n (omega (arith, ltb-false (firstNarrow d) (argumentsIn d) (uses-none-exactly d .0 accepted .1 .1 .1 .1 .1 .1 .1 .1 .0)))

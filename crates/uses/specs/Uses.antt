@@ -6,8 +6,8 @@ use Prim.Native.Nat.{ℕ, _-_, _≤_, _<_}
 use lib.Dec.{leb, ltb, eqb}
 use Rattle.description.specs.Description.{typesIn, namedIn, argumentsIn, returnIn, kindAt, aAt, argumentAt, Whole}
 use Rattle.form.specs.Search.{firstFrom}
-use Rattle.form.specs.Order.{first, numbered}
-use Rattle.types.specs.Large.{typesConditions}
+use Rattle.form.specs.Order.{Rule, rule, first}
+use Rattle.types.specs.Large.{typesOrder}
 
 -- a "number not below T .. or an array": no type that is passed or returned by itself
 unfoldable pub wrongNumber : List ℕ → ℕ → Bool
@@ -43,13 +43,13 @@ firstNarrow d = firstFrom (narrowArgument d) (namedIn d) (argumentsIn d - namedI
 unfoldable pub narrowUnnamed : List ℕ → Bool
 narrowUnnamed d = ltb (firstNarrow d) (argumentsIn d)
 
--- conditions 1 to 9
-abbrev pub usesConditions : List ℕ → List Bool
-usesConditions d = typesConditions d ++ wrongUse d ∷ narrowUnnamed d ∷ []
+-- 1 to 9
+abbrev pub usesOrder : List ℕ → List Rule
+usesOrder d = typesOrder d ++ rule 8 (wrongUse d) ∷ rule 9 (narrowUnnamed d) ∷ []
 
 -- which of 1 to 9 refuses the description, or 0
 unfoldable pub usesRefusal : List ℕ → ℕ
-usesRefusal d = first (numbered 1 (usesConditions d))
+usesRefusal d = first (usesOrder d)
 
 -- the arguments have types, and the named ones are among them
 pub record Typed (d : List ℕ) : Type 0 where

@@ -9,7 +9,7 @@ use lib.Dec.{ltb, eqb}
 use lib.ListN.{length, take}
 use borrow.Author.Tests.{eq-eqb, ne-eqb, lt-ltb, le-ltb, eqb-true, ltb-false, not-false}
 use Rattle.description.specs.Description.{namedIn, argumentsIn, argumentAt}
-use Rattle.form.specs.Order.{Rule, rule, first}
+use Rattle.form.specs.Order.{Rule, rule, first, NoneHolds, Answers, Positive}
 use Rattle.form.specs.Reading.{refusalOf}
 use Rattle.form.specs.declared.Refusal.{Refusal}
 use Rattle.form.proofs.Form.{accepted-headed}
@@ -35,10 +35,9 @@ use Rattle.classify.specs.Asks.{AskType}
 use Rattle.layout.proofs.Layouts.{laid-accepted, refused-verdict, refused-nonzero}
 use Rattle.layout.proofs.Steps.{shape-of-argument}
 use Rattle.station.specs.declared.Station.{Station}
-use Rattle.station.specs.Outcome.{NoneHolds, Answers, Positive}
 use Rattle.station.specs.Paper.{Paper, kcb, verdictOf, refusalUnder, arguments, shapeAt}
 use Rattle.station.specs.Attachment.{wrongSeat, described}
-use Rattle.station.proofs.Orders.{first-append, first-early, or-false, positive-append, accepts-exactly, refuses-exactly}
+use Rattle.station.proofs.Orders.{or-false}
 use Rattle.station.proofs.Attachments.{under-high}
 use Rattle.station.proofs.Kcb.{kcb-verdict, kcb-refusal, kcb-arguments, kcb-area, kcb-shape, kcb-type}
 use Rattle.walk.specs.declared.Walk.{Walk}
@@ -47,6 +46,7 @@ use Rattle.walk.specs.Orders.{Ask, asking, withOffsets, standing, wrongR
 use Rattle.walk.specs.declared.Standing.{Standing}
 use Rattle.walk.specs.Asks.{IsStanding}
 use Rattle.walk.proofs.Opens.{standing-is}
+use Rattle.form.proofs.Order.{first-behind, first-before, positive-append, accepts-exactly, refuses-exactly}
 
 -- ---- the layout's answer
 
@@ -136,12 +136,12 @@ on-before d w e h = omega (arith, astray-not kcb d w e .to, kcb-arguments d)
 module _ (P : Paper) (s : Station) (d : List ℕ) (w : Walk) (a : Ask) where
   pub rest-early : verdictOf P d ≢ 0 → restRefusal P s d w a ≡ verdictOf P d
   unfolding verdictOf restRefusal
-  rest-early h = first-early (P .order d) _ h
+  rest-early h = first-before (P .order d) _ h
 
   module _ (ok : verdictOf P d ≡ 0) where
     rest-late : restRefusal P s d w a ≡ first (rule 17 (otherNumber s w) ∷ rule 18 (astray P d w) ∷ rule 19 (atEnd P d w) ∷ rule 20 (otherType P d w a) ∷ rule 11 (wrongStack P d a) ∷ [])
     unfolding verdictOf restRefusal
-    rest-late = first-append (P .order d) _ (P .counted d) ok
+    rest-late = first-behind (P .order d) _ (P .counted d) ok
 
     pub rest-17 : otherNumber s w ≡ true → restRefusal P s d w a ≡ 17
     rest-17 e = rest-late ∙ rw e

@@ -8,7 +8,7 @@ use native.Mathlib.Omega.{arith}
 use lib.ListN.{length, take}
 use borrow.Author.Tests.{eq-eqb, ne-eqb}
 use Rattle.description.specs.Description.{variadicIn, namedIn, argumentsIn}
-use Rattle.form.specs.Order.{rule, first}
+use Rattle.form.specs.Order.{rule, first, NoneHolds, Answers, Positive}
 use Rattle.form.specs.Reading.{refusalOf}
 use Rattle.form.specs.declared.Refusal.{Refusal}
 use Rattle.uses.specs.Uses.{usesRefusal}
@@ -18,10 +18,8 @@ use Rattle.layout.specs.Arguments.{usedAt as layoutUsed}
 use Rattle.layout.specs.Layout.{layoutOf}
 use Rattle.layout.specs.declared.Layout.{Layout}
 use Rattle.station.specs.declared.Station.{Station}
-use Rattle.station.specs.Outcome.{NoneHolds, Answers, Positive}
 use Rattle.station.specs.Paper.{Paper, kcb, verdictOf, refusalUnder}
 use Rattle.station.specs.Attachment.{wrongSeat, described}
-use Rattle.station.proofs.Orders.{first-append, first-early, positive-append, accepts-exactly, refuses-exactly}
 use Rattle.station.proofs.Attachments.{under-high}
 use Rattle.station.proofs.Kcb.{kcb-used}
 use Rattle.walk.specs.declared.Walk.{Walk}
@@ -30,6 +28,7 @@ use Rattle.walk.specs.declared.OpenAnswer.the-variants.{Opened, Refused}
 use Rattle.walk.specs.Offsets.{walkAt}
 use Rattle.walk.specs.Orders.{withOffsets, standing, variadicOrder, openOrder, openRefusal}
 use Rattle.walk.specs.Steps.{openedIf, openWalk, openAnswer}
+use Rattle.form.proofs.Order.{first-behind, first-before, positive-append, accepts-exactly, refuses-exactly}
 
 -- ---- as an answer
 
@@ -50,11 +49,11 @@ module _ (P : Paper) (d : List ℕ) where
 module _ (P : Paper) (d : List ℕ) where
   pub variadic-early : verdictOf P d ≢ 0 → first (variadicOrder P d) ≡ verdictOf P d
   unfolding verdictOf
-  variadic-early h = first-early (P .order d) (rule 16 (not (P .variadic d)) ∷ []) h
+  variadic-early h = first-before (P .order d) (rule 16 (not (P .variadic d)) ∷ []) h
 
   pub variadic-late : verdictOf P d ≡ 0 → first (variadicOrder P d) ≡ cond (not (P .variadic d)) 16 0
   unfolding verdictOf
-  variadic-late e = first-append (P .order d) (rule 16 (not (P .variadic d)) ∷ []) (P .counted d) e
+  variadic-late e = first-behind (P .order d) (rule 16 (not (P .variadic d)) ∷ []) (P .counted d) e
 
 pub plain-16 : (d : List ℕ) (b : ℕ) → verdictOf kcb d ≡ 0 → b ≡ variadicIn d → b ≢ 1 → first (variadicOrder kcb d) ≡ 16
 unfolding kcb

@@ -27,7 +27,7 @@ use Rattle.layout.proofs.Layouts.{asks-at}
 use Rattle.station.specs.declared.Station.{Station}
 use Rattle.station.specs.Paper.{Paper, kcb, verdictOf, arguments, shapeAt, typeAt, usedAt, areaOf}
 use Rattle.station.specs.Attachment.{wrongSeat, described}
-use Rattle.station.proofs.Orders.{first-rest, first-part, or-false}
+use Rattle.station.proofs.Orders.{first-rest, or-false}
 use Rattle.station.proofs.Kcb.{kcb-registers, kcb-verdict, kcb-arguments, kcb-used, kcb-shape}
 use Rattle.walk.specs.declared.Walk.{Walk}
 use Rattle.walk.specs.declared.Fetch.{Fetch}
@@ -37,6 +37,7 @@ use Rattle.walk.specs.Orders.{Ask, offsetsOf, withOffsets, standing, wro
 use Rattle.walk.specs.Asks.{Reached, Within}
 use Rattle.walk.proofs.Agreement.{read-agrees}
 use Rattle.walk.proofs.Checks.{Genuine, astray-not}
+use Rattle.form.proofs.Order.{first-both}
 
 module _ (P : Paper) where
   -- the order read back: none of its conditions holds
@@ -57,7 +58,7 @@ module _ (P : Paper) where
       let x = first-rest 10 (wrongSeat s seat || wrongRegisters P a) _ e in
       let xs = or-false (wrongSeat s seat) (wrongRegisters P a) (x .0) in
       let y = first-rest 12 (not (s .attached)) _ (x .1) in
-      let z = first-part (P .order d)
+      let z = first-both (P .order d)
       (rule 17 (otherNumber s w) ∷ rule 18 (astray P d w) ∷ rule 19 (atEnd P d w) ∷ rule 20 (otherType P d w a) ∷ late) (P .counted d) (y .1) in
       let n = first-rest 16 (otherNumber s w) _ (z .1) in
       let o = first-rest 17 (astray P d w) _ (n .1) in

@@ -9,7 +9,7 @@ use lib.Dec.{eqb}
 use lib.ListN.{length}
 use borrow.Author.Tests.{eqb-true}
 use Rattle.addresses.specs.Addresses.{gather}
-use Rattle.form.specs.Order.{Rule, rule, first}
+use Rattle.form.specs.Order.{Rule, rule, first, Positive}
 use Rattle.form.specs.Reading.{refusalOf}
 use Rattle.form.specs.declared.Refusal.{Refusal}
 use Rattle.places.specs.declared.Shape.{Shape as Coded}
@@ -19,7 +19,6 @@ use Rattle.station.specs.declared.Station.{Station}
 use Rattle.station.specs.Paper.{Paper, kcb, refusalUnder, shapeAt}
 use Rattle.station.specs.Attachment.{wrongSeat, described}
 use Rattle.station.proofs.Attachments.{under-none, under-high}
-use Rattle.station.specs.Outcome.{Positive}
 use Rattle.station.proofs.Orders.{kept, left}
 use Rattle.walk.specs.declared.Walk.{Walk}
 use Rattle.walk.specs.declared.Fetch.{Fetch}

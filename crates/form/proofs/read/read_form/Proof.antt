@@ -24,7 +24,7 @@ returns c = rw (← c .before .before .form-refusal .ensures, eq-eqb _ _ (c .bef
 
 first-broken-requires : tie.Need-first-broken-requires
 unfolding formRefusal
-first-broken-requires c κs = six-whole _ [] (sym (c .before .before .form-refusal .ensures) ∙ c .if2 .taken)
+first-broken-requires c κs = six-whole _ [] tt (sym (c .before .before .form-refusal .ensures) ∙ c .if2 .taken)
 
 refusal-at-requires : tie.Need-refusal-at-requires
 unfolding formRefusal
@@ -32,7 +32,7 @@ refusal-at-requires c κs =
     omega (
       arith,
       c .first-broken .ensures,
-      six-known (now (c .before .before .before .before .before .args .d)) [] (sym (c .before .before .before .form-refusal .ensures) ∙ c .before .if2 .taken),
+      six-known (now (c .before .before .before .before .before .args .d)) [] tt (sym (c .before .before .before .form-refusal .ensures) ∙ c .before .if2 .taken),
     )
 
 returns-2 : tie.Need-returns-2
