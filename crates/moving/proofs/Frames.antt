@@ -122,9 +122,9 @@ module _ (F : Frame) where
     places-back img l b = (
       λ e k m u. ap (λ (x : List ℕ). getD x k 0) (sym e) ∙ placed-zero (ownAddress F img) (gatheredIn F img) k u,
       λ z. placed-whole (ownAddress F img) (gatheredIn F img)
-      ∙ ap (λ (x : List ℕ). scatter (replicate (F .long) 0) all x)
-      (ap (λ (x : List ℕ). x ++ gather img (F .places)) (sym (own-bytes img b)) ∙ sym (gather-append (F .address) (F .places) img))
-      ∙ again img l z,
+          ∙ ap (λ (x : List ℕ). scatter (replicate (F .long) 0) all x)
+          (ap (λ (x : List ℕ). x ++ gather img (F .places)) (sym (own-bytes img b)) ∙ sym (gather-append (F .address) (F .places) img))
+          ∙ again img l z,
     )
 
     never-shared : NeverShared F

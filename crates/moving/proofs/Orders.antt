@@ -22,9 +22,22 @@ use Rattle.layout.proofs.Verdict.{check-positive}
 
 -- 1 to 10 are no other number
 pub check-without : (d : List ℕ) (n : ℕ) → 10 < n → Without n (checkOrder d)
-check-without d n l =
-    ((λ z. omega arith), ((λ z. omega arith), ((λ z. omega arith), ((λ z. omega arith), ((λ z. omega arith),
-    ((λ z. omega arith), ((λ z. omega arith), ((λ z. omega arith), ((λ z. omega arith), ((λ z. omega arith), tt))))))))))
+check-without d n l = (
+  (λ z. omega arith),
+  (
+    (λ z. omega arith),
+    (
+      (λ z. omega arith),
+      (
+        (λ z. omega arith),
+        (
+          (λ z. omega arith),
+          ((λ z. omega arith), ((λ z. omega arith), ((λ z. omega arith), ((λ z. omega arith), ((λ z. omega arith), tt))))),
+        ),
+      ),
+    ),
+  ),
+)
 
 module _ (d : List ℕ) where
   -- ---- the lengths
