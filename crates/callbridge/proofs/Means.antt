@@ -14,7 +14,7 @@ use Rattle.station.specs.Outcome.{leaves}
 use Rattle.flat.specs.Records.{layoutOf}
 use Rattle.flat.specs.Meanings.{placementMeant, layoutMeant}
 use Rattle.flat.proofs.Kept.{placements-mean, layout-means}
-use Rattle.flat.specs.Lists.{flatAt}
+use Rattle.c_calls.specs.LayoutCalls.{flatAt}
 use Rattle.callbridge.specs.Interface.{ListMeans, SummaryMeans}
 use Rattle.callbridge.proofs.Told.{layout-told}
 

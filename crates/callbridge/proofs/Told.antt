@@ -29,11 +29,11 @@ use Rattle.station.specs.Paper.{shapeAt}
 use Rattle.walk.specs.Offsets.{Source, fromRegisters, fromStack, readAt}
 use Rattle.walk.specs.Show.{onePiece, headOf, partIn, shownIn, shownAnswer}
 use Rattle.flat.specs.declared.Part.{Part}
-use Rattle.flat.specs.Outcome.{Outcome, gives, refuses}
-use Rattle.flat.specs.Given.{extentGiven, classesGiven, runGiven, layoutGiven}
-use Rattle.flat.specs.Handed.{placedGiven, gatheredGiven}
-use Rattle.flat.specs.Walked.{openGiven, shownGiven}
-use Rattle.flat.specs.Lists.{listGiven}
+use Rattle.c_calls.specs.Outcome.{Outcome, gives, refuses}
+use Rattle.c_calls.specs.TypeCalls.{extentGiven, classesGiven, runGiven}
+use Rattle.c_calls.specs.LayoutCalls.{layoutGiven, listGiven}
+use Rattle.c_calls.specs.MovingCalls.{placedGiven, gatheredGiven}
+use Rattle.c_calls.specs.WalkCalls.{openGiven, shownGiven}
 use Rattle.callbridge.specs.Interface.{Tells, ExtentTold, ClassesTold, runOf, RunTold, LayoutTold, ListTold, PlacedTold, GatheredTold, OpenTold, partOf, ShownTold}
 
 -- an outcome that is told by a number

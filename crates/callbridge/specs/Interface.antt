@@ -38,11 +38,11 @@ use Rattle.flat.specs.declared.Layout.{Layout}
 use Rattle.flat.specs.Records.{layoutOf}
 use Rattle.flat.specs.Parts.{nowhere, ofDescription, ofRegisters, ofStack}
 use Rattle.flat.specs.Meanings.{placementMeant, layoutMeant}
-use Rattle.flat.specs.Outcome.{Outcome, refusalIn, leftIn}
-use Rattle.flat.specs.Given.{extentGiven, classesGiven, runGiven, layoutGiven}
-use Rattle.flat.specs.Handed.{placedGiven, gatheredGiven}
-use Rattle.flat.specs.Walked.{openGiven, shownGiven}
-use Rattle.flat.specs.Lists.{flatAt, listGiven}
+use Rattle.c_calls.specs.Outcome.{Outcome, refusalIn, leftIn}
+use Rattle.c_calls.specs.TypeCalls.{extentGiven, classesGiven, runGiven}
+use Rattle.c_calls.specs.LayoutCalls.{layoutGiven, flatAt, listGiven}
+use Rattle.c_calls.specs.MovingCalls.{placedGiven, gatheredGiven}
+use Rattle.c_calls.specs.WalkCalls.{openGiven, shownGiven}
 
 -- a call about the description d answers the number n, with the type that it names; it leaves the new record where n is 0, and where it is not the record that was lent
 pub record Tells {A : Type 0} (o : Outcome A) (d : List ℕ) (n : ℕ) (new : A) : Type 0 where
@@ -74,12 +74,12 @@ ListTold = (d : List ℕ) (room : ℕ) → Tells (listGiven d room) d (listRefus
 
 -- cb_place_values, cb_gather_values
 abbrev pub PlacedTold : Type 0
-PlacedTold = (d vals : List ℕ) (registers stack : ℕ)
-    → Tells (placedGiven (placeAnswer d vals registers stack)) d (placeRefusal d vals registers stack) (record { vector = usedAt d (argumentsIn d) .vector })
+PlacedTold = (d values : List ℕ) (registersLength stackLength : ℕ)
+    → Tells (placedGiven (placeAnswer d values registersLength stackLength)) d (placeRefusal d values registersLength stackLength) (record { vector = usedAt d (argumentsIn d) .vector })
 
 abbrev pub GatheredTold : Type 0
-GatheredTold = (d r s : List ℕ) (values : ℕ)
-    → Tells (gatheredGiven (gatherAnswer d r s values)) d (gatherRefusal d values (length r) (length s)) (record { hidden = hiddenIn d (r ++ s) })
+GatheredTold = (d r s : List ℕ) (valuesLength : ℕ)
+    → Tells (gatheredGiven (gatherAnswer d r s valuesLength)) d (gatherRefusal d valuesLength (length r) (length s)) (record { hidden = hiddenIn d (r ++ s) })
 
 -- cb_open_walk, cb_show
 abbrev pub OpenTold : Type 0

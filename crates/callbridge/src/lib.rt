@@ -30,12 +30,12 @@ ghost use Rattle.walk.specs.Orders.{asking, stepRefusal};
 ghost use Rattle.walk.specs.Steps.{openAnswer, stepWalk, stepOut};
 ghost use Rattle.walk.specs.Show.{shownAnswer};
 ghost use Rattle.listing.specs.Listing.{listing};
-ghost use Rattle.flat.specs.Outcome.{refusalIn, leftIn};
-ghost use Rattle.flat.specs.Given.{extentGiven, classesGiven, runGiven, layoutGiven};
-ghost use Rattle.flat.specs.Handed.{placedGiven, gatheredGiven};
-ghost use Rattle.flat.specs.Brought.{putGiven, takenGiven};
-ghost use Rattle.flat.specs.Walked.{openGiven, shownGiven};
-ghost use Rattle.flat.specs.Lists.{listGiven, flatAt};
+ghost use Rattle.c_calls.specs.Outcome.{refusalIn, leftIn};
+ghost use Rattle.c_calls.specs.TypeCalls.{extentGiven, classesGiven, runGiven};
+ghost use Rattle.c_calls.specs.LayoutCalls.{layoutGiven, listGiven, flatAt};
+ghost use Rattle.c_calls.specs.MovingCalls.{placedGiven, gatheredGiven};
+ghost use Rattle.c_calls.specs.ReturningCalls.{putGiven, takenGiven};
+ghost use Rattle.c_calls.specs.WalkCalls.{openGiven, shownGiven};
 
 // CB_VERSION.
 #[no_mangle]
@@ -59,7 +59,7 @@ pub extern "C" fn cb_type_extent(d: &[u8], asked: u8, extent: &mut Extent) -> Re
     ensures { λ r. ⌜ (r ≡ refusalIn (extentGiven (extentAnswer (now (d .entry)) asked)))
         × (now (extent .exit) ≡ leftIn (extentGiven (extentAnswer (now (d .entry)) asked)) (now (extent .entry))) ⌝ }
 {
-    let given = flat::give_extent(d, asked, *extent);
+    let given = c_calls::type_extent(d, asked, *extent);
     *extent = given.extent;
     given.refusal
 }
@@ -70,7 +70,7 @@ pub extern "C" fn cb_type_classes(d: &[u8], asked: u8, classes: &mut Classes) ->
     ensures { λ r. ⌜ (r ≡ refusalIn (classesGiven (classesAnswer (now (d .entry)) asked)))
         × (now (classes .exit) ≡ leftIn (classesGiven (classesAnswer (now (d .entry)) asked)) (now (classes .entry))) ⌝ }
 {
-    let given = flat::give_classes(d, asked, *classes);
+    let given = c_calls::type_classes(d, asked, *classes);
     *classes = given.classes;
     given.refusal
 }
@@ -81,7 +81,7 @@ pub extern "C" fn cb_member_run(d: &[u8], asked: u8, part: &mut Part) -> Refusal
     ensures { λ r. ⌜ (r ≡ refusalIn (runGiven (runAnswer (now (d .entry)) asked)))
         × (now (part .exit) ≡ leftIn (runGiven (runAnswer (now (d .entry)) asked)) (now (part .entry))) ⌝ }
 {
-    let given = flat::give_run(d, asked, *part);
+    let given = c_calls::member_run(d, asked, *part);
     *part = given.part;
     given.refusal
 }
@@ -92,7 +92,7 @@ pub extern "C" fn cb_layout_of(d: &[u8], layout: &mut Layout) -> Refusal
     ensures { λ r. ⌜ (r ≡ refusalIn (layoutGiven (argumentsIn (now (d .entry))) (layoutAnswer (now (d .entry)))))
         × (now (layout .exit) ≡ leftIn (layoutGiven (argumentsIn (now (d .entry))) (layoutAnswer (now (d .entry)))) (now (layout .entry))) ⌝ }
 {
-    let given = flat::give_layout(d, *layout);
+    let given = c_calls::layout_of(d, *layout);
     *layout = given.layout;
     given.refusal
 }
@@ -104,13 +104,13 @@ pub extern "C" fn cb_lay_out(d: &[u8], layout: &mut Layout, list: &mut [Placemen
         × ((now (layout .exit) ≡ leftIn (listGiven (now (d .entry)) (length (now (list .entry)))) (now (layout .entry)))
         × (now (list .exit) ≡ filled (flatAt (now (d .entry))) (listCount (now (d .entry)) (length (now (list .entry)))) (now (list .entry)))) ⌝ }
 {
-    let head = flat::begin_list(d, *layout, list.len());
+    let head = c_calls::begin_list(d, *layout, list.len());
     *layout = head.layout;
     let n = head.count;
     let mut used = head.used;
     let mut i = 0;
     while i < n {
-        let step = flat::place_flat(d, used, i, head);
+        let step = c_calls::place_flat(d, used, i, head);
         list[i] = step.placement;
         used = step.used;
         i += 1;
@@ -142,7 +142,7 @@ pub extern "C" fn cb_place_values(
         × ((now (registers .exit) ≡ registersAfter (now (d .entry)) hidden (now (values .entry)) (now (registers .entry)) (now (stack .entry)))
         × (now (stack .exit) ≡ stackAfter (now (d .entry)) hidden (now (values .entry)) (now (registers .entry)) (now (stack .entry))))) ⌝ }
 {
-    let given = flat::give_placed(d, hidden, values, registers, stack, *placed);
+    let given = c_calls::place_values(d, hidden, values, registers, stack, *placed);
     *placed = given.placed;
     given.refusal
 }
@@ -160,7 +160,7 @@ pub extern "C" fn cb_gather_values(
         × ((now (gathered .exit) ≡ leftIn (gatheredGiven (gatherAnswer (now (d .entry)) (now (registers .entry)) (now (stack .entry)) (length (now (values .entry))))) (now (gathered .entry)))
         × (now (values .exit) ≡ valuesAfter (now (d .entry)) (now (registers .entry)) (now (stack .entry)) (now (values .entry)))) ⌝ }
 {
-    let given = flat::give_gathered(d, registers, stack, values, *gathered);
+    let given = c_calls::gather_values(d, registers, stack, values, *gathered);
     *gathered = given.gathered;
     given.refusal
 }
@@ -171,7 +171,7 @@ pub extern "C" fn cb_put_returned(d: &[u8], hidden: u64, value: &[u8], image: &m
     ensures { λ r. ⌜ (r ≡ putGiven (putAnswer (now (d .entry)) (now (value .entry)) (length (now (image .entry)))))
         × (now (image .exit) ≡ imageAfter (now (d .entry)) hidden (now (value .entry)) (now (image .entry))) ⌝ }
 {
-    flat::give_put(d, hidden, value, image)
+    c_calls::put_returned(d, hidden, value, image)
 }
 
 // A returned value out of the return image.
@@ -186,7 +186,7 @@ pub extern "C" fn cb_take_returned(
         × ((now (gathered .exit) ≡ leftIn (takenGiven (takeAnswer (now (d .entry)) (now (image .entry)) (length (now (value .entry))))) (now (gathered .entry)))
         × (now (value .exit) ≡ valueAfter (now (d .entry)) (now (image .entry)) (now (value .entry)))) ⌝ }
 {
-    let given = flat::give_taken(d, image, value, *gathered);
+    let given = c_calls::take_returned(d, image, value, *gathered);
     *gathered = given.gathered;
     given.refusal
 }
@@ -206,7 +206,7 @@ pub extern "C" fn cb_attach(station: &mut Station, seat: &mut [u8], d: &[u8]) ->
         × (now (station .exit) ≡ attachStation kcb (now (station .entry)) (now (seat .entry)) (now (d .entry)))
         × (now (seat .exit) ≡ attachSeat kcb (now (station .entry)) (now (seat .entry)) (now (d .entry))) ⌝ }
 {
-    let after = station::attaching(*station, seat, d);
+    let after = station::attach_by_value(*station, seat, d);
     *station = after.station;
     after.refusal
 }
@@ -218,7 +218,7 @@ pub extern "C" fn cb_detach(station: &mut Station, seat: &mut [u8]) -> Refusal
         × (now (station .exit) ≡ detachStation (now (station .entry)) (now (seat .entry)))
         × (now (seat .exit) ≡ detachSeat (now (station .entry)) (now (seat .entry))) ⌝ }
 {
-    let after = station::detaching(*station, seat);
+    let after = station::detach_by_value(*station, seat);
     *station = after.station;
     after.refusal
 }
@@ -229,7 +229,7 @@ pub extern "C" fn cb_open_walk(station: &Station, seat: &[u8], walk: &mut Walk) 
     ensures { λ r. ⌜ (r ≡ refusalIn (openGiven (openAnswer kcb (now (station .entry)) (now (seat .entry)))))
         × (now (walk .exit) ≡ leftIn (openGiven (openAnswer kcb (now (station .entry)) (now (seat .entry)))) (now (walk .entry))) ⌝ }
 {
-    let given = flat::give_walk(*station, seat, *walk);
+    let given = c_calls::open_walk(*station, seat, *walk);
     *walk = given.walk;
     given.refusal
 }
@@ -249,7 +249,7 @@ pub extern "C" fn cb_step(
         × (now (walk .exit) ≡ stepWalk kcb (now (station .entry)) (now (seat .entry)) (now (walk .entry)) (asking (now (registers .entry)) (now (stack .entry)) asked (now (out .entry))))
         × (now (out .exit) ≡ stepOut kcb (now (station .entry)) (now (seat .entry)) (now (walk .entry)) (asking (now (registers .entry)) (now (stack .entry)) asked (now (out .entry)))) ⌝ }
 {
-    let after = walk::stepping(*station, seat, *walk, registers, stack, asked, out);
+    let after = walk::step_by_value(*station, seat, *walk, registers, stack, asked, out);
     *walk = after.walk;
     after.refusal
 }
@@ -268,7 +268,7 @@ pub extern "C" fn cb_show(
     ensures { λ r. ⌜ (r ≡ refusalIn (shownGiven (shownAnswer kcb (now (station .entry)) (now (seat .entry)) (now (walk .entry)) (asking (now (registers .entry)) (now (stack .entry)) asked []))))
         × (now (part .exit) ≡ leftIn (shownGiven (shownAnswer kcb (now (station .entry)) (now (seat .entry)) (now (walk .entry)) (asking (now (registers .entry)) (now (stack .entry)) asked []))) (now (part .entry))) ⌝ }
 {
-    let given = flat::give_shown(*station, seat, *walk, registers, stack, asked, *part);
+    let given = c_calls::show(*station, seat, *walk, registers, stack, asked, *part);
     *part = given.part;
     given.refusal
 }

@@ -2,7 +2,7 @@
 use mathlib.Core.List.{List, [], _∷_, _++_}
 use Prim.Native.Nat.{ℕ}
 use Prim.Native.String.{String}
-use Rattle.text.specs.Characters.{bytes}
+use Rattle.listing.specs.Characters.{bytes}
 use Rattle.listing.specs.Words.{newline}
 
 -- each line ends with a newline

@@ -1,4 +1,4 @@
-// The two classes of a type: merged eightbyte by eightbyte, and cleaned up after merging (document 01, "Classes of aggregates"; 000 section 3.2.3).
+// The two classes of a type: merged eightbyte by eightbyte, and cleaned up after merging (document 01, "Classes of aggregates").
 use crate::Class;
 ghost use mathlib.Core.Path.{_≡_};
 ghost use Rattle.classes.specs.Classes.{mergeAll};

@@ -1,5 +1,6 @@
-// From member to member of a type, where its classes are worked out: what marks a type that need not be merged again, and where members end.
-use crate::words;
+// The classes of one type where it lies in the whole (document 01, "Classes of aggregates"): each member at its offset in the whole, in member order,
+// each inner aggregate cleaned up first. `classify_type` and `classify_members` call each other; an answer that is finished is looked up.
+use crate::table_words;
 use classes::Class;
 use units::Bytes;
 ghost use mathlib.Core.Path.{_≡_};
@@ -12,22 +13,19 @@ ghost use Rattle.classify.specs.Asks.{AskType, AskElements, AskMembers};
 ghost use Rattle.classify.specs.Table.{unpackedOf, Ready};
 
 // What marks a member type that need not be merged again.
-pub fn mark_for(union: bool) -> u8
+fn mark_for(union: bool) -> u8
     ensures { λ r. ⌜ r ≡ cond union 1 0 ⌝ }
 {
     if union { 1 } else { 0 }
 }
 
 // Where members end that ended at `end`, once one of `size` bytes at `offset` is there too.
-pub fn end_past(end: Bytes, offset: Bytes, size: Bytes) -> Bytes
+fn end_past(end: Bytes, offset: Bytes, size: Bytes) -> Bytes
     requires { ⌜ offset .0 + size .0 ≤ 2 ^ 63 ⌝ }
     ensures { λ r. ⌜ r .0 ≡ max (end .0) (offset .0 + size .0) ⌝ }
 {
     units::larger(end, units::plus(offset, size))
 }
-
-// The classes of one type, where it lies in the whole (document 01, "Classes of aggregates"): each member at its offset in the whole, in member order, each inner aggregate cleaned up first.
-// An answer that is finished is looked up.
 
 // The answer for type k at offset `at` where it is known, or 0. The entries of the types below `done` have their classes, which are
 // those at offset 0. A type that lies in one eightbyte has one class, wherever it lies in it; other answers are finished ones.
@@ -58,7 +56,7 @@ fn look_up(
         return first;
     }
     if offset < 8 {
-        return words::wide(finished[8 * k + offset]);
+        return table_words::wide(finished[8 * k + offset]);
     }
     if offset + size <= 16 {
         return 64 + 8 * (first % 8);
@@ -80,7 +78,7 @@ fn classify_type(
 {
     let packed = look_up(d, k, at, table, finished, done);
     if 0 < packed {
-        return words::unpack(packed);
+        return table_words::unpack(packed);
     }
     work_out(d, k, at, table, finished, done)
 }
@@ -100,7 +98,7 @@ pub fn work_out(
     let kind = description::kind_at(d, k);
     let a = description::a_at(d, k);
     if kind == 0 {
-        return words::basic_at(a, at);
+        return table_words::basic_at(a, at);
     }
     let count = description::count_at(d, k);
     if kind == 1 {

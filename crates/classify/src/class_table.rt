@@ -1,7 +1,7 @@
 // The classes of all types of a description (document 01, "Classes of aggregates"), put into the table of types.
 // They are worked out from number 0 upward, and each answer that is finished is looked up from then on: no description takes long.
 use crate::aggregates;
-use crate::words;
+use crate::table_words;
 use classes::Class;
 use units::Bytes;
 ghost use mathlib.Core.Path.{_≡_};
@@ -22,10 +22,10 @@ fn aggregate_word(d: &[u8], k: usize, table: &[u32; 64], finished: &[u8; 512]) -
 {
     let extent = types::extent_in(table, k);
     if units::over(extent.size, Bytes(16)) {
-        return words::word_of([Class::Memory, Class::NoClass]);
+        return table_words::word_of([Class::Memory, Class::NoClass]);
     }
     let classes = aggregates::work_out(d, k, Bytes(0), table, finished, k);
-    words::word_of(classes)
+    table_words::word_of(classes)
 }
 
 // The same of any type.
@@ -38,7 +38,7 @@ fn word_at(d: &[u8], k: usize, table: &[u32; 64], finished: &[u8; 512]) -> u32
         return aggregate_word(d, k, table, finished);
     }
     let code = description::a_at(d, k);
-    words::basic_word(code)
+    table_words::basic_word(code)
 }
 
 // The finished answer for type k at offset `at`.
@@ -47,7 +47,7 @@ fn finish_at(d: &[u8], k: usize, at: usize, table: &[u32; 64], finished: &mut [u
     ensures { λ _. ⌜ Right (now (d .entry)) (now (finished .exit)) ⌝ }
 {
     let classes = aggregates::work_out(d, k, Bytes(at), table, finished, k);
-    finished[8 * k + at] = words::pack(classes);
+    finished[8 * k + at] = table_words::pack(classes);
 }
 
 // The finished answers for type k: at each offset at which it lies in both eightbytes; a basic type needs none.
@@ -88,7 +88,7 @@ pub fn fill_classes(d: &[u8], table: &mut [u32; 64])
     while k < types {
         finish(d, k, table, &mut finished);
         let word = word_at(d, k, table, &finished);
-        table[k] = words::with_word(table[k], word);
+        table[k] = table_words::with_word(table[k], word);
         k += 1;
     }
 }

@@ -2,9 +2,3 @@ pub mod Numbers
 pub mod Records
 pub mod Meanings
 pub mod Parts
-pub mod Outcome
-pub mod Given
-pub mod Lists
-pub mod Handed
-pub mod Brought
-pub mod Walked

@@ -1,39 +1,13 @@
-// The flat records of the C interface (include/callbridge.h): plain numbers for what the library answers by enums, and what they
-// mean, as definitions and laws; `records` and `records` make them.
-pub use layout_calls::FlatStep;
-pub use layout_calls::GivenLayout;
-pub use layout_calls::ListBegun;
-pub use layout_calls::begin_list;
-pub use layout_calls::give_layout;
-pub use layout_calls::place_flat;
-pub use moving_calls::Gathered;
-pub use moving_calls::GivenGathered;
-pub use moving_calls::GivenPlaced;
-pub use moving_calls::Placed;
-pub use moving_calls::give_gathered;
-pub use moving_calls::give_placed;
-pub use returning_calls::give_put;
-pub use returning_calls::give_taken;
-pub use type_calls::GivenClasses;
-pub use type_calls::GivenExtent;
-pub use type_calls::GivenPart;
-pub use type_calls::give_classes;
-pub use type_calls::give_extent;
-pub use type_calls::give_run;
-pub use walk_calls::GivenShown;
-pub use walk_calls::GivenWalk;
-pub use walk_calls::give_shown;
-pub use walk_calls::give_walk;
+// The records of the C interface (include/callbridge.h): plain numbers for what the library answers by enums, and what each number means
+// (specs/Numbers, specs/Meanings).
+pub use records::layout_of;
+pub use records::placement_of;
 
 mod records; // the flat record of one argument, and of a call as a whole
-mod type_calls; // the C calls about types, by value
-mod layout_calls; // the C calls for the layout and the list, by value
-mod moving_calls; // the C calls that place and gather, by value
-mod returning_calls; // the C calls that bring a result back, by value
-mod walk_calls; // the C calls that open a walk and show an argument, by value
 
 use places::Used;
 use units::Bytes;
+use units::Registers;
 ghost use mathlib.Core.Path.{_≡_};
 
 // cb_classes: a number of enum cb_class for each eightbyte.
@@ -75,6 +49,18 @@ pub struct Layout {
     pub hidden: u8,
 }
 
+// cb_placed: the vector count, for al.
+#[repr(C)]
+pub struct Placed {
+    pub vector: Registers,
+}
+
+// cb_gathered: the hidden address, of the arguments or of a returned value, 0 where none is used.
+#[repr(C)]
+pub struct Gathered {
+    pub hidden: u64,
+}
+
 // A place in numbers.
 pub struct Slot {
     pub first: u8,
@@ -87,8 +73,6 @@ pub struct Pair {
     pub first: u8,
     pub second: u8,
 }
-
-// The version of the C interface.
 
 // CB_VERSION: the version of the header that has these records.
 pub fn version() -> u32

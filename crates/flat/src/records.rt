@@ -1,4 +1,4 @@
-// The flat record of one argument (include/callbridge.h): its place in plain numbers.
+// The flat records of include/callbridge.h, made of what the library answers: places and registers in plain numbers.
 use crate::Layout;
 use crate::Pair;
 use crate::Placement;
@@ -23,7 +23,7 @@ fn general_number(n: usize) -> u8
 }
 
 // xmm0 to xmm7 are 16 to 23, their upper halves 32 to 39.
-pub fn vector_number(first: u8, n: usize) -> u8
+fn vector_number(first: u8, n: usize) -> u8
     requires { ⌜ first ≤ 32 ⌝ }
     ensures { λ r. ⌜ r ≡ vectorNumber first n ⌝ }
 {
@@ -85,7 +85,7 @@ pub fn placement_of(argument: layout::Placement) -> Placement
     }
 }
 
-// The flat record of a call as a whole (include/callbridge.h, cb_layout), with its return registers by number.
+// ---- the return place, and the call as a whole
 
 // rax is 6, and rdx is rdx.
 fn back_number(n: usize) -> u8

@@ -1,4 +1,4 @@
-// What a description's header says of itself: conditions 2 to 5 of document 01, "Refusal numbers", each found out of bytes that have a header.
+// Conditions 2 to 6 of document 01, "Refusal numbers", each by itself: 2 to 5 of bytes that have a header, 6 of each type record.
 ghost use mathlib.Core.Path.{_≡_};
 ghost use Prim.Native.Nat.{_≤_, _+_, _<_};
 ghost use lib.ListN.{length};
@@ -66,7 +66,7 @@ pub fn wrong_length(d: &[u8]) -> bool
     d.len() != 11 + 4 * types + members + arguments
 }
 
-// The records of a description's types (document 01, "Refusal numbers", 6): which is the first against the rules.
+// ---- 6: the type records
 
 fn broken_basic(code: usize, count: usize) -> bool
     ensures { λ r. ⌜ r ≡ brokenBasic code count ⌝ }

@@ -1,4 +1,4 @@
-// Reading the form of a description: which of the refusals 1 to 6 it gets, of any bytes, in their order (document 01, "Refusal numbers").
+// Reading the form of any bytes: the refusals 1 to 6 in their order, or the header (document 01, "Refusal numbers").
 use crate::Reading;
 use crate::conditions;
 ghost use mathlib.Core.Path.{_≡_};

@@ -16,7 +16,7 @@ use Rattle.types.specs.Large.{large, tooLarge}
 use Rattle.types.specs.Size.{offsetAfter, endAfter, widest, sizeTy, alignTy}
 use Rattle.classes.specs.Classes.{same, isX87, mergeOf, mergeAll}
 use Rattle.classes.specs.CleanUp.{upAlone, settled, cleanUp}
-use Rattle.classify.specs.Classify.{firstClass, secondClass, gap, put as putClass, basicAt, elementsAt, classesAt, classesOf}
+use Rattle.classify.specs.Classify.{firstClass, secondClass, gap, oneClass, basicAt, elementsAt, classesAt, classesOf}
 use Rattle.uses.specs.Uses.{wrongNumber, wrongReturn, wrongUse, narrow, narrowUnnamed}
 use Rattle.places.specs.Shapes.{kindsOf, shapeOf}
 use Rattle.places.specs.Places.{enough, fits, start, place, next, area}
@@ -28,7 +28,7 @@ use Rattle.station.specs.Attachment.{newStation, wrongSeat, described, seatOf, 
 use Rattle.walk.specs.Offsets.{holds, raised, readAt, step, walkAt}
 use Rattle.walk.specs.Orders.{wrongRegisters, otherNumber, standing, openRefusal, astray, atEnd, otherType, wrongStack, wrongOut, stepRefusal, showRefusal}
 use Rattle.walk.specs.Steps.{openWalk, bytesAt, movedOn, stepWalk, stepOut}
-use Rattle.histories.specs.Calls.{put}
+use Rattle.histories.specs.Calls.{withWalk}
 use Rattle.histories.specs.Values.{blank, imagesFor}
 use Rattle.histories.specs.Accident.{lister, other, damaged, history, Plays}
 
@@ -52,5 +52,5 @@ pub damaged-bytes : IsBytes damaged
 damaged-bytes = small-bytes damaged refl
 
 pub accident-plays : Plays (history lister-bytes other-bytes damaged-bytes)
-unfolding raise eightbytesIn headerOf kindAt aAt countAt memberAt argumentAt tooShort wrongMark wrongVersion wrongCounts wrongLength brokenBasic brokenArray brokenRun brokenRecord wrongRecord firstFrom basicSize basicAlign tysFrom tyBy tyAt large tooLarge offsetAfter endAfter widest sizeTy alignTy same isX87 mergeOf mergeAll upAlone settled cleanUp firstClass secondClass gap putClass basicAt elementsAt classesAt classesOf wrongNumber wrongReturn wrongUse narrow narrowUnnamed kindsOf shapeOf enough fits start place next area hiddenBy layoutShape shapesFrom isVoid hidden layoutArea wideArea verdictOf arguments shapeAt typeAt usedAt areaOf kcb newStation wrongSeat described seatOf detachRefusal detachStation detachSeat attachRefusal attachStation attachSeat holds raised readAt step walkAt wrongRegisters otherNumber standing openRefusal astray atEnd otherType wrongStack wrongOut stepRefusal showRefusal openWalk bytesAt movedOn stepWalk stepOut put blank imagesFor
+unfolding raise eightbytesIn headerOf kindAt aAt countAt memberAt argumentAt tooShort wrongMark wrongVersion wrongCounts wrongLength brokenBasic brokenArray brokenRun brokenRecord wrongRecord firstFrom basicSize basicAlign tysFrom tyBy tyAt large tooLarge offsetAfter endAfter widest sizeTy alignTy same isX87 mergeOf mergeAll upAlone settled cleanUp firstClass secondClass gap oneClass basicAt elementsAt classesAt classesOf wrongNumber wrongReturn wrongUse narrow narrowUnnamed kindsOf shapeOf enough fits start place next area hiddenBy layoutShape shapesFrom isVoid hidden layoutArea wideArea verdictOf arguments shapeAt typeAt usedAt areaOf kcb newStation wrongSeat described seatOf detachRefusal detachStation detachSeat attachRefusal attachStation attachSeat holds raised readAt step walkAt wrongRegisters otherNumber standing openRefusal astray atEnd otherType wrongStack wrongOut stepRefusal showRefusal openWalk bytesAt movedOn stepWalk stepOut withWalk blank imagesFor
 accident-plays = record { answer = refl; whole = refl; parted = refl }

@@ -14,7 +14,7 @@ use Rattle.station.specs.Paper.{Paper}
 use Rattle.station.specs.Attachment.{newStation, wrongSeat, described, seatOf, detachRefusal, detachStation, detachSeat, attachRefusal, attachStation, attachSeat}
 use Rattle.station.proofs.Attachments.{detach-left, detach-done, attach-passes, attach-left, attach-done}
 use Rattle.histories.specs.Calls.{Desk, Call, attaching, detaching, opening, stepping, showing, numbering, writing, call, calls, Along, Stays}
-use Rattle.histories.specs.Lawful.{Lawful, Holds, Sound}
+use Rattle.histories.specs.Lawful.{Lawful, Holds, Consistent}
 
 pub length-seatOf : (d : List ℕ) → length d ≤ 586 → length (seatOf d) ≡ 586
 unfolding seatOf
@@ -76,28 +76,28 @@ module _ (P : Paper) where
 
   -- ---- what calls can lead to (C6)
 
-  pub idle-sound : (n : ℕ) (seat : List ℕ) → Sound P (record { attached = false; length = record { 0 = 0 }; number = n }) seat
+  pub idle-sound : (n : ℕ) (seat : List ℕ) → Consistent P (record { attached = false; length = record { 0 = 0 }; number = n }) seat
   idle-sound n seat = record { idle = λ f. refl; busy = λ b. absurd (false≢true b) }
 
-  attach-sound : (k : Desk) (d : List ℕ) → IsBytes d → Sound P (k .station) (k .seat) → Sound P (attachStation P (k .station) (k .seat) d) (attachSeat P (k .station) (k .seat) d)
+  attach-sound : (k : Desk) (d : List ℕ) → IsBytes d → Consistent P (k .station) (k .seat) → Consistent P (attachStation P (k .station) (k .seat) d) (attachSeat P (k .station) (k .seat) d)
   attach-sound k d b h = by (attachRefusal P (k .station) (k .seat) d) refl
     where
-      by : (n : ℕ) → attachRefusal P (k .station) (k .seat) d ≡ n → Sound P (attachStation P (k .station) (k .seat) d) (attachSeat P (k .station) (k .seat) d)
+      by : (n : ℕ) → attachRefusal P (k .station) (k .seat) d ≡ n → Consistent P (attachStation P (k .station) (k .seat) d) (attachSeat P (k .station) (k .seat) d)
       by zero e =
           let held = attach-holds (k .station) (k .seat) d b e in
           record { idle = λ f. absurd (false≢true (sym f ∙ held .attached)); busy = λ t. (d, held) }
       by (suc n) e = unfold attachStation attachSeat in rw e h
 
-  detach-sound : (k : Desk) → Sound P (k .station) (k .seat) → Sound P (detachStation (k .station) (k .seat)) (detachSeat (k .station) (k .seat))
+  detach-sound : (k : Desk) → Consistent P (k .station) (k .seat) → Consistent P (detachStation (k .station) (k .seat)) (detachSeat (k .station) (k .seat))
   detach-sound k h = by (detachRefusal (k .station) (k .seat)) refl
     where
-      by : (n : ℕ) → detachRefusal (k .station) (k .seat) ≡ n → Sound P (detachStation (k .station) (k .seat)) (detachSeat (k .station) (k .seat))
+      by : (n : ℕ) → detachRefusal (k .station) (k .seat) ≡ n → Consistent P (detachStation (k .station) (k .seat)) (detachSeat (k .station) (k .seat))
       by zero e =
           let t = detach-done (k .station) (k .seat) e in
           rw (t .0, t .1) (idle-sound (k .station .number) (replicate 586 0))
       by (suc n) e = unfold detachStation detachSeat in rw e h
 
-  pub call-sound : (k : Desk) (c : Call) → Sound P (k .station) (k .seat) → Sound P (call P k c .station) (call P k c .seat)
+  pub call-sound : (k : Desk) (c : Call) → Consistent P (k .station) (k .seat) → Consistent P (call P k c .station) (call P k c .seat)
   call-sound k (attaching d b) h = attach-sound k d b h
   call-sound k detaching h = detach-sound k h
   call-sound k (opening i) h = h
@@ -106,10 +106,10 @@ module _ (P : Paper) where
   call-sound k (numbering i a) h = h
   call-sound k (writing i w) h = h
 
-  pub calls-sound : (k : Desk) (cs : List Call) → Sound P (k .station) (k .seat) → Sound P (calls P k cs .station) (calls P k cs .seat)
+  pub calls-sound : (k : Desk) (cs : List Call) → Consistent P (k .station) (k .seat) → Consistent P (calls P k cs .station) (calls P k cs .seat)
   calls-sound k [] h = h
   calls-sound k (c ∷ cs) h = calls-sound (call P k c) cs (call-sound k c h)
 
-  pub new-sound : (seat : List ℕ) → Sound P newStation seat
+  pub new-sound : (seat : List ℕ) → Consistent P newStation seat
   unfolding newStation
   new-sound seat = idle-sound 0 seat

@@ -15,11 +15,11 @@ use Rattle.station.proofs.Orders.{left}
 use Rattle.walk.specs.declared.Walk.{Walk}
 use Rattle.walk.specs.Orders.{Ask, openRefusal, stepRefusal}
 use Rattle.walk.specs.Steps.{openWalk, stepWalk, stepOut}
-use Rattle.histories.specs.Calls.{Desk, Call, attaching, detaching, opening, stepping, showing, numbering, writing, put, call, calls, answer, Along, Stays, Until, handedBy, handed, Serves, Served}
+use Rattle.histories.specs.Calls.{Desk, Call, attaching, detaching, opening, stepping, showing, numbering, writing, withWalk, call, calls, answer, Along, Stays, Until, handedBy, handed, Serves, Served}
 use Rattle.histories.specs.Outcomes.{Parted, Unchanged}
 
-put-own : (ws : ℕ → Walk) (i : ℕ) (w : Walk) → w ≡ ws i → (j : ℕ) → put ws i w j ≡ ws j
-unfolding put
+put-own : (ws : ℕ → Walk) (i : ℕ) (w : Walk) → w ≡ ws i → (j : ℕ) → withWalk ws i w j ≡ ws j
+unfolding withWalk
 put-own ws i w e j = by (eqb i j) refl
   where
     by : (b : Bool) → eqb i j ≡ b → cond b w (ws j) ≡ ws j
@@ -38,7 +38,7 @@ refused-unchanged P k (attaching d b) h =
 refused-unchanged P k detaching h =
     record { station = left (detachRefusal (k .station) (k .seat)) _ _ h; seat = left (detachRefusal (k .station) (k .seat)) _ _ h; walks = λ i. refl }
 refused-unchanged P k (opening j) h =
-    record { station = refl; seat = refl; walks = λ i. ap (λ (f : ℕ → Walk). f i) (left (openRefusal P (k .station) (k .seat)) (put (k .walks) j (openWalk P (k .station) (k .seat))) (k .walks) h) }
+    record { station = refl; seat = refl; walks = λ i. ap (λ (f : ℕ → Walk). f i) (left (openRefusal P (k .station) (k .seat)) (withWalk (k .walks) j (openWalk P (k .station) (k .seat))) (k .walks) h) }
 refused-unchanged P k (stepping j a) h =
     record { station = refl; seat = refl; walks = put-own (k .walks) j (stepWalk P (k .station) (k .seat) (k .walks j) a) (step-kept P (k .station) (k .seat) (k .walks j) a h) }
 refused-unchanged P k (showing j a) h = record { station = refl; seat = refl; walks = λ i. refl }

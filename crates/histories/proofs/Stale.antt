@@ -18,8 +18,8 @@ use Rattle.station.proofs.Attachments.{detach-done, attach-passes, attach-done}
 use Rattle.walk.specs.declared.Walk.{Walk}
 use Rattle.walk.specs.Orders.{Ask, wrongRegisters, otherNumber, standing, openRefusal, stepRefusal, showRefusal}
 use Rattle.walk.specs.Steps.{openWalk, movedOn, stepWalk}
-use Rattle.histories.specs.Calls.{Desk, Call, attaching, detaching, opening, stepping, showing, numbering, writing, put, call, calls, attachesBy, attaches, handedBy, handed, Spares}
-use Rattle.histories.specs.Lawful.{Lawful, Sound}
+use Rattle.histories.specs.Calls.{Desk, Call, attaching, detaching, opening, stepping, showing, numbering, writing, withWalk, call, calls, attachesBy, attaches, handedBy, handed, Spares}
+use Rattle.histories.specs.Lawful.{Lawful, Consistent}
 use Rattle.histories.specs.Outcomes.{staleNumber}
 use Rattle.histories.proofs.Attachments.{length-seatOf, idle-sound, call-sound}
 use Rattle.histories.proofs.Walks.{step-held, show-held}
@@ -89,7 +89,7 @@ module _ (P : Paper) where
   call-keeps k (opening j) i h = ap (λ (w : Walk). w .number) (open-other P k i j h)
   call-keeps k (stepping j a) i h = by (eqb i j) refl
     where
-      by : (b : Bool) → eqb i j ≡ b → put (k .walks) j (stepWalk P (k .station) (k .seat) (k .walks j) a) i .number ≡ k .walks i .number
+      by : (b : Bool) → eqb i j ≡ b → withWalk (k .walks) j (stepWalk P (k .station) (k .seat) (k .walks j) a) i .number ≡ k .walks i .number
       by true e =
           let q = eqb-true i j e in
           rw (← q) (ap (λ (w : Walk). w .number) (put-same (k .walks) i (stepWalk P (k .station) (k .seat) (k .walks i) a)) ∙ step-number (k .station) (k .seat) (k .walks i) a)
@@ -108,7 +108,7 @@ module _ (P : Paper) where
     pub low : n ≤ s .number
     pub past : s .attached ≡ true → n < s .number
     pub full : length seat ≡ 586
-    pub sound : Sound P s seat
+    pub sound : Consistent P s seat
 
   attach-gone : Lawful P → (n : ℕ) (k : Desk) (d : List ℕ) (b : IsBytes d) → Gone n (k .station) (k .seat)
       → Gone n (attachStation P (k .station) (k .seat) d) (attachSeat P (k .station) (k .seat) d)

@@ -18,25 +18,25 @@ use Rattle.station.proofs.Orders.{first-rest}
 use Rattle.walk.specs.declared.Walk.{Walk}
 use Rattle.walk.specs.Orders.{Ask, standing, openRefusal, stepRefusal}
 use Rattle.walk.specs.Steps.{openWalk, bytesAt, movedOn, stepWalk, stepOut}
-use Rattle.histories.specs.Calls.{Desk, Call, attaching, detaching, opening, stepping, showing, numbering, writing, put, call, handedBy, Lends, Spares, Serves, Served, Question, asksBy}
+use Rattle.histories.specs.Calls.{Desk, Call, attaching, detaching, opening, stepping, showing, numbering, writing, withWalk, call, handedBy, Lends, Spares, Serves, Served, Question, asksBy}
 use Rattle.histories.specs.Lawful.{Lawful}
 use Rattle.histories.specs.Values.{cut, imagesFor, question}
 use Rattle.histories.specs.Outcomes.{Stands}
 use Rattle.histories.proofs.Attachments.{described-held}
 use Rattle.histories.proofs.Walks.{known, moves-on, reads, lends-right, step-standing}
 
-pub put-same : (ws : ℕ → Walk) (i : ℕ) (w : Walk) → put ws i w i ≡ w
-unfolding put
+pub put-same : (ws : ℕ → Walk) (i : ℕ) (w : Walk) → withWalk ws i w i ≡ w
+unfolding withWalk
 put-same ws i w = rw (eq-eqb i i refl)
 
-pub put-other : (ws : ℕ → Walk) (i j : ℕ) (w : Walk) → i ≢ j → put ws j w i ≡ ws i
-unfolding put
+pub put-other : (ws : ℕ → Walk) (i j : ℕ) (w : Walk) → i ≢ j → withWalk ws j w i ≡ ws i
+unfolding withWalk
 put-other ws i j w h = rw (ne-eqb j i (λ e. h (sym e)))
 
 pub open-other : (P : Paper) (k : Desk) (i j : ℕ) → i ≢ j → call P k (opening j) .walks i ≡ k .walks i
 open-other P k i j h = by (openRefusal P (k .station) (k .seat))
   where
-    by : (n : ℕ) → leaves n (put (k .walks) j (openWalk P (k .station) (k .seat))) (k .walks) i ≡ k .walks i
+    by : (n : ℕ) → leaves n (withWalk (k .walks) j (openWalk P (k .station) (k .seat))) (k .walks) i ≡ k .walks i
     by zero = put-other (k .walks) i j (openWalk P (k .station) (k .seat)) h
     by (suc n) = refl
 

@@ -35,8 +35,8 @@ pub data Call : Type 0 where
   writing : ℕ → Walk → Call
 
 -- the records with w under the name i
-unfoldable pub put : (ℕ → Walk) → ℕ → Walk → ℕ → Walk
-put ws i w j = cond (eqb i j) w (ws j)
+unfoldable pub withWalk : (ℕ → Walk) → ℕ → Walk → ℕ → Walk
+withWalk ws i w j = cond (eqb i j) w (ws j)
 
 -- a station that is new, whatever is in the seat and in the host's records
 abbrev pub newDesk : List ℕ → (ℕ → Walk) → Desk
@@ -53,14 +53,14 @@ module _ (P : Paper) where
       record {
         station = k .station;
         seat = k .seat;
-        walks = leaves (openRefusal P (k .station) (k .seat)) (put (k .walks) i (openWalk P (k .station) (k .seat))) (k .walks);
+        walks = leaves (openRefusal P (k .station) (k .seat)) (withWalk (k .walks) i (openWalk P (k .station) (k .seat))) (k .walks);
       }
   call k (stepping i a) =
-      record { station = k .station; seat = k .seat; walks = put (k .walks) i (stepWalk P (k .station) (k .seat) (k .walks i) a) }
+      record { station = k .station; seat = k .seat; walks = withWalk (k .walks) i (stepWalk P (k .station) (k .seat) (k .walks i) a) }
   -- a show "moves no walk"
   call k (showing i a) = k
   call k (numbering i a) = k
-  call k (writing i w) = record { station = k .station; seat = k .seat; walks = put (k .walks) i w }
+  call k (writing i w) = record { station = k .station; seat = k .seat; walks = withWalk (k .walks) i w }
 
   -- what a call answers: a refusal number, or 0
   abbrev pub answer : Desk → Call → ℕ

@@ -22,7 +22,7 @@ use Rattle.walk.specs.Orders.{Ask, offsetsOf, wrongRegisters, otherNumber, stan
 use Rattle.walk.specs.Steps.{bytesAt, stepOut}
 use Rattle.walk.specs.Show.{whole, showPart}
 use Rattle.histories.specs.Calls.{Desk, Call, attaching, detaching, opening, newDesk, call, calls, answer, Along, Stays, Until, attaches, handed, Lends, Spares, Serves, Served, asks}
-use Rattle.histories.specs.Lawful.{Holds, Sound}
+use Rattle.histories.specs.Lawful.{Holds, Consistent}
 use Rattle.histories.specs.Values.{cut, joined, imagesFor, unnamed, unnamedQuestions}
 use Rattle.histories.specs.Outcomes.{opened, Started, Next, Ended, Refused, Expired, Parted, Unchanged, Last}
 
@@ -137,11 +137,11 @@ NumberLast P =
 -- seat; and then 1 to 10 are no answers of open, step and show
 abbrev pub Reached : Paper → Type 0
 Reached P =
-    (seat : List ℕ) (walks : ℕ → Walk) (cs : List Call) → Sound P (calls P (newDesk seat walks) cs .station) (calls P (newDesk seat walks) cs .seat)
+    (seat : List ℕ) (walks : ℕ → Walk) (cs : List Call) → Consistent P (calls P (newDesk seat walks) cs .station) (calls P (newDesk seat walks) cs .seat)
 
 abbrev pub OpenReached : Paper → Type 0
 OpenReached P =
-    (s : Station) (seat : List ℕ) → Sound P s seat
+    (s : Station) (seat : List ℕ) → Consistent P s seat
     → openRefusal P s seat ≡ first (rule 11 (wrongSeat s seat) ∷ rule 13 (not (s .attached)) ∷ rule 16 (not (P .variadic (described s seat))) ∷ [])
 
 -- the order of step and show without 1 to 10
@@ -153,13 +153,13 @@ reachedOrder P s seat w a late =
 
 abbrev pub StepReached : Paper → Type 0
 StepReached P =
-    (s : Station) (seat : List ℕ) (w : Walk) (a : Ask) → Sound P s seat
+    (s : Station) (seat : List ℕ) (w : Walk) (a : Ask) → Consistent P s seat
     → stepRefusal P s seat w a
     ≡ first (reachedOrder P s seat w a (rule 11 (wrongStack P (described s seat) a || wrongOut P (described s seat) w a) ∷ []))
 
 abbrev pub ShowReached : Paper → Type 0
 ShowReached P =
-    (s : Station) (seat : List ℕ) (w : Walk) (a : Ask) → Sound P s seat
+    (s : Station) (seat : List ℕ) (w : Walk) (a : Ask) → Consistent P s seat
     → showRefusal P s seat w a ≡ first (reachedOrder P s seat w a (rule 11 (wrongStack P (described s seat) a) ∷ []))
 
 -- ---- show

@@ -33,6 +33,6 @@ module _ (P : Paper) where
     pub filled : seat ≡ seatOf d
 
   -- what calls can lead to
-  pub record Sound (s : Station) (seat : List ℕ) : Type 0 where
+  pub record Consistent (s : Station) (seat : List ℕ) : Type 0 where
     pub idle : s .attached ≡ false → s .length .0 ≡ 0
     pub busy : s .attached ≡ true → (d : List ℕ) × Holds s seat d

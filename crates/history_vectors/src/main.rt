@@ -331,7 +331,7 @@ fn set_stack(state: State, image: &mut [u8]) -> State {
 fn attach_lent(station: Station, seat: &mut [u8]) -> Station {
     let mut space = io::buffer();
     let n = read_sized(&mut space);
-    let done = station::attaching(station, seat, &space[..n]);
+    let done = station::attach_by_value(station, seat, &space[..n]);
     print_refusal(b"attach ", done.refusal);
     done.station
 }
@@ -353,7 +353,7 @@ fn detach(state: State, room: &mut [u8]) -> State {
     if room.len() < lent {
         return state;
     }
-    let done = station::detaching(station, &mut room[..lent]);
+    let done = station::detach_by_value(station, &mut room[..lent]);
     let next = done.station;
     print_refusal(b"detach ", done.refusal);
     print_seat(next, room);
@@ -391,7 +391,7 @@ fn step_into(
     let station = state.station;
     let walk = walk_in(state, slot);
     fill(out, 0xEE);
-    let after = walk::stepping(station, seat, walk, registers, stack, asked, out);
+    let after = walk::step_by_value(station, seat, walk, registers, stack, asked, out);
     let next = with_walk(state, slot, after.walk);
     print_refusal(b"step ", after.refusal);
     print_bytes(out);

@@ -20,7 +20,7 @@ rdi = run 0 8
 
 -- the image with an address in rdi, and the address in the rdi of an image
 unfoldable pub withAddress : List ℕ → ℕ → List ℕ
-withAddress img h = scatter img rdi (littleEndian 8 h)
+withAddress image h = scatter image rdi (littleEndian 8 h)
 
 unfoldable pub addressIn : List ℕ → ℕ
-addressIn img = number (gather img rdi)
+addressIn image = number (gather image rdi)

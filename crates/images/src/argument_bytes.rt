@@ -1,4 +1,4 @@
-// Bytes copied between a buffer and an image (document 01, "Images and moving bytes"). A register's address in its image stands here and nowhere else.
+// One argument's bytes into the two images and out again (document 01, "Images and moving bytes"), and where a register lies in its image.
 use places::Place;
 use places::Register;
 use units::Bytes;
@@ -13,7 +13,7 @@ ghost use Rattle.addresses.specs.Addresses.{run, gather, scatter};
 ghost use Rattle.places.specs.Recorded.{placeOf};
 
 // Where a register's eightbyte begins in the register image.
-pub fn address_of(register: Register) -> Bytes
+fn address_of(register: Register) -> Bytes
     requires { ⌜ Known register ⌝ }
     ensures { λ r. ⌜ r .0 ≡ addressOf register ⌝ }
 {
@@ -35,7 +35,7 @@ fn copy_eight(dst: &mut [u8], to: Bytes, src: &[u8], from: Bytes)
 }
 
 // Copies count bytes: here offsets become indices. Most arguments have eight.
-pub fn copy_bytes(dst: &mut [u8], to: Bytes, src: &[u8], from: Bytes, count: Bytes)
+fn copy_bytes(dst: &mut [u8], to: Bytes, src: &[u8], from: Bytes, count: Bytes)
     requires { ⌜ (to .0 + count .0 ≤ length (now dst)) × (from .0 + count .0 ≤ length (now src)) ⌝ }
     ensures { λ _. ⌜ now (dst .exit) ≡ copied (now (dst .entry)) (to .0) (now (src .entry)) (from .0) (count .0) ⌝ }
 {
@@ -46,7 +46,7 @@ pub fn copy_bytes(dst: &mut [u8], to: Bytes, src: &[u8], from: Bytes, count: Byt
     addresses::copy(dst, to.0, src, from.0, count.0);
 }
 
-// One argument's bytes into the two images and out again (document 01, "Images and moving bytes").
+// ---- one argument
 
 // Places one argument: size bytes of the values, from `at` on.
 pub fn place_one(

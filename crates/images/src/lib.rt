@@ -1,4 +1,5 @@
-// The two images (document 01, "Images and moving bytes"), as definitions and laws; there is no code here: `argument_bytes` copies bytes, `hidden_address` has the address in rdi.
+// The two images (document 01, "Images and moving bytes"): one argument's bytes into them and out again, and the hidden address in rdi. Where a register
+// lies in its image stands in `argument_bytes` and nowhere else.
 pub use argument_bytes::gather_one;
 pub use argument_bytes::place_one;
 pub use hidden_address::address_in;

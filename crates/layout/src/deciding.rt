@@ -1,4 +1,4 @@
-// What a call takes (document 01, "Places") by a description that none of 1 to 9 refuses: after some of its arguments, and after all of them.
+// The verdict on any bytes, 1 to 10, and the layout of those that get none (document 01, "Places", "Refusal numbers").
 use crate::Layout;
 use crate::LayoutAnswer;
 use crate::placements;
@@ -30,7 +30,7 @@ pub fn used_after(d: &[u8], n: usize, table: &[u32; 64]) -> Used
 }
 
 // The layout of a description that none of 1 to 9 refuses.
-pub fn lay(d: &[u8], table: &[u32; 64]) -> Layout
+fn lay(d: &[u8], table: &[u32; 64]) -> Layout
     requires { ⌜ (usesRefusal (now d) ≡ 0) × Tabled (now d) (now table) ⌝ }
     ensures { λ r. ⌜ r ≡ layoutOf (now (d .entry)) ⌝ }
 {
@@ -58,7 +58,7 @@ pub fn lay(d: &[u8], table: &[u32; 64]) -> Layout
     }
 }
 
-// What an answer about the layout carries (document 01, "A refusal returns its number only"): for callers that pass the refusal on.
+// ---- what an answer carries
 
 // The refusal that an answer carries, for a caller that passes it on.
 pub fn refusal_in(answer: LayoutAnswer) -> Refusal
@@ -70,7 +70,7 @@ pub fn refusal_in(answer: LayoutAnswer) -> Refusal
     }
 }
 
-// Decides the layout of a call (document 01, "Places"): the verdict on any bytes, 1 to 10, and what all arguments take.
+// ---- any bytes
 
 // The layout of any bytes, or which of 1 to 10 refuses them. Where none does, the table holds what is known of each type.
 pub fn layout_with(d: &[u8], table: &mut [u32; 64]) -> LayoutAnswer
@@ -99,7 +99,7 @@ pub fn layout_of(d: &[u8]) -> LayoutAnswer
     layout_with(d, &mut table)
 }
 
-// The verdict on any bytes (document 01, "Refusal numbers"): which of 1 to 10, or none.
+// ---- the verdict alone
 
 // Which of the refusals 1 to 10 the description gets; number 0 where it is accepted.
 pub fn check(d: &[u8]) -> Refusal

@@ -1,5 +1,4 @@
-// Before the first record of a list that the caller lends (document 01, "Places"): whether it is filled, 1 to 11, and how many records there are, as definitions and laws;
-// `lent_list` works them out.
+// The list of placement records that the caller lends (document 01, "Places"): whether it is filled, 11 for one that is too short, and one record for each argument.
 use crate::LayoutAnswer;
 use crate::deciding;
 use crate::placements;
@@ -31,7 +30,7 @@ pub struct Opened {
     pub table: [u32; 64],
 }
 
-// Whether a list that the caller lends is filled, and the record of each argument (document 01, "Places").
+// ---- before the first record
 
 // Decides whether a list of `room` records is to be filled: 1 to 10, then 11 for a list that is shorter than A. With
 // `place_argument` it serves a caller that has no list to lend: that caller's table has what the records are made of.
@@ -64,7 +63,7 @@ pub fn begin_with(d: &[u8], room: usize, table: &mut [u32; 64]) -> Begun
 }
 
 // The decision, with the table by value.
-pub fn open_list(d: &[u8], room: usize) -> Opened
+fn open_list(d: &[u8], room: usize) -> Opened
     ensures { λ r. ⌜ (r ≡ openedOf (now (d .entry)) room) × (r .count ≤ room)
         × (verdict (now (d .entry)) ≡ 0 → Tabled (now (d .entry)) (r .table)) ⌝ }
 {
@@ -81,7 +80,7 @@ pub fn open_list(d: &[u8], room: usize) -> Opened
 }
 
 // The record of argument i, and what is used after it, by a table by value.
-pub fn place_by(d: &[u8], used: Used, i: usize, opened: Opened) -> Step
+fn place_by(d: &[u8], used: Used, i: usize, opened: Opened) -> Step
     requires { ⌜ AskArgument (now d) i used × Tabled (now d) (opened .table) ⌝ }
     ensures { λ r. ⌜ r ≡ stepAt (now (d .entry)) used i ⌝ }
 {
@@ -89,7 +88,7 @@ pub fn place_by(d: &[u8], used: Used, i: usize, opened: Opened) -> Step
     placements::place_argument(d, used, i, &table)
 }
 
-// The list of placement records that the caller lends (document 01, "Places"), filled.
+// ---- the list
 
 // Decides whether a list of `room` records is to be filled.
 pub fn begin(d: &[u8], room: usize) -> Begun

@@ -1,4 +1,4 @@
-// The layout of a call (document 01, "Places"): the verdict on a description, 1 to 10, and what all its arguments take, as definitions and laws; `deciding` works them out.
+// The layout of a call (document 01, "Places"): the verdict on a description, 1 to 10, what its arguments take together, and one record for each.
 pub use deciding::check;
 pub use deciding::layout_of;
 pub use deciding::layout_with;

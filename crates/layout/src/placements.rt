@@ -1,4 +1,4 @@
-// The arguments of a call (document 01, "Places"): the record of each, and what is used after some of them, as definitions and laws; `placements` works them out.
+// The arguments of a call, one after the other (document 01, "Places"): the record of each, what is used after some of them, and where the value is returned.
 use places::Place;
 use places::ReturnPlace;
 use places::Used;
@@ -36,8 +36,6 @@ pub struct Laying {
     pub used: Used,
     pub values: Bytes,
 }
-
-// The arguments of a call (document 01, "Places"), one after the other: the record of each, what is used after some of them, and where the value is returned.
 
 // Where the value is returned.
 pub fn return_of(d: &[u8], table: &[u32; 64]) -> ReturnPlace
@@ -77,7 +75,7 @@ pub fn place_argument(d: &[u8], used: Used, i: usize, table: &[u32; 64]) -> Step
     let shape = places::shape_in(table, k);
     let size = shape.size;
     let align = shape.align;
-    let placed = places::place_next(used, shape);
+    let placed = places::place_shape(used, shape);
     let place = placed.place;
     let after = placed.used;
     Step {
@@ -98,7 +96,7 @@ fn use_argument(d: &[u8], used: Used, i: usize, table: &[u32; 64]) -> Turn
 {
     let k = description::argument_at(d, i);
     let size = types::extent_in(table, k).size;
-    let after = places::use_next(used, table, k);
+    let after = places::use_type(used, table, k);
     Turn {
         size: size,
         used: after,

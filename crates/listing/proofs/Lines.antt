@@ -22,8 +22,8 @@ use Rattle.layout.specs.Verdict.{verdict}
 use Rattle.layout.proofs.Arguments.{used-none, used-next}
 use Rattle.layout.proofs.Verdict.{accepted-uses}
 use Rattle.layout.proofs.Layouts.{asks-at, laid-accepted}
-use Rattle.text.specs.Written.{Wrote}
-use Rattle.text.proofs.Written.{wrote-none, wrote-join, wrote-more, wrote-same, written-is}
+use Rattle.listing.specs.Written.{Wrote}
+use Rattle.listing.proofs.Written.{wrote-none, wrote-join, wrote-more, wrote-same, written-is}
 use Rattle.listing.specs.Words.{numbered, walk, gp, fp, over, newline}
 use Rattle.listing.specs.Listing.{headLine, recordLine, recordLines, returnLine, walkLine, laidText, textOf, listing}
 use Rattle.listing.specs.Asks.{Accepted}

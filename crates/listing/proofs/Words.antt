@@ -6,9 +6,9 @@ use Prim.Native.Nat.{ℕ, _≤_, _<_}
 use native.Mathlib.Omega.{arith}
 use borrow.Author.Tests.{lt-ltb, le-ltb}
 use lib.ListN.{length, getD, List·getD-eq-default}
-use Rattle.text.specs.Decimal.{digit}
-use Rattle.text.specs.Written.{Wrote}
-use Rattle.text.proofs.Written.{wrote-none, wrote-join, wrote-more, wrote-same}
+use Rattle.listing.specs.Decimal.{digit}
+use Rattle.listing.specs.Written.{Wrote}
+use Rattle.listing.proofs.Written.{wrote-none, wrote-join, wrote-more, wrote-same}
 use Rattle.listing.specs.Words.{xmm}
 use Rattle.listing.specs.PlaceWords.{names, generalWord, vectorWord}
 

@@ -13,7 +13,7 @@ use Rattle.layout.specs.declared.LayoutAnswer.{LayoutAnswer}
 use Rattle.layout.specs.declared.LayoutAnswer.the-variants.{Laid, Refused}
 use Rattle.layout.specs.Layout.{layoutAnswer}
 use Rattle.layout.specs.Placements.{placementAt}
-use Rattle.text.specs.Decimal.{decimal}
+use Rattle.listing.specs.Decimal.{decimal}
 use Rattle.listing.specs.Words.{numbered, args, named, gp, vec, stack, type, size, align, returned, walk, none, fp, over, refused, newline}
 use Rattle.listing.specs.PlaceWords.{placeWords, returnWords}
 

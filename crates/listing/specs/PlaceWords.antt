@@ -10,7 +10,7 @@ use Rattle.places.specs.declared.Place.{Place}
 use Rattle.places.specs.declared.Place.the-variants.{One, Two, Stack}
 use Rattle.places.specs.declared.ReturnPlace.{ReturnPlace}
 use Rattle.places.specs.declared.ReturnPlace.the-variants.{Void, Memory, One as InOne, Two as InTwo, St0, St0St1}
-use Rattle.text.specs.Decimal.{digit}
+use Rattle.listing.specs.Decimal.{digit}
 use Rattle.listing.specs.Words.{numbered, stack, rdi, rsi, rdx, rcx, r8, r9, rax, xmm, half, void, memory, st0, st1}
 
 -- the general registers of arguments, and those of a returned value, in order

@@ -2,8 +2,8 @@
 -- Assumes nothing: these are definitions.
 use mathlib.Core.List.{List, _++_}
 use Prim.Native.Nat.{ℕ}
-use Rattle.text.specs.Characters.{bytes}
-use Rattle.text.specs.Decimal.{decimal}
+use Rattle.listing.specs.Characters.{bytes}
+use Rattle.listing.specs.Decimal.{decimal}
 
 -- a word and a number
 abbrev pub numbered : List ℕ → ℕ → List ℕ

@@ -1,6 +1,7 @@
-// The lister's text (document 01, "The lister"), line after line. A record's line has at most 52 bytes and the three other lines together 124, so that with 64 records no
-// listing is over 3,452.
+// The lister's text (document 01, "The lister"), written into a lent buffer. A record's line has at most 52 bytes and the three other lines together
+// 124, so that with 64 records no listing is over 3,452.
 
+mod text; // text written into a lent buffer, word after word
 mod place_writing; // the words of a register and of a place, written
 mod line_writing; // each line, written
 
@@ -12,7 +13,7 @@ ghost use Prim.Native.Nat.{_+_, _≤_};
 ghost use lib.ListN.{length, drop};
 ghost use Rattle.description.specs.Description.{argumentsIn};
 ghost use Rattle.classify.specs.Table.{Tabled};
-ghost use Rattle.text.specs.Written.{Wrote};
+ghost use Rattle.listing.specs.Written.{Wrote};
 ghost use Rattle.listing.specs.Listing.{recordLines, laidText, listing};
 ghost use Rattle.listing.specs.Asks.{Accepted};
 

@@ -1,18 +1,18 @@
-// The lister's text (document 01, "The lister"), line after line, as definitions and laws. There is no code here: `line_writing`, `line_writing`, `line_writing` and `line_writing` write them, `listing` the whole.
+// The lines of the lister's text (document 01, "The lister"): the first, that of an argument, that of the returned value, the last, and that of a refusal.
+// Each function stores from index `at` on and answers the index behind.
 use crate::place_writing;
+use crate::text;
 use form::Refusal;
 use layout::Layout;
 use layout::Placement;
 use places::ReturnPlace;
 use places::Used;
 ghost use Prim.Native.Nat.{_+_, _≤_, _<_};
-ghost use Rattle.text.specs.Written.{Wrote};
+ghost use Rattle.listing.specs.Written.{Wrote};
 ghost use Rattle.listing.specs.Listing.{headLine, recordLine, typeWords, returnLine, walkLine, namesType, refusedLine};
 ghost use Rattle.listing.specs.Asks.{SmallLayout, SmallRecord, SmallUsed};
 ghost use lib.Dec.{eqb};
 ghost use mathlib.Core.Path.{_≡_};
-
-// The first line of the lister's text (document 01, "The lister"), written into a lent buffer from index `at` on; the answer is the index behind.
 
 // "Line one: version, A, N, registers used (hidden address included), vector count, area".
 pub fn put_head(out: &mut [u8; 4096], at: usize, all: usize, first: usize, layout: Layout) -> usize
@@ -29,9 +29,6 @@ pub fn put_head(out: &mut [u8; 4096], at: usize, all: usize, first: usize, layou
     let behind_area = text::put_number(out, behind_vector, b" stack ", area.0);
     text::put(out, behind_area, b"\n")
 }
-
-// The lines of the lister's text between the first and the last (document 01, "The lister"): that of an argument and that of the returned value, each written into a lent buffer: each function stores from index `at` on and
-// answers the index behind. `line_writing` has the first line, `line_writing` the last.
 
 // "Then per argument: position, type, size, alignment, place".
 pub fn put_record(out: &mut [u8; 4096], at: usize, i: usize, placement: Placement) -> usize
@@ -72,8 +69,6 @@ pub fn put_return(out: &mut [u8; 4096], at: usize, k: usize, place: ReturnPlace)
     text::put(out, behind_place, b"\n")
 }
 
-// The last line of the lister's text, where a walk starts (document 01, "The lister"), written into a lent buffer from index `at` on; the answer is the index behind.
-
 // gp_offset, fp_offset and the overflow offset where a walk starts; "a plain function ends with `walk none`".
 pub fn put_walk(out: &mut [u8; 4096], at: usize, variadic: usize, named: Used) -> usize
     requires { ⌜ (at + 34 ≤ 4096) × SmallUsed named ⌝ }
@@ -90,8 +85,6 @@ pub fn put_walk(out: &mut [u8; 4096], at: usize, variadic: usize, named: Used) -
     let behind_stack = text::put_number(out, behind_vector, b" over ", stack.0);
     text::put(out, behind_stack, b"\n")
 }
-
-// The line of a refusal (document 01, "The lister"), written into a lent buffer.
 
 // Whether a refusal with this number names a type.
 fn names_type(number: u8) -> bool

@@ -1,13 +1,11 @@
-// The words of places, as the lister prints them (document 01, "The lister"), as definitions and laws. There is no code here: `place_writing` writes the word of a register,
-// `place_writing` those of a place.
+// The words of registers and places (document 01, "The lister"). Each function stores from index `at` on and answers the index behind.
+use crate::text;
 use places::Place;
 use places::Register;
 use places::ReturnPlace;
 ghost use Prim.Native.Nat.{_+_, _≤_};
-ghost use Rattle.text.specs.Written.{Wrote};
+ghost use Rattle.listing.specs.Written.{Wrote};
 ghost use Rattle.listing.specs.PlaceWords.{generalWord, vectorWord, registerWord, placeWords, returnWords, offsetOf};
-
-// The word of a register (document 01, "The lister"), written into a lent buffer.
 
 // The n-th general register, of a returned value or of an argument.
 fn put_general(out: &mut [u8; 4096], at: usize, back: bool, n: usize) -> usize
@@ -45,7 +43,7 @@ fn put_vector(out: &mut [u8; 4096], at: usize, n: usize) -> usize
 }
 
 // A register of a returned value, or of an argument.
-pub fn put_register(out: &mut [u8; 4096], at: usize, back: bool, register: Register) -> usize
+fn put_register(out: &mut [u8; 4096], at: usize, back: bool, register: Register) -> usize
     requires { ⌜ at + 6 ≤ 4096 ⌝ }
     ensures { λ r. ⌜ Wrote 6 (now (out .entry)) at (registerWord back register) (now (out .exit)) r ⌝ }
 {
@@ -59,7 +57,7 @@ pub fn put_register(out: &mut [u8; 4096], at: usize, back: bool, register: Regis
     }
 }
 
-// The words of places (document 01, "The lister"), written into a lent buffer.
+// ---- places
 
 // Registers in eightbyte order, or a stack offset.
 pub fn put_place(out: &mut [u8; 4096], at: usize, place: Place) -> usize

@@ -66,7 +66,7 @@ module _ (F : Frame) where
   image-placed h vals img i =
       placed-whole h vals
       ∙ ap (λ (x : List ℕ). scatter (replicate (F .long) 0) all x)
-      (ap₂ (λ (x y : List ℕ). x ++ y) (sym (i .address)) (sym (i .values)) ∙ sym (gather-append (F .address) (F .places) img))
+      (ap₂ (λ (x y : List ℕ). x ++ y) (sym (i .address)) (sym (i .each)) ∙ sym (gather-append (F .address) (F .places) img))
       ∙ again img (i .long) (λ k m u. i .zeros k u)
 
   pub placed-zero : (h : ℕ) (vals : List ℕ) (k : ℕ) → Spare F k → getD (placedIn F h vals) k 0 ≡ 0
@@ -99,7 +99,7 @@ module _ (F : Frame) where
     placed-image : (h : ℕ) (vals : List ℕ) → length vals ≡ length (F .places) → Shows F h vals (placedIn F h vals)
     placed-image h vals l = record {
       long = length-placed h vals;
-      values = gathered-placed h vals l;
+      each = gathered-placed h vals l;
       address = address-placed h vals;
       zeros = placed-zero h vals;
     }

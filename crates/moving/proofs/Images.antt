@@ -123,7 +123,7 @@ module _ (d : List ℕ) (accepted : verdict d ≡ 0) where
   pub placed-image : (h : ℕ) (vals : List ℕ) → length vals ≡ valuesOf d → IsImage d h vals (placed d h vals)
   placed-image h vals l = record {
     long = length-placed h vals;
-    values = λ k m. sym (gathered-at (placed d h vals) k m) ∙ ap (λ (x : List ℕ). getD x k 0) (gathered-placed h vals l);
+    each = λ k m. sym (gathered-at (placed d h vals) k m) ∙ ap (λ (x : List ℕ). getD x k 0) (gathered-placed h vals l);
     address = λ e. placed-rdi h vals e;
     zeros = zeros;
   }
@@ -169,7 +169,7 @@ module _ (d : List ℕ) (accepted : verdict d ≡ 0) where
       ap (placed d h) values-are ∙ placed-gathered h img (i .long) (i .address) (λ k m u. i .zeros k u)
     where
       values-are : vals ≡ gathered d img
-      values-are = ext-getD 0 vals (gathered d img) (l ∙ sym (length-gathered img)) (λ k m. sym (gathered-at img k (omega arith) ∙ i .values k (omega arith)))
+      values-are = ext-getD 0 vals (gathered d img) (l ∙ sym (length-gathered img)) (λ k m. sym (gathered-at img k (omega arith) ∙ i .each k (omega arith)))
 
   -- unused bytes of placed images are zero
   pub placed-zero : (h : ℕ) (vals : List ℕ) (k : ℕ) → length vals ≡ valuesOf d → Unused d k → getD (placed d h vals) k 0 ≡ 0

@@ -17,20 +17,22 @@ use Rattle.moving.specs.declared.GatherAnswer.the-variants.{Gathered, Re
 
 -- "The vector count (for al) is the number of vector registers used"
 unfoldable pub placeAnswer : List ℕ → List ℕ → ℕ → ℕ → PlaceAnswer
-placeAnswer d vals registers stack =
-    cond (eqb (placeRefusal d vals registers stack) 0) (Placed (usedAt d (argumentsIn d) .vector)) (NotPlaced (refusalFor d (placeRefusal d vals registers stack)))
+placeAnswer d values registersLength stackLength =
+    cond (eqb (placeRefusal d values registersLength stackLength) 0) (Placed (usedAt d (argumentsIn d) .vector))
+    (NotPlaced (refusalFor d (placeRefusal d values registersLength stackLength)))
 
 -- the register image and the stack image at exit, r and s at entry
 unfoldable pub registersAfter : List ℕ → ℕ → List ℕ → List ℕ → List ℕ → List ℕ
-registersAfter d h vals r s = cond (eqb (placeRefusal d vals (length r) (length s)) 0) (take 176 (placed d h vals)) r
+registersAfter d h values r s = cond (eqb (placeRefusal d values (length r) (length s)) 0) (take 176 (placed d h values)) r
 
 unfoldable pub stackAfter : List ℕ → ℕ → List ℕ → List ℕ → List ℕ → List ℕ
-stackAfter d h vals r s = cond (eqb (placeRefusal d vals (length r) (length s)) 0) (drop 176 (placed d h vals)) s
+stackAfter d h values r s = cond (eqb (placeRefusal d values (length r) (length s)) 0) (drop 176 (placed d h values)) s
 
 -- the hidden address, 0 where none is used
 unfoldable pub gatherAnswer : List ℕ → List ℕ → List ℕ → ℕ → GatherAnswer
-gatherAnswer d r s values =
-    cond (eqb (gatherRefusal d values (length r) (length s)) 0) (Gathered (hiddenIn d (r ++ s))) (NotGathered (refusalFor d (gatherRefusal d values (length r) (length s))))
+gatherAnswer d r s valuesLength =
+    cond (eqb (gatherRefusal d valuesLength (length r) (length s)) 0) (Gathered (hiddenIn d (r ++ s)))
+    (NotGathered (refusalFor d (gatherRefusal d valuesLength (length r) (length s))))
 
 -- the values at exit, v at entry
 unfoldable pub valuesAfter : List ℕ → List ℕ → List ℕ → List ℕ → List ℕ

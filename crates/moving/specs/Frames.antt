@@ -28,15 +28,15 @@ module _ (F : Frame) where
 
   -- "Placing copies each value byte to its place"
   unfoldable pub placedIn : ℕ → List ℕ → List ℕ
-  placedIn h vals = scatter (emptyIn h) (F .places) vals
+  placedIn h values = scatter (emptyIn h) (F .places) values
 
   -- "Gathering does the reverse"
   unfoldable pub gatheredIn : List ℕ → List ℕ
-  gatheredIn img = gather img (F .places)
+  gatheredIn image = gather image (F .places)
 
   -- the hidden address, 0 where none is passed
   unfoldable pub ownAddress : List ℕ → ℕ
-  ownAddress img = number (gather img (F .address))
+  ownAddress image = number (gather image (F .address))
 
   -- the byte at k holds no value byte, and no part of the hidden address
   pub record Spare (k : ℕ) : Type 0 where
@@ -44,40 +44,40 @@ module _ (F : Frame) where
     pub past : Absent k (F .address)
 
   -- what every byte of the image is
-  pub record Shows (h : ℕ) (vals img : List ℕ) : Type 0 where
-    pub long : length img ≡ F .long
-    pub values : gather img (F .places) ≡ vals
-    pub address : gather img (F .address) ≡ littleEndian (length (F .address)) h
-    pub zeros : (k : ℕ) → Spare k → getD img k 0 ≡ 0
+  pub record Shows (h : ℕ) (values image : List ℕ) : Type 0 where
+    pub long : length image ≡ F .long
+    pub each : gather image (F .places) ≡ values
+    pub address : gather image (F .address) ≡ littleEndian (length (F .address)) h
+    pub zeros : (k : ℕ) → Spare k → getD image k 0 ≡ 0
 
   abbrev pub ZeroElsewhere : List ℕ → Type 0
-  ZeroElsewhere img = (k : ℕ) → k < length img → Spare k → getD img k 0 ≡ 0
+  ZeroElsewhere image = (k : ℕ) → k < length image → Spare k → getD image k 0 ≡ 0
 
   -- ---- what is said of it
 
   -- B8: these bytes, and no others
   abbrev pub PlacesEach : Type 0
-  PlacesEach = (h : ℕ) (vals img : List ℕ) → length vals ≡ length (F .places) → (placedIn h vals ≡ img) ↔ Shows h vals img
+  PlacesEach = (h : ℕ) (values image : List ℕ) → length values ≡ length (F .places) → (placedIn h values ≡ image) ↔ Shows h values image
 
   -- B9
   abbrev pub GathersBack : Type 0
-  GathersBack = (h : ℕ) (vals : List ℕ) → length vals ≡ length (F .places) → h < 256 ^ length (F .address)
-      → (gatheredIn (placedIn h vals) ≡ vals) × (ownAddress (placedIn h vals) ≡ h)
+  GathersBack = (h : ℕ) (values : List ℕ) → length values ≡ length (F .places) → h < 256 ^ length (F .address)
+      → (gatheredIn (placedIn h values) ≡ values) × (ownAddress (placedIn h values) ≡ h)
 
   -- B10: of bytes, where the hidden address is
   abbrev pub PlacesBack : Type 0
-  PlacesBack = (img : List ℕ) → length img ≡ F .long → All (λ k. getD img k 0 < 256) (F .address)
-      → (placedIn (ownAddress img) (gatheredIn img) ≡ img) ↔ ZeroElsewhere img
+  PlacesBack = (image : List ℕ) → length image ≡ F .long → All (λ k. getD image k 0 < 256) (F .address)
+      → (placedIn (ownAddress image) (gatheredIn image) ≡ image) ↔ ZeroElsewhere image
 
   -- B11
   abbrev pub SpareUnseen : Type 0
-  SpareUnseen = (img jmg : List ℕ) → ((k : ℕ) → (Spare k → ⊥) → getD img k 0 ≡ getD jmg k 0)
-      → (gatheredIn img ≡ gatheredIn jmg) × (ownAddress img ≡ ownAddress jmg)
+  SpareUnseen = (image other : List ℕ) → ((k : ℕ) → (Spare k → ⊥) → getD image k 0 ≡ getD other k 0)
+      → (gatheredIn image ≡ gatheredIn other) × (ownAddress image ≡ ownAddress other)
 
   -- C4, with any two hidden addresses
   abbrev pub NeverShared : Type 0
-  NeverShared = (h g : ℕ) (vals wals : List ℕ) → length vals ≡ length (F .places) → length wals ≡ length (F .places)
-      → placedIn h vals ≡ placedIn g wals → vals ≡ wals
+  NeverShared = (h g : ℕ) (values others : List ℕ) → length values ≡ length (F .places) → length others ≡ length (F .places)
+      → placedIn h values ≡ placedIn g others → values ≡ others
 
   pub record Moves : Type 0 where
     pub places-each : PlacesEach

@@ -22,22 +22,22 @@ valueStart d i = total (shapesFrom d 0 i)
 -- no argument placed yet: "zero everywhere else in both images. The hidden address, little-endian, fills rdi where it is used", by
 -- whether it is, with so many bytes of stack
 unfoldable pub blankBy : Bool → ℕ → ℕ → List ℕ
-blankBy used h stack = cond used (littleEndian 8 h) (replicate 8 0) ++ replicate (168 + stack) 0
+blankBy used h stackLength = cond used (littleEndian 8 h) (replicate 8 0) ++ replicate (168 + stackLength) 0
 
 abbrev pub blank : List ℕ → ℕ → List ℕ
 blank d h = blankBy (hidden d) h (areaOf d)
 
 -- "Placing copies each value byte to its place"
 unfoldable pub placed : List ℕ → ℕ → List ℕ → List ℕ
-placed d h vals = scatter (blank d h) (addressesOf d) vals
+placed d h values = scatter (blank d h) (addressesOf d) values
 
 -- "Gathering does the reverse"
 unfoldable pub gathered : List ℕ → List ℕ → List ℕ
-gathered d img = gather img (addressesOf d)
+gathered d image = gather image (addressesOf d)
 
 -- "rdi's hidden address", where it is used, and else 0
 unfoldable pub hiddenIn : List ℕ → List ℕ → ℕ
-hiddenIn d img = cond (hidden d) (addressIn img) 0
+hiddenIn d image = cond (hidden d) (addressIn image) 0
 
 -- what the images of a description are: the 176 bytes of the registers and the stack area, the hidden address in rdi
 unfoldable pub frameOf : List ℕ → Frame

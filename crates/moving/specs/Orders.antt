@@ -17,7 +17,7 @@ use Rattle.moving.specs.Images.{valueStart}
 -- 11: "a lent buffer of wrong length". The values are those of all arguments, "the register image is 176 bytes", "the stack image is
 -- the rounded area"; neither less nor more
 unfoldable pub wrongLength : Layout → ℕ → ℕ → ℕ → Bool
-wrongLength l values registers stack = not (eqb values (l .values .0)) || (not (eqb registers 176) || not (eqb stack (l .area .0)))
+wrongLength l valuesLength registersLength stackLength = not (eqb valuesLength (l .values .0)) || (not (eqb registersLength 176) || not (eqb stackLength (l .area .0)))
 
 -- a type whose own record is that of _Bool: kind 0, code 0
 unfoldable pub isBool : List ℕ → ℕ → Bool
@@ -28,35 +28,35 @@ unfoldable pub brokenByte : List ℕ → ℕ → ℕ → Bool
 brokenByte d k byte = isBool d k && ltb 1 byte
 
 abbrev pub brokenBool : List ℕ → List ℕ → ℕ → Bool
-brokenBool d vals i = brokenByte d (argumentAt d i) (getD vals (valueStart d i) 0)
+brokenBool d values i = brokenByte d (argumentAt d i) (getD values (valueStart d i) 0)
 
 -- the first such argument, or A where there is none
 abbrev pub firstBroken : List ℕ → List ℕ → ℕ
-firstBroken d vals = firstFrom (brokenBool d vals) 0 (argumentsIn d)
+firstBroken d values = firstFrom (brokenBool d values) 0 (argumentsIn d)
 
 -- 12: "_Bool argument byte not 0 or 1"
 unfoldable pub wrongBool : List ℕ → List ℕ → Bool
-wrongBool d vals = ltb (firstBroken d vals) (argumentsIn d)
+wrongBool d values = ltb (firstBroken d values) (argumentsIn d)
 
 -- argument i's own record is that of _Bool, and its byte is neither 0 nor 1
-pub record BrokenAt (d vals : List ℕ) (i : ℕ) : Type 0 where
+pub record BrokenAt (d values : List ℕ) (i : ℕ) : Type 0 where
   pub there : i < argumentsIn d
   pub kind : kindAt d (argumentAt d i) ≡ 0
   pub code : aAt d (argumentAt d i) ≡ 0
-  pub byte : 1 < getD vals (valueStart d i) 0
+  pub byte : 1 < getD values (valueStart d i) 0
 
 -- 1 to 11
 abbrev pub gatherOrder : List ℕ → ℕ → ℕ → ℕ → List Rule
-gatherOrder d values registers stack = checkOrder d ++ rule 11 (wrongLength (layoutOf d) values registers stack) ∷ []
+gatherOrder d valuesLength registersLength stackLength = checkOrder d ++ rule 11 (wrongLength (layoutOf d) valuesLength registersLength stackLength) ∷ []
 
 -- 1 to 12
 abbrev pub placeOrder : List ℕ → List ℕ → ℕ → ℕ → List Rule
-placeOrder d vals registers stack = checkOrder d ++ rule 11 (wrongLength (layoutOf d) (length vals) registers stack) ∷ rule 12 (wrongBool d vals) ∷ []
+placeOrder d values registersLength stackLength = checkOrder d ++ rule 11 (wrongLength (layoutOf d) (length values) registersLength stackLength) ∷ rule 12 (wrongBool d values) ∷ []
 
 -- which of them refuses gathering into so many value bytes, from images of these lengths; or 0
 unfoldable pub gatherRefusal : List ℕ → ℕ → ℕ → ℕ → ℕ
-gatherRefusal d values registers stack = first (gatherOrder d values registers stack)
+gatherRefusal d valuesLength registersLength stackLength = first (gatherOrder d valuesLength registersLength stackLength)
 
 -- and placing these values
 unfoldable pub placeRefusal : List ℕ → List ℕ → ℕ → ℕ → ℕ
-placeRefusal d vals registers stack = first (placeOrder d vals registers stack)
+placeRefusal d values registersLength stackLength = first (placeOrder d values registersLength stackLength)

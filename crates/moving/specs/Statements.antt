@@ -22,33 +22,33 @@ pub record Unused (d : List ℕ) (k : ℕ) : Type 0 where
   pub past : hidden d ≡ true → 8 ≤ k
 
 -- B8: what every byte of both images is
-pub record IsImage (d : List ℕ) (h : ℕ) (vals img : List ℕ) : Type 0 where
-  pub long : length img ≡ 176 + areaOf d
-  pub values : (k : ℕ) → k < valuesOf d → getD img (getD (addressesOf d) k 0) 0 ≡ getD vals k 0
-  pub address : hidden d ≡ true → gather img rdi ≡ littleEndian 8 h
-  pub zeros : (k : ℕ) → Unused d k → getD img k 0 ≡ 0
+pub record IsImage (d : List ℕ) (h : ℕ) (values image : List ℕ) : Type 0 where
+  pub long : length image ≡ 176 + areaOf d
+  pub each : (k : ℕ) → k < valuesOf d → getD image (getD (addressesOf d) k 0) 0 ≡ getD values k 0
+  pub address : hidden d ≡ true → gather image rdi ≡ littleEndian 8 h
+  pub zeros : (k : ℕ) → Unused d k → getD image k 0 ≡ 0
 
 -- accepted, the images are those, and no others
 abbrev pub PlacesAll : Type 0
-PlacesAll = (d : List ℕ) (h : ℕ) (vals r s : List ℕ) → placeRefusal d vals (length r) (length s) ≡ 0
-    → (img : List ℕ) → (registersAfter d h vals r s ++ stackAfter d h vals r s ≡ img) ↔ IsImage d h vals img
+PlacesAll = (d : List ℕ) (h : ℕ) (values r s : List ℕ) → placeRefusal d values (length r) (length s) ≡ 0
+    → (image : List ℕ) → (registersAfter d h values r s ++ stackAfter d h values r s ≡ image) ↔ IsImage d h values image
 
 -- the hidden address is not looked at where it is not used
 abbrev pub AddressUnseen : Type 0
-AddressUnseen = (d : List ℕ) (h g : ℕ) (vals r s : List ℕ) → hidden d ≡ false
-    → (registersAfter d h vals r s ≡ registersAfter d g vals r s) × (stackAfter d h vals r s ≡ stackAfter d g vals r s)
+AddressUnseen = (d : List ℕ) (h g : ℕ) (values r s : List ℕ) → hidden d ≡ false
+    → (registersAfter d h values r s ≡ registersAfter d g values r s) × (stackAfter d h values r s ≡ stackAfter d g values r s)
 
 -- B9: what was placed is gathered again, and the hidden address where it is used
 abbrev pub GathersPlaced : Type 0
-GathersPlaced = (d : List ℕ) (h : ℕ) (vals r s v : List ℕ) → h < 2 ^ 64 → placeRefusal d vals (length r) (length s) ≡ 0 → length v ≡ length vals
-    → (gatherAnswer d (registersAfter d h vals r s) (stackAfter d h vals r s) (length v) ≡ Gathered (cond (hidden d) h 0))
-    × (valuesAfter d (registersAfter d h vals r s) (stackAfter d h vals r s) v ≡ vals)
+GathersPlaced = (d : List ℕ) (h : ℕ) (values r s v : List ℕ) → h < 2 ^ 64 → placeRefusal d values (length r) (length s) ≡ 0 → length v ≡ length values
+    → (gatherAnswer d (registersAfter d h values r s) (stackAfter d h values r s) (length v) ≡ Gathered (cond (hidden d) h 0))
+    × (valuesAfter d (registersAfter d h values r s) (stackAfter d h values r s) v ≡ values)
 
 -- "unused bytes are zero and each _Bool argument's byte is 0 or 1"
-pub record Clean (d img : List ℕ) : Type 0 where
-  pub zeros : (k : ℕ) → k < length img → Unused d k → getD img k 0 ≡ 0
+pub record Clean (d image : List ℕ) : Type 0 where
+  pub zeros : (k : ℕ) → k < length image → Unused d k → getD image k 0 ≡ 0
   pub bools : (i : ℕ) → i < argumentsIn d → kindAt d (argumentAt d i) ≡ 0 → aAt d (argumentAt d i) ≡ 0
-      → getD img (getD (addressesOf d) (valueStart d i) 0) 0 ≤ 1
+      → getD image (getD (addressesOf d) (valueStart d i) 0) 0 ≤ 1
 
 -- the images r and s come back where the values that v holds are placed into q and t
 pub record ComesBack (d : List ℕ) (h : ℕ) (v r s q t : List ℕ) : Type 0 where
@@ -70,10 +70,10 @@ UnusedUnseen = (d r s q t v : List ℕ) → length q ≡ length r → length t �
 
 -- B12: 12 exactly when 1 to 11 do not hold and there is such an argument
 abbrev pub TwelveExactly : Type 0
-TwelveExactly = (d vals : List ℕ) (registers stack : ℕ)
-    → (placeRefusal d vals registers stack ≡ 12) ↔ (Lent d (length vals) registers stack × ((i : ℕ) × BrokenAt d vals i))
+TwelveExactly = (d values : List ℕ) (registersLength stackLength : ℕ)
+    → (placeRefusal d values registersLength stackLength ≡ 12) ↔ (Lent d (length values) registersLength stackLength × ((i : ℕ) × BrokenAt d values i))
 
 -- C4: different values never give the same images
 abbrev pub NoSharedImage : Type 0
-NoSharedImage = (d : List ℕ) (h : ℕ) (vals wals r s q t : List ℕ) → placeRefusal d vals (length r) (length s) ≡ 0 → placeRefusal d wals (length q) (length t) ≡ 0
-    → registersAfter d h vals r s ≡ registersAfter d h wals q t → stackAfter d h vals r s ≡ stackAfter d h wals q t → vals ≡ wals
+NoSharedImage = (d : List ℕ) (h : ℕ) (values others r s q t : List ℕ) → placeRefusal d values (length r) (length s) ≡ 0 → placeRefusal d others (length q) (length t) ≡ 0
+    → registersAfter d h values r s ≡ registersAfter d h others q t → stackAfter d h values r s ≡ stackAfter d h others q t → values ≡ others

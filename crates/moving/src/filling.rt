@@ -1,4 +1,4 @@
-// What placing leaves in the two images and gathering takes out of them (document 01, "Images and moving bytes"), as definitions and laws; `filling` does it.
+// All arguments' bytes into the two images, every byte of which is written, and out of them again (document 01, "Images and moving bytes").
 use places::Used;
 use units::Bytes;
 ghost use mathlib.Core.Path.{_≡_};
@@ -10,10 +10,10 @@ ghost use Rattle.classify.specs.Table.{Tabled};
 ghost use Rattle.layout.specs.Arguments.{hidden, usedFirst};
 ghost use Rattle.moving.specs.Asks.{Lent};
 
-// The two images before any argument is placed (document 01, "Images and moving bytes": bytes that nothing uses are zero).
+// ---- before the first argument
 
 // Zeros, and the hidden address in rdi where it is used.
-pub fn blank_images(used: bool, address: u64, registers: &mut [u8], stack: &mut [u8])
+fn blank_images(used: bool, address: u64, registers: &mut [u8], stack: &mut [u8])
     requires { ⌜ length (now registers) ≡ 176 ⌝ }
     ensures { λ _. ⌜ now (registers .exit) ++ now (stack .exit) ≡ blankBy used address (length (now (stack .entry))) ⌝ }
 {
@@ -25,7 +25,7 @@ pub fn blank_images(used: bool, address: u64, registers: &mut [u8], stack: &mut 
     images::put_address(registers, address);
 }
 
-// All arguments' bytes into the two images, every byte of which is written, and out of them again (document 01, "Images and moving bytes").
+// ---- all arguments
 
 // Places every argument into the images, over what stands there; `first` is what is used before the first.
 fn place_all(
@@ -49,7 +49,7 @@ fn place_all(
         let k = description::argument_at(d, i);
         let extent = types::extent_in(table, k);
         let size = extent.size;
-        let placed = places::next_place(used, table, k, extent);
+        let placed = places::place_type(used, table, k, extent);
         let place = placed.place;
         images::place_one(registers, stack, place, size, values, start);
         start = units::plus(start, size);
@@ -97,7 +97,7 @@ pub fn gather_all(
         let k = description::argument_at(d, i);
         let extent = types::extent_in(table, k);
         let size = extent.size;
-        let placed = places::next_place(used, table, k, extent);
+        let placed = places::place_type(used, table, k, extent);
         let place = placed.place;
         images::gather_one(registers, stack, place, size, values, start);
         start = units::plus(start, size);

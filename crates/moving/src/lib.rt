@@ -1,11 +1,11 @@
-// Placing and gathering (document 01, "Images and moving bytes"): the bytes of all values, packed, into the two images and out again, as definitions and laws. There is no code here: `values` and `values` have the calls.
+// Placing and gathering (document 01, "Images and moving bytes"): the bytes of all values, packed, into the two images and out again.
+pub use calls::gather_values;
+pub use calls::place_values;
 pub use refusals::broken_byte;
-pub use values::gather_values;
-pub use values::place_values;
 
 mod filling; // the images filled, and the values gathered
 mod refusals; // 11 and 12
-mod values; // the calls: place_values, gather_values
+mod calls; // the calls: place_values, gather_values
 
 use form::Refusal;
 use units::Registers;

@@ -1,4 +1,4 @@
-// What is judged of the lent buffers (document 01, "Refusal numbers"): 11 by their lengths, 12 by the bytes of _Bool arguments, as definitions and laws. There is no code here: `refusals` judges the lengths, `refusals` a byte, `refusals` those of all arguments.
+// Refusals 11 and 12 of placing and gathering (document 01, "Refusal numbers"): the lengths of the lent buffers, and the bytes of _Bool arguments.
 use layout::Layout;
 use units::Bytes;
 ghost use mathlib.Core.Path.{_≡_};
@@ -11,7 +11,7 @@ ghost use Rattle.layout.specs.Layout.{valuesOf};
 ghost use Rattle.layout.specs.Verdict.{verdict};
 ghost use Rattle.form.specs.Search.{firstFrom};
 
-// Refusal 11 of placing and gathering (document 01, "Refusal numbers"): the lengths of the lent buffers.
+// ---- 11
 
 // 11: whether a lent buffer has not exactly the length that the layout says.
 pub fn wrong_length(layout: Layout, values: Bytes, registers: Bytes, stack: Bytes) -> bool
@@ -26,10 +26,10 @@ pub fn wrong_length(layout: Layout, values: Bytes, registers: Bytes, stack: Byte
     !units::same(stack, layout.area)
 }
 
-// The byte of a _Bool (document 01, "Refusal numbers", 12): which types are _Bool, and which bytes none of them may have.
+// ---- 12: the byte of one _Bool
 
 // Whether type k is _Bool, by its own record.
-pub fn is_bool(d: &[u8], k: usize) -> bool
+fn is_bool(d: &[u8], k: usize) -> bool
     requires { ⌜ Whole (now d) × (k < typesIn (now d)) ⌝ }
     ensures { λ r. ⌜ r ≡ isBool (now (d .entry)) k ⌝ }
 {
@@ -50,7 +50,7 @@ pub fn broken_byte(d: &[u8], k: usize, byte: usize) -> bool
     1 < byte
 }
 
-// Refusal 12 of placing (document 01, "Refusal numbers"): the first _Bool argument whose byte is not 0 or 1.
+// ---- 12: the first argument that breaks it
 
 // The first type that is _Bool, by its own record, or the number of types.
 fn first_bool(d: &[u8]) -> usize

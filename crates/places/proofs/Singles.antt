@@ -25,8 +25,8 @@ use Rattle.places.specs.Shapes.{Shape, kindsOf, shapeIn}
 use Rattle.places.specs.Places.{eights, inRegisters, registerFor, taking, enough, fits, start, place, next}
 use Rattle.places.specs.Recorded.{Room, Small, IsPlaced}
 use Rattle.places.specs.Steps.{stackedAt}
-use Rattle.places.specs.declared.quick_places.Lone.{Lone}
-use Rattle.places.specs.declared.quick_places.Lone.the-variants.{General as LoneGeneral, Vector as LoneVector}
+use Rattle.places.specs.declared.short_way.Lone.{Lone}
+use Rattle.places.specs.declared.short_way.Lone.the-variants.{General as LoneGeneral, Vector as LoneVector}
 use Rattle.places.specs.Asked.{IsLone}
 use Rattle.places.proofs.Fits.{place-fits, place-not, next-fits, next-not, used-same}
 

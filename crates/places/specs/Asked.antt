@@ -3,8 +3,8 @@ use mathlib.Core.Path.{_≡_}
 use mathlib.Core.List.{List, [], _∷_}
 use Rattle.places.specs.declared.Kind.{Kind}
 use Rattle.places.specs.declared.Kind.the-variants.{General as general, Vector as vector}
-use Rattle.places.specs.declared.quick_places.Lone.{Lone}
-use Rattle.places.specs.declared.quick_places.Lone.the-variants.{General, Vector, Other}
+use Rattle.places.specs.declared.short_way.Lone.{Lone}
+use Rattle.places.specs.declared.short_way.Lone.the-variants.{General, Vector, Other}
 
 -- what `asked_of` says of the kinds of an argument's eightbytes
 abbrev pub IsLone : List Kind → Lone → Type 0

@@ -1,4 +1,4 @@
-// Which registers the eightbytes of a value ask for, by its classes (document 01, "Places").
+// Which registers a value asks for, by its classes (document 01, "Places").
 use crate::Eightbyte;
 use crate::Kind;
 use crate::Kinds;
@@ -48,8 +48,6 @@ pub fn kinds_of(first: Class, second: Class) -> Kinds
         },
     }
 }
-
-// What an argument asks for, by the table (document 01, "Places").
 
 // What places an argument of type k, by the table.
 pub fn shape_in(table: &[u32; 64], k: usize) -> Shape

@@ -19,7 +19,7 @@ use Rattle.classes.specs.declared.Class.the-variants.{NoClass, Memory}
 use Rattle.classes.specs.CleanUp.{anyMemory, memoryOf, cleanUp}
 use Rattle.classes.proofs.Ups.{clean-follows}
 use Rattle.classify.specs.Classify.{isAggregate, classesOf}
-use Rattle.classify.proofs.Shaped.{second-none}
+use Rattle.classify.proofs.Coverage.{second-none}
 use Rattle.questions.proofs.Questions.{answered-sized}
 use Rattle.questions.proofs.Runs.{answered-shaped}
 use Rattle.places.specs.Shapes.{shapeOf}

@@ -13,8 +13,8 @@ use Rattle.places.specs.declared.Used.{Used}
 use Rattle.places.specs.Shapes.{Shape, Shaped}
 use Rattle.places.specs.Places.{eights, Place, onStack, place, after, area}
 use Rattle.places.specs.Images.{bytesOf, addresses, total, valueOffset}
-use Rattle.places.specs.Statements.{Apart}
-use Rattle.places.proofs.Apart.{all-seated, addresses-past, apart, address-at}
+use Rattle.places.specs.Statements.{OnePlaceEach}
+use Rattle.places.proofs.OnePlaceEach.{all-seated, addresses-past, apart, address-at}
 use Rattle.layout.specs.Arguments.{shapeAt, shapesFrom, shapes, hidden, usedFirst, usedAt, areaOf}
 use Rattle.layout.specs.Layout.{valuesOf}
 use Rattle.layout.specs.Placements.{placementAt}
@@ -41,7 +41,7 @@ module _ (d : List ℕ) (accepted : verdict d ≡ 0) where
   shaped : All Shaped (shapes d)
   shaped = all-shaped d (accepted-uses d accepted)
 
-  laid : Apart 176 eights (usedFirst d) (shapes d)
+  laid : OnePlaceEach 176 eights (usedFirst d) (shapes d)
   laid = apart 176 eights (shapes d) (usedFirst d) shaped (all-seated (shapes d))
 
   pub each : length (addressesOf d) ≡ valuesOf d

@@ -10,7 +10,7 @@ use Rattle.returning.specs.Statements.{PutsAll, MemoryHidden, AddressUnseen, Ta
 
 -- the image of each worked case, as the definitions give it
 abbrev pub imaged : ImageCase → ImageCase
-imaged (puts place n img) = puts place n (returnImage place hidden (run 1 n))
+imaged (puts place n image) = puts place n (returnImage place hidden (run 1 n))
 
 pub record BringingBack : Type 0 where
   -- each significant value byte is at its return place, the hidden address in rax where the value is in memory, and every other of the 80 bytes is

@@ -80,10 +80,10 @@ pub record A2-Questions : Type 0 where
 pub record A2-Layout : Type 0 where
   pub layout-of : (d : List ℕ) → Answered (ofLayout (layoutAnswer d)) (checkOrder d) (layoutOf d)
   pub lay-out : (d : List ℕ) (room : ℕ) → Answered (ofLayout (listAnswer d room)) (layoutOrder d room) (layoutOf d)
-  pub place-values : (d values : List ℕ) (registers stack : ℕ)
-      → Answered (ofPlacing (placeAnswer d values registers stack)) (placeOrder d values registers stack) (usedAt d (argumentsIn d) .vector .0)
-  pub gather-values : (d r s : List ℕ) (values : ℕ)
-      → Answered (ofGathering (gatherAnswer d r s values)) (gatherOrder d values (length r) (length s)) (hiddenIn d (r ++ s))
+  pub place-values : (d values : List ℕ) (registersLength stackLength : ℕ)
+      → Answered (ofPlacing (placeAnswer d values registersLength stackLength)) (placeOrder d values registersLength stackLength) (usedAt d (argumentsIn d) .vector .0)
+  pub gather-values : (d r s : List ℕ) (valuesLength : ℕ)
+      → Answered (ofGathering (gatherAnswer d r s valuesLength)) (gatherOrder d valuesLength (length r) (length s)) (hiddenIn d (r ++ s))
 
 -- station and walk. What is lent may be anything: the station and the walk record of any making, the seat and the images of any length
 pub record A2-Walk : Type 0 where

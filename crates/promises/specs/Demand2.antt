@@ -22,7 +22,7 @@ use Rattle.classes.specs.Classes.{same, isX87, mergeOf}
 use Rattle.classes.specs.CleanUp.{anyMemory, memoryOf, cleanUp}
 use Rattle.classes.specs.Ups.{UpsFollow, onStack as goesOnStack}
 use Rattle.classify.specs.Classify.{isAggregate, classesOf}
-use Rattle.classify.specs.Shaped.{Shaped}
+use Rattle.classify.specs.Coverage.{ClassesCover}
 use Rattle.questions.specs.Questions.{questionRefusal}
 use Rattle.places.specs.declared.Register.{Register}
 use Rattle.places.specs.declared.ReturnPlace.the-variants.{Memory as InMemory}
@@ -103,7 +103,7 @@ pub record B2-Classes : Type 0 where
   -- "Over 16 bytes: MEMORY"
   pub large : (t : Ty) → isAggregate t ≡ true → 16 < sizeTy lp64 t → classesOf t ≡ Memory ∷ NoClass ∷ []
   -- each byte of a value that goes in registers lies in an eightbyte that has a class, and there is no class behind it
-  pub shaped : (d : List ℕ) (t : ℕ) → questionRefusal d t ≡ 0 → Shaped (classesOf (tyAt d t)) (sizeTy lp64 (tyAt d t))
+  pub shaped : (d : List ℕ) (t : ℕ) → questionRefusal d t ≡ 0 → ClassesCover (classesOf (tyAt d t)) (sizeTy lp64 (tyAt d t))
   -- "A lone class .. with NO_CLASS second"
   pub second : (d : List ℕ) (t : ℕ) → questionRefusal d t ≡ 0 → goesOnStack (classesOf (tyAt d t)) ≡ false
       → (getD (classesOf (tyAt d t)) 1 NoClass ≡ NoClass) ↔ (sizeTy lp64 (tyAt d t) ≤ 8)

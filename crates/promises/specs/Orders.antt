@@ -45,11 +45,11 @@ layoutOrder d room = checkOrder d ++ rule 11 (shortList d room) ∷ []
 
 -- "Placing and gathering: 1..10, 11, then 12 (placing only)", by the lengths of values and images
 abbrev pub gatherOrder : List ℕ → ℕ → ℕ → ℕ → List Rule
-gatherOrder d values registers stack = checkOrder d ++ rule 11 (wrongLengths (layoutOf d) values registers stack) ∷ []
+gatherOrder d valuesLength registersLength stackLength = checkOrder d ++ rule 11 (wrongLengths (layoutOf d) valuesLength registersLength stackLength) ∷ []
 
 abbrev pub placeOrder : List ℕ → List ℕ → ℕ → ℕ → List Rule
-placeOrder d values registers stack =
-    checkOrder d ++ rule 11 (wrongLengths (layoutOf d) (length values) registers stack) ∷ rule 12 (wrongBool d values) ∷ []
+placeOrder d values registersLength stackLength =
+    checkOrder d ++ rule 11 (wrongLengths (layoutOf d) (length values) registersLength stackLength) ∷ rule 12 (wrongBool d values) ∷ []
 
 -- "Attach: 11, 14, 15, 1..10"
 abbrev pub attachOrder : Station → List ℕ → List ℕ → List Rule

@@ -1,4 +1,4 @@
-// Size or alignment alone, out of the answer that has both (document 01, "A question about one type").
+// Size and alignment of a type, both or one (document 01, "A question about one type").
 use crate::AlignAnswer;
 use crate::ExtentAnswer;
 use crate::SizeAnswer;
@@ -18,7 +18,7 @@ fn refusal_in(answer: ExtentAnswer) -> Refusal
 }
 
 // How many bytes the type has, or the refusal.
-pub fn size_in(answer: ExtentAnswer) -> SizeAnswer
+fn size_in(answer: ExtentAnswer) -> SizeAnswer
     ensures { λ r. ⌜ r ≡ sizeAnswer answer ⌝ }
 {
     let ExtentAnswer::Known(extent) = answer else {
@@ -29,7 +29,7 @@ pub fn size_in(answer: ExtentAnswer) -> SizeAnswer
 }
 
 // What the type's offset must be a multiple of, or the refusal.
-pub fn align_in(answer: ExtentAnswer) -> AlignAnswer
+fn align_in(answer: ExtentAnswer) -> AlignAnswer
     ensures { λ r. ⌜ r ≡ alignAnswer answer ⌝ }
 {
     let ExtentAnswer::Known(extent) = answer else {
@@ -39,7 +39,7 @@ pub fn align_in(answer: ExtentAnswer) -> AlignAnswer
     AlignAnswer::Align(align)
 }
 
-// The question for a type's size and alignment (document 01, "A question about one type").
+// ---- both
 
 // Size and alignment of type t.
 pub fn type_extent(d: &[u8], t: u8) -> ExtentAnswer
@@ -53,7 +53,7 @@ pub fn type_extent(d: &[u8], t: u8) -> ExtentAnswer
     ExtentAnswer::Known(types::extent_in(&table, t as usize))
 }
 
-// The questions for a type's size alone, and for its alignment alone (document 01, "A question about one type").
+// ---- one alone
 
 // How many bytes type t has.
 pub fn type_size(d: &[u8], t: u8) -> SizeAnswer

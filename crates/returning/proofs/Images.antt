@@ -19,7 +19,7 @@ use Rattle.images.proofs.Gathers.{getD-zeros, all-present, gather-at, all-gathe
 use Rattle.returning.specs.Moved.{partsOf, sources, targets}
 use Rattle.returning.specs.Image.{inMemory, rax, blankReturn, returnImage, returnValue, returnedAddress, trimmed}
 use Rattle.returning.specs.ImageAsks.{Returnable}
-use Rattle.returning.specs.ImageStatements.{Sound}
+use Rattle.returning.specs.ImageStatements.{MovedOnce}
 use Rattle.returning.proofs.Room.{returnable-sound}
 use Rattle.returning.specs.Statements.{Unused, IsImage}
 
@@ -88,7 +88,7 @@ moved-trimmed St0St1 n h v l =
 -- ---- a place and a length that suit one another
 
 module _ (place : ReturnPlace) (n : ℕ) (fit : Returnable place n) where
-  sound : Sound place n
+  sound : MovedOnce place n
   sound = returnable-sound place n fit
 
   length-sources : (v : List ℕ) → length (targets place n) ≡ length (gather v (sources place n))

@@ -24,7 +24,7 @@ use Rattle.types.specs.Filled.{Filled}
 use Rattle.types.proofs.Codes.{EachFrom, each-code}
 use Rattle.types.proofs.Sizes.{end-member, ends-low}
 use Rattle.types.proofs.Laws.{align-within, size-after}
-use Rattle.classify.specs.Classify.{firsts, seconds, firstClass, secondClass, gap, put, basicAt, elementsAt, classesAt, membersAt, isAggregate, classesOf}
+use Rattle.classify.specs.Classify.{firsts, seconds, firstClass, secondClass, gap, oneClass, basicAt, elementsAt, classesAt, membersAt, isAggregate, classesOf}
 
 -- ---- where a class can come from
 
@@ -77,8 +77,8 @@ module _ (c : Class) (m : ℕ) (f : Ty → ℕ) (r : Brought c m f) where
       by false true g = absurd (has-memory cs i g)
       by false false g = r .settles (getD (NoClass ∷ cs) i NoClass) (getD cs i NoClass) (rw (settle-at NoClass cs i) at g)
 
-  has-put : (o : ℕ) (a : Class) (i : ℕ) → Has (put 2 o a) i → same a c ≡ true
-  unfolding put
+  has-put : (o : ℕ) (a : Class) (i : ℕ) → Has (oneClass 2 o a) i → same a c ≡ true
+  unfolding oneClass
   has-put o a i h = by (noClasses 2) (o / 8) i (λ j. has-none 2 j) h
     where
       by : (cs : List Class) (k j : ℕ) → ((l : ℕ) → Has cs l → ⊥) → Has (set cs k a) j → same a c ≡ true
@@ -90,7 +90,7 @@ module _ (c : Class) (m : ℕ) (f : Ty → ℕ) (r : Brought c m f) where
 
   has-basic : (code o i : ℕ) → Has (basicAt 2 code o) i → (same (firstClass code) c || same (secondClass code) c) ≡ true
   unfolding basicAt
-  has-basic code o i h = by (has-merged (put 2 o (firstClass code)) (put 2 (o + gap code) (secondClass code)) i h)
+  has-basic code o i h = by (has-merged (oneClass 2 o (firstClass code)) (oneClass 2 (o + gap code) (secondClass code)) i h)
     where
       or-first : (a b : Bool) → a ≡ true → (a || b) ≡ true
       or-first a b e = rw e
@@ -99,7 +99,7 @@ module _ (c : Class) (m : ℕ) (f : Ty → ℕ) (r : Brought c m f) where
       or-second true b e = refl
       or-second false b e = e
 
-      by : Has (put 2 o (firstClass code)) i ⊎ Has (put 2 (o + gap code) (secondClass code)) i → (same (firstClass code) c || same (secondClass code) c) ≡ true
+      by : Has (oneClass 2 o (firstClass code)) i ⊎ Has (oneClass 2 (o + gap code) (secondClass code)) i → (same (firstClass code) c || same (secondClass code) c) ≡ true
       by (inl g) = or-first (same (firstClass code) c) (same (secondClass code) c) (has-put o (firstClass code) i g)
       by (inr g) = or-second (same (firstClass code) c) (same (secondClass code) c) (has-put (o + gap code) (secondClass code) i g)
 
@@ -251,7 +251,7 @@ complex-aggregate t a h =
     omega (arith, p .0, has-type ComplexX87 32 (sizeTy lp64) complex-brought t 0 0 (p .1))
 
 pub x87-size : (t : Ty) → Filled t → same (getD (classesOf t) 0 NoClass) X87 ≡ true → sizeTy lp64 t ≡ 16
-unfolding same isX87 mergeOf mergeAll put gap firstClass secondClass basicAt basicSize Filled sizeTy classesOf classesAt
+unfolding same isX87 mergeOf mergeAll oneClass gap firstClass secondClass basicAt basicSize Filled sizeTy classesOf classesAt
 x87-size (basic code) f h =
     basic-first X87 16 (refl, (refl, (refl, (refl, (refl, (refl, (refl, (refl, (refl, (refl, (refl, (refl, (refl, (refl, (refl, (refl, tt)))))))))))))))) code f h
 x87-size (array t n) f h = x87-aggregate (array t n) f refl h
@@ -259,7 +259,7 @@ x87-size (struct ts) f h = x87-aggregate (struct ts) f refl h
 x87-size (union ts) f h = x87-aggregate (union ts) f refl h
 
 pub complex-size : (t : Ty) → Filled t → same (getD (classesOf t) 0 NoClass) ComplexX87 ≡ true → sizeTy lp64 t ≡ 32
-unfolding same isX87 mergeOf mergeAll put gap firstClass secondClass basicAt basicSize Filled sizeTy classesOf classesAt
+unfolding same isX87 mergeOf mergeAll oneClass gap firstClass secondClass basicAt basicSize Filled sizeTy classesOf classesAt
 complex-size (basic code) f h =
     basic-first ComplexX87 32 (refl, (refl, (refl, (refl, (refl, (refl, (refl, (refl, (refl, (refl, (refl, (refl, (refl, (refl, (refl, (refl, tt)))))))))))))))) code f h
 complex-size (array t n) f h = absurd (complex-aggregate (array t n) refl h)

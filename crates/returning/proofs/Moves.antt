@@ -12,8 +12,8 @@ use Rattle.places.specs.declared.ReturnPlace.{ReturnPlace}
 use Rattle.places.specs.declared.Register.{Register}
 use Rattle.places.specs.declared.ReturnPlace.the-variants.{Void, Memory, One, Two, St0, St0St1}
 use Rattle.images.specs.Words.{withAddress}
-use Rattle.returning.specs.declared.image.Part.{Part}
-use Rattle.returning.specs.declared.image.Parts.{Parts}
+use Rattle.returning.specs.declared.return_image.Part.{Part}
+use Rattle.returning.specs.declared.return_image.Parts.{Parts}
 use Rattle.returning.specs.Moved.{returnAddress, moved, ten, noPart, partsOf, sources, targets}
 use Rattle.returning.specs.Image.{inMemory, blankReturn, returnImage, returnValue}
 use Rattle.returning.specs.ImageAsks.{Returning, Returnable, AskPart}

@@ -13,11 +13,11 @@ use Rattle.places.specs.declared.Register.{Register}
 use Rattle.places.specs.declared.Register.the-variants.{General, Vector, Upper}
 use Rattle.places.specs.declared.ReturnPlace.{ReturnPlace}
 use Rattle.places.specs.declared.ReturnPlace.the-variants.{Void, Memory, One, Two, St0, St0St1}
-use Rattle.returning.specs.declared.image.Parts.{Parts}
+use Rattle.returning.specs.declared.return_image.Parts.{Parts}
 use Rattle.returning.specs.Moved.{returnAddress, partsOf, sources, targets}
 use Rattle.returning.specs.Image.{inMemory}
-use Rattle.returning.specs.ImageAsks.{Returning, Apart, Returnable, AskPart}
-use Rattle.returning.specs.ImageStatements.{Sound}
+use Rattle.returning.specs.ImageAsks.{Returning, NoOverlap, Returnable, AskPart}
+use Rattle.returning.specs.ImageStatements.{MovedOnce}
 
 -- ---- two runs of addresses
 
@@ -81,7 +81,7 @@ returnable-room (Two a b) n h = record {
   targets = by (h .1 .1 .0);
 }
   where
-    by : Apart a b → Disjoint (returnAddress a) 8 (returnAddress b) (n - 8)
+    by : NoOverlap a b → Disjoint (returnAddress a) 8 (returnAddress b) (n - 8)
     by (inl l) = inl l
     by (inr l) = inr (omega (arith, h .1 .1 .1 .1))
 returnable-room St0 n h = record {
@@ -106,7 +106,7 @@ memory-past (Two a b) n e = absurd (false≢true e)
 memory-past St0 n e = absurd (false≢true e)
 memory-past St0St1 n e = absurd (false≢true e)
 
-pub returnable-sound : (place : ReturnPlace) (n : ℕ) → Returnable place n → Sound place n
+pub returnable-sound : (place : ReturnPlace) (n : ℕ) → Returnable place n → MovedOnce place n
 unfolding sources targets
 returnable-sound place n h =
     let p = partsOf place n in

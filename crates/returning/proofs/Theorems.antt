@@ -197,7 +197,7 @@ module _ (d img v i : List ℕ) (bytes : IsBytes img) (accepted : takeRefusal d 
   back-clean c = record { zeros = zeros; bool = bool }
     where
       image : returnImage place own value ≡ img
-      image = sym (image-is d own value i (c .accepted)) ∙ c .image
+      image = sym (image-is d own value i (c .accepted)) ∙ c .again
 
       zeros : (k : ℕ) → k < length img → Unused place n k → getD img k 0 ≡ 0
       zeros k l u = ap (λ (x : List ℕ). getD x k 0) (sym image) ∙ image-zero place n fits own value k taken-long u
@@ -210,7 +210,7 @@ module _ (d img v i : List ℕ) (bytes : IsBytes img) (accepted : takeRefusal d 
           by (no m) = omega (arith, first-byte b)
 
   clean-back : Clean d img → ComesBack d own value img i
-  clean-back c = record { accepted = ok; image = image-is d own value i ok ∙ back }
+  clean-back c = record { accepted = ok; again = image-is d own value i ok ∙ back }
     where
       ok : putRefusal d value (length i) ≡ 0
       ok =

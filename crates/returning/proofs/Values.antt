@@ -23,7 +23,7 @@ use Rattle.types.proofs.Large.{accepted-form, accepted-sized}
 use Rattle.types.proofs.Laws.{type-filled}
 use Rattle.types.proofs.Trees.{at-basic}
 use Rattle.classify.specs.Table.{Tabled}
-use Rattle.classify.specs.Classify.{firstClass, secondClass, gap, put, basicAt, classesAt, classesOf}
+use Rattle.classify.specs.Classify.{firstClass, secondClass, gap, oneClass, basicAt, classesAt, classesOf}
 use Rattle.uses.proofs.Uses.{right-below, accepted-types, accepted-return, accepted-typed}
 use Rattle.places.specs.declared.Register.the-variants.{General}
 use Rattle.places.specs.declared.ReturnPlace.{ReturnPlace}
@@ -129,7 +129,7 @@ module _ (d : List ℕ) (accepted : verdict d ≡ 0) where
 
     -- it is one byte, the first of rax
     pub bool-place : returnPlace d ≡ One (General (record { 0 = 0 }))
-    unfolding returnPlace returnOf kindsOf same isX87 mergeOf mergeAll put gap firstClass secondClass basicAt classesAt classesOf
+    unfolding returnPlace returnOf kindsOf same isX87 mergeOf mergeAll oneClass gap firstClass secondClass basicAt classesAt classesOf
     bool-place = rw (not-void, bool-type)
 
     pub bool-length : returnLength d ≡ 1

@@ -15,7 +15,7 @@ use Rattle.returning.specs.declared.TakeAnswer.{TakeAnswer}
 use Rattle.returning.specs.declared.TakeAnswer.the-variants.{Taken, Refused as NotTaken}
 
 unfoldable pub putAnswer : List ℕ → List ℕ → ℕ → PutAnswer
-putAnswer d v image = cond (eqb (putRefusal d v image) 0) Put (NotPut (refusalFor d (putRefusal d v image)))
+putAnswer d v imageLength = cond (eqb (putRefusal d v imageLength) 0) Put (NotPut (refusalFor d (putRefusal d v imageLength)))
 
 -- the image at exit, i at entry
 unfoldable pub imageAfter : List ℕ → ℕ → List ℕ → List ℕ → List ℕ
@@ -23,12 +23,12 @@ imageAfter d h v i = cond (eqb (putRefusal d v (length i)) 0) (returnImage (retu
 
 -- the hidden address, 0 where none is carried
 unfoldable pub takeAnswer : List ℕ → List ℕ → ℕ → TakeAnswer
-takeAnswer d img value =
-    cond (eqb (takeRefusal d img value) 0) (Taken (returnedAddress (returnPlace d) img)) (NotTaken (refusalFor d (takeRefusal d img value)))
+takeAnswer d image valueLength =
+    cond (eqb (takeRefusal d image valueLength) 0) (Taken (returnedAddress (returnPlace d) image)) (NotTaken (refusalFor d (takeRefusal d image valueLength)))
 
 -- the value at exit, v at entry
 unfoldable pub valueAfter : List ℕ → List ℕ → List ℕ → List ℕ
-valueAfter d img v = cond (eqb (takeRefusal d img (length v)) 0) (returnValue (returnPlace d) (length v) img) v
+valueAfter d image v = cond (eqb (takeRefusal d image (length v)) 0) (returnValue (returnPlace d) (length v) image) v
 
 -- the paper's number of an answer: 0 where it is accepted
 abbrev pub putNumber : PutAnswer → ℕ

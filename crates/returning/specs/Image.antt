@@ -50,11 +50,11 @@ returnImage place h v = scatter (blankReturn (inMemory place) h) (targets place 
 
 -- all n bytes of the value, where it is taken: "taking gives zeros there", wherever no byte is moved
 unfoldable pub returnValue : ReturnPlace → ℕ → List ℕ → List ℕ
-returnValue place n img = scatter (replicate n 0) (sources place n) (gather img (targets place n))
+returnValue place n image = scatter (replicate n 0) (sources place n) (gather image (targets place n))
 
 -- the hidden address that is taken, 0 where none is carried
 unfoldable pub returnedAddress : ReturnPlace → List ℕ → ℕ
-returnedAddress place img = cond (inMemory place) (number (gather img rax)) 0
+returnedAddress place image = cond (inMemory place) (number (gather image rax)) 0
 
 -- "those six bytes apart": a value with bytes 10 to 15 of each long double zero; any other as it is
 abbrev pub trimmed : ReturnPlace → List ℕ → List ℕ

@@ -6,7 +6,7 @@ use Rattle.places.specs.declared.Register.{Register}
 use Rattle.places.specs.declared.Register.the-variants.{General, Vector, Upper}
 use Rattle.places.specs.declared.ReturnPlace.{ReturnPlace}
 use Rattle.places.specs.declared.ReturnPlace.the-variants.{Void, Memory, One, Two, St0, St0St1}
-use Rattle.returning.specs.declared.image.Part.{Part}
+use Rattle.returning.specs.declared.return_image.Part.{Part}
 use Rattle.returning.specs.Moved.{returnAddress}
 
 -- rax or rdx, or xmm0 or xmm1 or its upper half
@@ -16,15 +16,15 @@ Returning (Vector n) = n .0 < 2
 Returning (Upper n) = n .0 < 2
 
 -- two eightbytes that do not overlap
-abbrev pub Apart : Register → Register → Type 0
-Apart a b = (returnAddress a + 8 ≤ returnAddress b) ⊎ (returnAddress b + 8 ≤ returnAddress a)
+abbrev pub NoOverlap : Register → Register → Type 0
+NoOverlap a b = (returnAddress a + 8 ≤ returnAddress b) ⊎ (returnAddress b + 8 ≤ returnAddress a)
 
 -- a place for a returned value of n bytes
 unfoldable pub Returnable : ReturnPlace → ℕ → Type 0
 Returnable Void n = n ≡ 0
 Returnable Memory n = n ≡ 0
 Returnable (One a) n = Returning a × (n ≤ 8)
-Returnable (Two a b) n = Returning a × (Returning b × (Apart a b × ((8 ≤ n) × (n ≤ 16))))
+Returnable (Two a b) n = Returning a × (Returning b × (NoOverlap a b × ((8 ≤ n) × (n ≤ 16))))
 Returnable St0 n = n ≡ 16
 Returnable St0St1 n = n ≡ 32
 

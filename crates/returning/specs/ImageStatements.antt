@@ -9,7 +9,7 @@ use Rattle.returning.specs.Moved.{sources, targets}
 use Rattle.returning.specs.Image.{inMemory}
 
 -- each byte of the value is moved once at most, each to an address of its own in the image, and none to rax where the hidden address is
-pub record Sound (place : ReturnPlace) (n : ℕ) : Type 0 where
+pub record MovedOnce (place : ReturnPlace) (n : ℕ) : Type 0 where
   pub pairs : length (targets place n) ≡ length (sources place n)
   pub once : NoDup (targets place n)
   pub inside : Below 80 (targets place n)

@@ -7,8 +7,8 @@ use Rattle.places.specs.declared.Register.{Register}
 use Rattle.places.specs.declared.Register.the-variants.{General, Vector, Upper}
 use Rattle.places.specs.declared.ReturnPlace.{ReturnPlace}
 use Rattle.places.specs.declared.ReturnPlace.the-variants.{Void, Memory, One, Two, St0, St0St1}
-use Rattle.returning.specs.declared.image.Part.{Part}
-use Rattle.returning.specs.declared.image.Parts.{Parts}
+use Rattle.returning.specs.declared.return_image.Part.{Part}
+use Rattle.returning.specs.declared.return_image.Parts.{Parts}
 
 -- where a register's eightbyte begins; an upper half is the second eightbyte of its register
 abbrev pub returnAddress : Register → ℕ

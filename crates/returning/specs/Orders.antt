@@ -14,7 +14,7 @@ use Rattle.returning.specs.Returned.{returnLength}
 
 -- 11: a value that has not exactly n bytes, or an image that has not exactly 80
 unfoldable pub wrongLength : ℕ → ℕ → ℕ → Bool
-wrongLength n value image = not (eqb value n) || not (eqb image 80)
+wrongLength n valueLength imageLength = not (eqb valueLength n) || not (eqb imageLength 80)
 
 -- 12: the returned type's own record is that of _Bool, and the value's byte is neither 0 nor 1
 unfoldable pub wrongBool : List ℕ → List ℕ → Bool
@@ -22,21 +22,21 @@ wrongBool d v = not (isVoid d) && brokenByte d (returnIn d) (getD v 0 0)
 
 -- what is judged behind 1 to 10: 11 in taking, and 11, then 12 in putting
 abbrev pub furtherTaking : List ℕ → List ℕ → ℕ → List Rule
-furtherTaking d img value = rule 11 (wrongLength (returnLength d) value (length img)) ∷ []
+furtherTaking d image valueLength = rule 11 (wrongLength (returnLength d) valueLength (length image)) ∷ []
 
 abbrev pub furtherPutting : List ℕ → List ℕ → ℕ → List Rule
-furtherPutting d v image = rule 11 (wrongLength (returnLength d) (length v) image) ∷ rule 12 (wrongBool d v) ∷ []
+furtherPutting d v imageLength = rule 11 (wrongLength (returnLength d) (length v) imageLength) ∷ rule 12 (wrongBool d v) ∷ []
 
 abbrev pub takeOrder : List ℕ → List ℕ → ℕ → List Rule
-takeOrder d img value = checkOrder d ++ furtherTaking d img value
+takeOrder d image valueLength = checkOrder d ++ furtherTaking d image valueLength
 
 abbrev pub putOrder : List ℕ → List ℕ → ℕ → List Rule
-putOrder d v image = checkOrder d ++ furtherPutting d v image
+putOrder d v imageLength = checkOrder d ++ furtherPutting d v imageLength
 
 -- which of them refuses taking so many value bytes from this image; or 0
 unfoldable pub takeRefusal : List ℕ → List ℕ → ℕ → ℕ
-takeRefusal d img value = first (takeOrder d img value)
+takeRefusal d image valueLength = first (takeOrder d image valueLength)
 
 -- and putting this value into an image of so many bytes
 unfoldable pub putRefusal : List ℕ → List ℕ → ℕ → ℕ
-putRefusal d v image = first (putOrder d v image)
+putRefusal d v imageLength = first (putOrder d v imageLength)

@@ -24,16 +24,16 @@ pub record Unused (place : ReturnPlace) (n k : ℕ) : Type 0 where
   pub past : inMemory place ≡ true → 8 ≤ k
 
 -- what every byte of the image is
-pub record IsImage (place : ReturnPlace) (h : ℕ) (v img : List ℕ) : Type 0 where
-  pub long : length img ≡ 80
-  pub values : gather img (targets place (length v)) ≡ gather v (sources place (length v))
-  pub address : inMemory place ≡ true → gather img rax ≡ littleEndian 8 h
-  pub zeros : (k : ℕ) → Unused place (length v) k → getD img k 0 ≡ 0
+pub record IsImage (place : ReturnPlace) (h : ℕ) (v image : List ℕ) : Type 0 where
+  pub long : length image ≡ 80
+  pub values : gather image (targets place (length v)) ≡ gather v (sources place (length v))
+  pub address : inMemory place ≡ true → gather image rax ≡ littleEndian 8 h
+  pub zeros : (k : ℕ) → Unused place (length v) k → getD image k 0 ≡ 0
 
 -- accepted, the image is that, and no other
 abbrev pub PutsAll : Type 0
 PutsAll = (d : List ℕ) (h : ℕ) (v i : List ℕ) → putRefusal d v (length i) ≡ 0
-    → (img : List ℕ) → (imageAfter d h v i ≡ img) ↔ IsImage (returnPlace d) h v img
+    → (image : List ℕ) → (imageAfter d h v i ≡ image) ↔ IsImage (returnPlace d) h v image
 
 -- a value is in memory exactly where a hidden address is passed for it
 abbrev pub MemoryHidden : Type 0
@@ -60,25 +60,25 @@ pub record ReturnsBool (d : List ℕ) : Type 0 where
   pub code : aAt d (returnIn d) ≡ 0
 
 -- unused bytes are zero, and a _Bool's byte, the first of rax, is 0 or 1
-pub record Clean (d img : List ℕ) : Type 0 where
-  pub zeros : (k : ℕ) → k < length img → Unused (returnPlace d) (returnLength d) k → getD img k 0 ≡ 0
-  pub bool : ReturnsBool d → getD img 0 0 ≤ 1
+pub record Clean (d image : List ℕ) : Type 0 where
+  pub zeros : (k : ℕ) → k < length image → Unused (returnPlace d) (returnLength d) k → getD image k 0 ≡ 0
+  pub bool : ReturnsBool d → getD image 0 0 ≤ 1
 
 -- the image comes back where the value v is put into i
-pub record ComesBack (d : List ℕ) (h : ℕ) (v img i : List ℕ) : Type 0 where
+pub record ComesBack (d : List ℕ) (h : ℕ) (v image i : List ℕ) : Type 0 where
   pub accepted : putRefusal d v (length i) ≡ 0
-  pub image : imageAfter d h v i ≡ img
+  pub again : imageAfter d h v i ≡ image
 
 -- a value taken and put again, with the hidden address that was taken, is accepted and gives the same image exactly when that is clean
 abbrev pub PutsTaken : Type 0
-PutsTaken = (d img v i : List ℕ) → IsBytes img → takeRefusal d img (length v) ≡ 0 → length i ≡ length img
-    → ComesBack d (returnedAddress (returnPlace d) img) (valueAfter d img v) img i ↔ Clean d img
+PutsTaken = (d image v i : List ℕ) → IsBytes image → takeRefusal d image (length v) ≡ 0 → length i ≡ length image
+    → ComesBack d (returnedAddress (returnPlace d) image) (valueAfter d image v) image i ↔ Clean d image
 
 -- taking looks at no unused byte: neither at those, nor at the six of a long double
 abbrev pub UnusedUnseen : Type 0
-UnusedUnseen = (d img jmg v : List ℕ) → length img ≡ length jmg
-    → ((k : ℕ) → (Unused (returnPlace d) (returnLength d) k → ⊥) → getD img k 0 ≡ getD jmg k 0)
-    → (takeAnswer d img (length v) ≡ takeAnswer d jmg (length v)) × (valueAfter d img v ≡ valueAfter d jmg v)
+UnusedUnseen = (d image other v : List ℕ) → length image ≡ length other
+    → ((k : ℕ) → (Unused (returnPlace d) (returnLength d) k → ⊥) → getD image k 0 ≡ getD other k 0)
+    → (takeAnswer d image (length v) ≡ takeAnswer d other (length v)) × (valueAfter d image v ≡ valueAfter d other v)
 
 -- the number of an answer is the order's, and a refusal writes nothing
 pub record Refuses (d : List ℕ) (h : ℕ) (v i : List ℕ) : Type 0 where
@@ -92,11 +92,11 @@ RefusalsTold = (d : List ℕ) (h : ℕ) (v i : List ℕ) → Refuses d h v i
 
 -- 12 exactly when 1 to 11 do not hold and a _Bool is returned whose byte is neither 0 nor 1
 abbrev pub TwelveExactly : Type 0
-TwelveExactly = (d v : List ℕ) (image : ℕ) → (putRefusal d v image ≡ 12) ↔ (Lent d (length v) image × (ReturnsBool d × (1 < getD v 0 0)))
+TwelveExactly = (d v : List ℕ) (imageLength : ℕ) → (putRefusal d v imageLength ≡ 12) ↔ (Lent d (length v) imageLength × (ReturnsBool d × (1 < getD v 0 0)))
 
 -- taking is refused under 12 by nothing
 abbrev pub NeverTwelve : Type 0
-NeverTwelve = (d img : List ℕ) (value : ℕ) → takeRefusal d img value ≢ 12
+NeverTwelve = (d image : List ℕ) (valueLength : ℕ) → takeRefusal d image valueLength ≢ 12
 
 -- different values never give the same image, those six bytes apart
 abbrev pub NoSharedImage : Type 0

@@ -1,8 +1,8 @@
-// Putting a returned value into the return image (document 02, request 2026-02), with its refusals.
+// The calls: a returned value into the return image, and out of it (document 02, request 2026-02).
 use crate::PutAnswer;
 use crate::TakeAnswer;
-use crate::image;
 use crate::refusals;
+use crate::return_image;
 use layout::LayoutAnswer;
 use units::Bytes;
 ghost use mathlib.Core.Path.{_≡_};
@@ -21,18 +21,16 @@ pub fn put_returned(d: &[u8], hidden: u64, value: &[u8], image: &mut [u8]) -> Pu
         return PutAnswer::Refused(layout::refusal_in(answer));
     };
     let place = layout.returns;
-    let right = image::length_for(place, refusals::returned_size(d, &table));
+    let right = return_image::length_for(place, refusals::returned_size(d, &table));
     if refusals::wrong_length(right, Bytes(value.len()), Bytes(image.len())) {
         return PutAnswer::Refused(form::refusal_of(11));
     }
     if refusals::wrong_bool(d, value) {
         return PutAnswer::Refused(form::refusal_of(12));
     }
-    image::put_value(place, hidden, value, image);
+    return_image::put_value(place, hidden, value, image);
     PutAnswer::Put
 }
-
-// Taking a returned value out of the return image (document 02, request 2026-02), with its refusals.
 
 // Takes the returned value out of the return image, and answers the hidden address.
 pub fn take_returned(d: &[u8], image: &[u8], value: &mut [u8]) -> TakeAnswer
@@ -45,10 +43,10 @@ pub fn take_returned(d: &[u8], image: &[u8], value: &mut [u8]) -> TakeAnswer
         return TakeAnswer::Refused(layout::refusal_in(answer));
     };
     let place = layout.returns;
-    let right = image::length_for(place, refusals::returned_size(d, &table));
+    let right = return_image::length_for(place, refusals::returned_size(d, &table));
     if refusals::wrong_length(right, Bytes(value.len()), Bytes(image.len())) {
         return TakeAnswer::Refused(form::refusal_of(11));
     }
-    image::take_value(place, image, value);
-    TakeAnswer::Taken(image::returned_address(place, image))
+    return_image::take_value(place, image, value);
+    TakeAnswer::Taken(return_image::returned_address(place, image))
 }

@@ -1,4 +1,4 @@
-// Refusal 11 of putting and taking (document 02, request 2026-02): the size of the returned type, and the lengths of the lent buffers.
+// Refusals 11 and 12 of putting and taking (document 02, request 2026-02): the lengths of the lent buffers, and the byte of a returned _Bool.
 use units::Bytes;
 ghost use mathlib.Core.Path.{_≡_};
 ghost use Rattle.classify.specs.Table.{Tabled};
@@ -28,8 +28,6 @@ pub fn wrong_length(right: Bytes, value: Bytes, image: Bytes) -> bool
     }
     !units::same(image, Bytes(80))
 }
-
-// Refusal 12 of putting (document 02, request 2026-02): a returned _Bool whose byte is not 0 or 1.
 
 // 12: whether a _Bool is returned whose byte is not 0 or 1. Void and a value in memory have no byte.
 pub fn wrong_bool(d: &[u8], value: &[u8]) -> bool

@@ -1,4 +1,4 @@
-// The station and its seat (document 01, "Station and walk").
+// The station and its seat (document 01, "Station and walk"): attaching a description and detaching it, by value and lent.
 use form::Refusal;
 use units::Bytes;
 ghost use mathlib.Core.Path.{_≡_};
@@ -47,7 +47,7 @@ fn fill(seat: &mut [u8], d: &[u8])
     addresses::copy(seat, 0, d, 0, d.len());
 }
 
-// Attaching a description to a station (document 01, "Station and walk"), by value and lent.
+// ---- attaching
 
 // The station after an attach, and the refusal, number 0 for none.
 pub struct Attached {
@@ -72,7 +72,7 @@ fn attach_refusal(station: Station, seat: &[u8], d: &[u8]) -> Refusal
 }
 
 // Attaches, by value: the station counts up and the seat is filled, or both stay.
-pub fn attaching(station: Station, seat: &mut [u8], d: &[u8]) -> Attached
+pub fn attach_by_value(station: Station, seat: &mut [u8], d: &[u8]) -> Attached
     ensures { λ r. ⌜ (r .refusal ≡ refusalUnder kcb (now (d .entry)) (attachRefusal kcb station (now (seat .entry)) (now (d .entry))))
         × (r .station ≡ attachStation kcb station (now (seat .entry)) (now (d .entry)))
         × (now (seat .exit) ≡ attachSeat kcb station (now (seat .entry)) (now (d .entry))) ⌝ }
@@ -101,12 +101,12 @@ pub fn attach(station: &mut Station, seat: &mut [u8], d: &[u8]) -> Refusal
         × (now (station .exit) ≡ attachStation kcb (now (station .entry)) (now (seat .entry)) (now (d .entry)))
         × (now (seat .exit) ≡ attachSeat kcb (now (station .entry)) (now (seat .entry)) (now (d .entry))) ⌝ }
 {
-    let after = attaching(*station, seat, d);
+    let after = attach_by_value(*station, seat, d);
     *station = after.station;
     after.refusal
 }
 
-// Detaching from a station (document 01, "Station and walk"), by value and lent.
+// ---- detaching
 
 // The station after a detach, and the refusal, number 0 for none.
 pub struct Detached {
@@ -128,7 +128,7 @@ fn detach_refusal(station: Station, seat: &[u8]) -> Refusal
 }
 
 // Detaches, by value: the seat and the length are zeroed and the number stays, or all of them do.
-pub fn detaching(station: Station, seat: &mut [u8]) -> Detached
+pub fn detach_by_value(station: Station, seat: &mut [u8]) -> Detached
     ensures { λ r. ⌜ (r .refusal ≡ refusalOf (detachRefusal station (now (seat .entry))))
         × (r .station ≡ detachStation station (now (seat .entry)))
         × (now (seat .exit) ≡ detachSeat station (now (seat .entry))) ⌝ }
@@ -157,7 +157,7 @@ pub fn detach(station: &mut Station, seat: &mut [u8]) -> Refusal
         × (now (station .exit) ≡ detachStation (now (station .entry)) (now (seat .entry)))
         × (now (seat .exit) ≡ detachSeat (now (station .entry)) (now (seat .entry))) ⌝ }
 {
-    let after = detaching(*station, seat);
+    let after = detach_by_value(*station, seat);
     *station = after.station;
     after.refusal
 }

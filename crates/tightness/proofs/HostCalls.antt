@@ -23,14 +23,14 @@ use Rattle.returning.proofs.put_returned
 use Rattle.returning.proofs.take_returned
 use Rattle.station.proofs.new_station
 use Rattle.station.proofs.attach
-use Rattle.station.proofs.attaching
+use Rattle.station.proofs.attach_by_value
 use Rattle.station.proofs.detach
-use Rattle.station.proofs.detaching
+use Rattle.station.proofs.detach_by_value
 use Rattle.station.proofs.wrong_seat
 use Rattle.walk.proofs.open_walk
 use Rattle.walk.proofs.checked
 use Rattle.walk.proofs.step
-use Rattle.walk.proofs.stepping
+use Rattle.walk.proofs.step_by_value
 use Rattle.walk.proofs.shown_at
 use Rattle.walk.proofs.show
 use Rattle.walk.proofs.show_number
@@ -124,14 +124,14 @@ total-station-new-station c g = refl
 pub total-station-attach : Total attach.ended (λ M. attach.clauses {M = M})
 total-station-attach c g = refl
 
-pub total-station-attaching : Total attaching.ended (λ M. attaching.clauses {M = M})
-total-station-attaching c g = refl
+pub total-station-attach-by-value : Total attach_by_value.ended (λ M. attach_by_value.clauses {M = M})
+total-station-attach-by-value c g = refl
 
 pub total-station-detach : Total detach.ended (λ M. detach.clauses {M = M})
 total-station-detach c g = refl
 
-pub total-station-detaching : Total detaching.ended (λ M. detaching.clauses {M = M})
-total-station-detaching c g = refl
+pub total-station-detach-by-value : Total detach_by_value.ended (λ M. detach_by_value.clauses {M = M})
+total-station-detach-by-value c g = refl
 
 pub total-station-wrong-seat : Total wrong_seat.ended (λ M. wrong_seat.clauses {M = M})
 total-station-wrong-seat c g = refl
@@ -145,8 +145,8 @@ total-walk-checked c g = refl
 pub total-walk-step : Total step.ended (λ M. step.clauses {M = M})
 total-walk-step c g = refl
 
-pub total-walk-stepping : Total stepping.ended (λ M. stepping.clauses {M = M})
-total-walk-stepping c g = refl
+pub total-walk-step-by-value : Total step_by_value.ended (λ M. step_by_value.clauses {M = M})
+total-walk-step-by-value c g = refl
 
 pub total-walk-shown-at : Total shown_at.ended (λ M. shown_at.clauses {M = M})
 total-walk-shown-at c g = refl

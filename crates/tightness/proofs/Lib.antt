@@ -16,7 +16,7 @@ pub mod OfStation
 pub mod OfWalk
 pub mod OfListing
 pub mod OfFlat
+pub mod OfCCalls
 pub mod OfCallbridge
 pub mod OfAddresses
-pub mod OfText
 pub mod OfUnits

@@ -6,8 +6,8 @@ use Rattle.flat.proofs.Classes
 use Rattle.flat.proofs.Layout
 use Rattle.flat.proofs.Part
 use Rattle.flat.proofs.Placement
-use Rattle.flat.proofs.moving_calls.Gathered
-use Rattle.flat.proofs.moving_calls.Placed
+use Rattle.flat.proofs.Gathered
+use Rattle.flat.proofs.Placed
 use Rattle.station.proofs.Station
 use Rattle.types.proofs.Extent
 use Rattle.walk.proofs.Walk

@@ -6,15 +6,15 @@ use Rattle.places.proofs.Records.{asked-same, placed-same}
 use Rattle.places.proofs.shape_in
 use Rattle.places.proofs.shape_in.Met as shape-in-met
 use Rattle.places.proofs.shape_in.Symbol as shape-in-symbol
-use Rattle.places.proofs.place_next
-use Rattle.places.proofs.place_next.Met as place-next-met
-use Rattle.places.proofs.place_next.Symbol as place-next-symbol
-use Rattle.places.proofs.use_next
-use Rattle.places.proofs.use_next.Met as use-next-met
-use Rattle.places.proofs.use_next.Symbol as use-next-symbol
-use Rattle.places.proofs.next_place
-use Rattle.places.proofs.next_place.Met as next-place-met
-use Rattle.places.proofs.next_place.Symbol as next-place-symbol
+use Rattle.places.proofs.place_shape
+use Rattle.places.proofs.place_shape.Met as place-shape-met
+use Rattle.places.proofs.place_shape.Symbol as place-shape-symbol
+use Rattle.places.proofs.use_type
+use Rattle.places.proofs.use_type.Met as use-type-met
+use Rattle.places.proofs.use_type.Symbol as use-type-symbol
+use Rattle.places.proofs.place_type
+use Rattle.places.proofs.place_type.Met as place-type-met
+use Rattle.places.proofs.place_type.Symbol as place-type-symbol
 use Rattle.places.proofs.fresh
 use Rattle.places.proofs.fresh.Met as fresh-met
 use Rattle.places.proofs.fresh.Symbol as fresh-symbol
@@ -31,23 +31,23 @@ meets-places-shape-in M = shape-in-met.met
 pub tight-places-shape-in : Tight shape_in.ended (λ M. shape_in.clauses {M = M})
 tight-places-shape-in c r q w v a b = (settle (result shape_in.ended c) (a .ensured) (b .ensured) (λ e f. asked-same r q (e ∙ sym f)), refl)
 
-pub meets-places-place-next : Meets place_next.ended (λ M. place_next.clauses {M = M}) place-next-symbol.routine
-meets-places-place-next M = place-next-met.met
+pub meets-places-place-shape : Meets place_shape.ended (λ M. place_shape.clauses {M = M}) place-shape-symbol.routine
+meets-places-place-shape M = place-shape-met.met
 
-pub tight-places-place-next : Tight place_next.ended (λ M. place_next.clauses {M = M})
-tight-places-place-next c r q w v a b = (settle (result place_next.ended c) (a .ensured) (b .ensured) (placed-same _ _ r q), refl)
+pub tight-places-place-shape : Tight place_shape.ended (λ M. place_shape.clauses {M = M})
+tight-places-place-shape c r q w v a b = (settle (result place_shape.ended c) (a .ensured) (b .ensured) (placed-same _ _ r q), refl)
 
-pub meets-places-use-next : Meets use_next.ended (λ M. use_next.clauses {M = M}) use-next-symbol.routine
-meets-places-use-next M = use-next-met.met
+pub meets-places-use-type : Meets use_type.ended (λ M. use_type.clauses {M = M}) use-type-symbol.routine
+meets-places-use-type M = use-type-met.met
 
-pub tight-places-use-next : Tight use_next.ended (λ M. use_next.clauses {M = M})
-tight-places-use-next c r q w v a b = (equal (result use_next.ended c) (a .ensured) (b .ensured), refl)
+pub tight-places-use-type : Tight use_type.ended (λ M. use_type.clauses {M = M})
+tight-places-use-type c r q w v a b = (equal (result use_type.ended c) (a .ensured) (b .ensured), refl)
 
-pub meets-places-next-place : Meets next_place.ended (λ M. next_place.clauses {M = M}) next-place-symbol.routine
-meets-places-next-place M = next-place-met.met
+pub meets-places-place-type : Meets place_type.ended (λ M. place_type.clauses {M = M}) place-type-symbol.routine
+meets-places-place-type M = place-type-met.met
 
-pub tight-places-next-place : Tight next_place.ended (λ M. next_place.clauses {M = M})
-tight-places-next-place c r q w v a b = (settle (result next_place.ended c) (a .ensured) (b .ensured) (placed-same _ _ r q), refl)
+pub tight-places-place-type : Tight place_type.ended (λ M. place_type.clauses {M = M})
+tight-places-place-type c r q w v a b = (settle (result place_type.ended c) (a .ensured) (b .ensured) (placed-same _ _ r q), refl)
 
 pub meets-places-fresh : Meets fresh.ended (λ M. fresh.clauses {M = M}) fresh-symbol.routine
 meets-places-fresh M = fresh-met.met

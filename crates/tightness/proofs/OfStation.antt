@@ -12,15 +12,15 @@ use Rattle.station.proofs.Station
 use Rattle.station.proofs.attach
 use Rattle.station.proofs.attach.Met as attach-met
 use Rattle.station.proofs.attach.Symbol as attach-symbol
-use Rattle.station.proofs.attaching
-use Rattle.station.proofs.attaching.Met as attaching-met
-use Rattle.station.proofs.attaching.Symbol as attaching-symbol
+use Rattle.station.proofs.attach_by_value
+use Rattle.station.proofs.attach_by_value.Met as attach-by-value-met
+use Rattle.station.proofs.attach_by_value.Symbol as attach-by-value-symbol
 use Rattle.station.proofs.detach
 use Rattle.station.proofs.detach.Met as detach-met
 use Rattle.station.proofs.detach.Symbol as detach-symbol
-use Rattle.station.proofs.detaching
-use Rattle.station.proofs.detaching.Met as detaching-met
-use Rattle.station.proofs.detaching.Symbol as detaching-symbol
+use Rattle.station.proofs.detach_by_value
+use Rattle.station.proofs.detach_by_value.Met as detach-by-value-met
+use Rattle.station.proofs.detach_by_value.Symbol as detach-by-value-symbol
 
 pub meets-station-new-station : Meets new_station.ended (λ M. new_station.clauses {M = M}) new-station-symbol.routine
 meets-station-new-station M = new-station-met.met
@@ -34,11 +34,11 @@ meets-station-wrong-seat M = wrong-seat-met.met
 pub tight-station-wrong-seat : Tight wrong_seat.ended (λ M. wrong_seat.clauses {M = M})
 tight-station-wrong-seat c r q w v a b = (equal (result wrong_seat.ended c) (a .ensured) (b .ensured), refl)
 
-pub meets-station-attaching : Meets attaching.ended (λ M. attaching.clauses {M = M}) attaching-symbol.routine
-meets-station-attaching M = attaching-met.met
+pub meets-station-attach-by-value : Meets attach_by_value.ended (λ M. attach_by_value.clauses {M = M}) attach-by-value-symbol.routine
+meets-station-attach-by-value M = attach-by-value-met.met
 
-pub tight-station-attaching : Tight attaching.ended (λ M. attaching.clauses {M = M})
-tight-station-attaching c r q w v a b = (settle (result attaching.ended c) (a .ensured) (b .ensured) (λ e f i. record { refusal = (e .0 ∙ sym (f .0)) i; station = (e .1 ∙ sym (f .1)) i }), λ i. (tt, (seat i, (tt, tt))))
+pub tight-station-attach-by-value : Tight attach_by_value.ended (λ M. attach_by_value.clauses {M = M})
+tight-station-attach-by-value c r q w v a b = (settle (result attach_by_value.ended c) (a .ensured) (b .ensured) (λ e f i. record { refusal = (e .0 ∙ sym (f .0)) i; station = (e .1 ∙ sym (f .1)) i }), λ i. (tt, (seat i, (tt, tt))))
   where
     seat : w .1 .0 ≡ v .1 .0
     seat = settle bytes (a .ensured) (b .ensured) (λ e f. e .2 ∙ sym (f .2))
@@ -55,11 +55,11 @@ tight-station-attach c r q w v a b = (settle (result attach.ended c) (a .ensured
     seat : w .1 .0 ≡ v .1 .0
     seat = settle bytes (a .ensured) (b .ensured) (λ e f. e .2 ∙ sym (f .2))
 
-pub meets-station-detaching : Meets detaching.ended (λ M. detaching.clauses {M = M}) detaching-symbol.routine
-meets-station-detaching M = detaching-met.met
+pub meets-station-detach-by-value : Meets detach_by_value.ended (λ M. detach_by_value.clauses {M = M}) detach-by-value-symbol.routine
+meets-station-detach-by-value M = detach-by-value-met.met
 
-pub tight-station-detaching : Tight detaching.ended (λ M. detaching.clauses {M = M})
-tight-station-detaching c r q w v a b = (settle (result detaching.ended c) (a .ensured) (b .ensured) (λ e f i. record { refusal = (e .0 ∙ sym (f .0)) i; station = (e .1 ∙ sym (f .1)) i }), λ i. (tt, (seat i, tt)))
+pub tight-station-detach-by-value : Tight detach_by_value.ended (λ M. detach_by_value.clauses {M = M})
+tight-station-detach-by-value c r q w v a b = (settle (result detach_by_value.ended c) (a .ensured) (b .ensured) (λ e f i. record { refusal = (e .0 ∙ sym (f .0)) i; station = (e .1 ∙ sym (f .1)) i }), λ i. (tt, (seat i, tt)))
   where
     seat : w .1 .0 ≡ v .1 .0
     seat = settle bytes (a .ensured) (b .ensured) (λ e f. e .2 ∙ sym (f .2))

@@ -8,9 +8,9 @@ use Rattle.walk.proofs.open_walk.Symbol as open-walk-symbol
 use Rattle.walk.proofs.checked
 use Rattle.walk.proofs.checked.Met as checked-met
 use Rattle.walk.proofs.checked.Symbol as checked-symbol
-use Rattle.walk.proofs.stepping
-use Rattle.walk.proofs.stepping.Met as stepping-met
-use Rattle.walk.proofs.stepping.Symbol as stepping-symbol
+use Rattle.walk.proofs.step_by_value
+use Rattle.walk.proofs.step_by_value.Met as step-by-value-met
+use Rattle.walk.proofs.step_by_value.Symbol as step-by-value-symbol
 use Rattle.walk.proofs.Walk
 use Rattle.walk.proofs.step
 use Rattle.walk.proofs.step.Met as step-met
@@ -38,11 +38,11 @@ meets-walk-checked M = checked-met.met
 pub tight-walk-checked : Tight checked.ended (λ M. checked.clauses {M = M})
 tight-walk-checked c r q w v a b = (settle (result checked.ended c) (a .ensured) (b .ensured) (λ e f. standing-same _ _ _ _ r q e f), refl)
 
-pub meets-walk-stepping : Meets stepping.ended (λ M. stepping.clauses {M = M}) stepping-symbol.routine
-meets-walk-stepping M = stepping-met.met
+pub meets-walk-step-by-value : Meets step_by_value.ended (λ M. step_by_value.clauses {M = M}) step-by-value-symbol.routine
+meets-walk-step-by-value M = step-by-value-met.met
 
-pub tight-walk-stepping : Tight stepping.ended (λ M. stepping.clauses {M = M})
-tight-walk-stepping c r q w v a b = (settle (result stepping.ended c) (a .ensured) (b .ensured) (λ e f i. record { refusal = (e .0 ∙ sym (f .0)) i; walk = (e .1 ∙ sym (f .1)) i }), λ i. (tt, (tt, (tt, (tt, (tt, (tt, (out i, tt))))))))
+pub tight-walk-step-by-value : Tight step_by_value.ended (λ M. step_by_value.clauses {M = M})
+tight-walk-step-by-value c r q w v a b = (settle (result step_by_value.ended c) (a .ensured) (b .ensured) (λ e f i. record { refusal = (e .0 ∙ sym (f .0)) i; walk = (e .1 ∙ sym (f .1)) i }), λ i. (tt, (tt, (tt, (tt, (tt, (tt, (out i, tt))))))))
   where
     out : w .1 .1 .1 .1 .1 .1 .0 ≡ v .1 .1 .1 .1 .1 .1 .0
     out = settle bytes (a .ensured) (b .ensured) (λ e f. e .2 ∙ sym (f .2))

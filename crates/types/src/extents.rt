@@ -1,4 +1,4 @@
-// Where a member of a struct or a union goes, and where the members end then (document 01, "Size/align").
+// Size and alignment of one type, by those of the types below it (document 01, "Size/align").
 use crate::Extent;
 use crate::table_entries;
 use units::Bytes;
@@ -22,7 +22,7 @@ pub fn offset_after(union: bool, end: Bytes, align: Bytes) -> Bytes
 }
 
 // Where the members end after one more.
-pub fn end_after(union: bool, end: Bytes, member: Extent) -> Bytes
+fn end_after(union: bool, end: Bytes, member: Extent) -> Bytes
     requires { ⌜ ((end .0 ≤ 2 ^ 32) × (member .size .0 ≤ 4096)) × ((0 < member .align .0) × (member .align .0 ≤ 16)) ⌝ }
     ensures { λ r. ⌜ r .0 ≡ endAfter union (end .0) (member .align .0) (member .size .0) ⌝ }
 {
@@ -30,7 +30,7 @@ pub fn end_after(union: bool, end: Bytes, member: Extent) -> Bytes
     units::larger(end, units::plus(offset, member.size))
 }
 
-// Size and alignment of one type of a description, worked out by those of the types below it (document 01, "Size/align").
+// ---- one type
 
 const SIZES: [u8; 16] = [1, 1, 2, 4, 8, 16, 4, 8, 16, 16, 8, 16, 8, 16, 32, 8];
 

@@ -1,4 +1,4 @@
-// Sizes and alignments of all types of a description, put into a table (document 01, "Size/align").
+// The table of all sizes and alignments, and which of the refusals 1 to 7 any bytes get, with the type that 6 and 7 name (document 01, "Refusal numbers").
 use crate::extents;
 use crate::table_entries;
 use form::Refusal;
@@ -12,7 +12,7 @@ ghost use Rattle.types.specs.Wrong.{refusalFor, Judged};
 
 // Works the table out from number 0 upward, up to the first type of more than 4,096 bytes; the answer is that type, or the
 // number of types. Each size that a later type is made of is at most 4,096, so that no sum and no product overflows.
-pub fn fill_sizes(d: &[u8], table: &mut [u32; 64]) -> usize
+fn fill_sizes(d: &[u8], table: &mut [u32; 64]) -> usize
     requires { ⌜ formRefusal (now d) ≡ 0 ⌝ }
     ensures { λ r. ⌜ (r ≡ firstLarge (now (d .entry)))
         × (now (table .exit) ≡ filled (entryAt (now (d .entry))) (firstLarge (now (d .entry))) (now (table .entry)))
@@ -32,7 +32,7 @@ pub fn fill_sizes(d: &[u8], table: &mut [u32; 64]) -> usize
     k
 }
 
-// Which of the refusals 1 to 7 any bytes get, 7 by the sizes of all types, and which type 6 and 7 name (document 01, "Refusal numbers").
+// ---- refusals 1 to 7
 
 // Which of the refusals 1 to 7 the description gets, or 0: then the table has an entry for each type.
 pub fn types_refusal_with(d: &[u8], table: &mut [u32; 64]) -> u8

@@ -1,11 +1,11 @@
-// What a call may use of a description's types: conditions 8 and 9 of document 01, and which of 1 to 9 refuses any bytes, as definitions and laws; `uses` finds it out.
+// What a call may use of a description's types (document 01, "Refusal numbers", 8 and 9), and which of 1 to 9 refuses any bytes.
 ghost use mathlib.Core.Path.{_≡_};
 ghost use Rattle.description.specs.Description.{Whole, typesIn};
 ghost use Rattle.uses.specs.Uses.{wrongNumber, wrongReturn, firstWrong, narrow, firstNarrow, Typed, usesRefusal};
 ghost use Prim.Native.Nat.{_<_};
 ghost use Rattle.types.specs.Table.{sizesAfter, Sizes};
 
-// Condition 8 of document 01, found out: the return type or an argument whose number is no type that can be passed or returned by itself.
+// ---- 8: the return type and each argument
 
 // Whether number t is no type to pass or return by itself: not below T, or an array.
 fn wrong_number(d: &[u8], t: usize) -> bool
@@ -48,7 +48,7 @@ fn first_wrong(d: &[u8]) -> usize
     i
 }
 
-// Condition 9 of document 01, found out: an unnamed argument of a type that C widens where it is passed unnamed.
+// ---- 9: unnamed arguments
 
 // Whether type k is one that C widens where it is passed unnamed: _Bool, char, short or float.
 fn is_narrow(d: &[u8], k: usize) -> bool
@@ -83,7 +83,7 @@ fn first_narrow(d: &[u8]) -> usize
     i
 }
 
-// Which of the refusals 1 to 9 any bytes get (document 01, "Refusal numbers"): 8 and 9, what a call may use of a description's types, behind 1 to 7.
+// ---- 1 to 9
 
 // Which of the refusals 1 to 9 the description gets, or 0: then the table has an entry for each type.
 pub fn uses_refusal_with(d: &[u8], table: &mut [u32; 64]) -> u8

@@ -34,7 +34,7 @@ use Rattle.walk.specs.declared.Fetch.{Fetch}
 use Rattle.walk.specs.declared.Fetch.the-variants.{One, Two, Stack}
 use Rattle.walk.specs.Offsets.{fromRegisters, fromStack, readAt, sourceOf, sourceIn, walkAt}
 use Rattle.walk.specs.Orders.{Ask, offsetsOf, withOffsets, standing, wrongRegisters, otherNumber, astray, atEnd, otherType, wrongStack, walkOrder, showRefusal}
-use Rattle.walk.specs.Asks.{Reached, Within}
+use Rattle.walk.specs.Asks.{InBounds, Within}
 use Rattle.walk.proofs.Agreement.{read-agrees}
 use Rattle.walk.proofs.Checks.{Genuine, astray-not}
 use Rattle.form.proofs.Order.{first-both}
@@ -175,13 +175,13 @@ pub record Ready (s : Station) (seat : List ℕ) (w : Walk) (a : Ask) : Type 0 w
   pub genuine : Genuine kcb (described s seat) w
   pub before : w .position < arguments kcb (described s seat)
   pub stack : length (a .stack) ≡ areaOf kcb (described s seat)
-  pub reached : Reached w
+  pub reached : InBounds w
   pub small : Small (shapeAt kcb (described s seat) (w .position))
   pub shaped : Shaped (shapeAt kcb (described s seat) (w .position))
   pub fetched : (f : Fetch) → sourceOf f ≡ readAt eights (offsetsOf w) (shapeAt kcb (described s seat) (w .position))
       → Within f (shapeAt kcb (described s seat) (w .position) .size) 176 (length (a .stack))
 
-standing-reached : (d : List ℕ) (w : Walk) → usesRefusal d ≡ 0 → Genuine kcb d w → w .position ≤ argumentsIn d → Reached w
+standing-reached : (d : List ℕ) (w : Walk) → usesRefusal d ≡ 0 → Genuine kcb d w → w .position ≤ argumentsIn d → InBounds w
 unfolding standing walkAt
 standing-reached d w u g l =
     let b = asks-at d u (w .position) (w .position) (omega arith) l .before in

@@ -34,7 +34,7 @@ use Rattle.walk.specs.declared.Standing.the-variants.{Before, Refused as
 use Rattle.walk.specs.Offsets.{Source, readAt, bytesFrom, sourceOf, sourceIn}
 use Rattle.walk.specs.Orders.{Ask, offsetsOf, showRefusal}
 use Rattle.walk.specs.Steps.{bytesAt}
-use Rattle.walk.specs.Asks.{Reached, IsStanding, refusalIn}
+use Rattle.walk.specs.Asks.{InBounds, IsStanding, refusalIn}
 use Rattle.walk.proofs.Passes.{Ready, ready, kcb-reads, kcb-room}
 use Rattle.walk.specs.declared.showing.Part.{Part}
 use Rattle.walk.specs.declared.showing.ShownAnswer.{ShownAnswer}
@@ -158,7 +158,7 @@ module _ (s : Station) (seat : List ℕ) (w : Walk) (a : Ask) (t : Standing) (h 
     stands : IsStanding kcb (showRefusal kcb s seat w a) (described s seat) (w .position) (Before c)
     stands = rw e at h
 
-    pub reached-here : Reached w
+    pub reached-here : InBounds w
     reached-here = ready s seat w a (stands .0) .reached
 
     pub small-here : Small (asked c)

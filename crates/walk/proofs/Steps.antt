@@ -27,7 +27,7 @@ use Rattle.walk.specs.declared.Standing.the-variants.{Before, Refused}
 use Rattle.walk.specs.Offsets.{Source, readAt, step, bytesFrom, sourceOf}
 use Rattle.walk.specs.Orders.{Ask, asking, offsetsOf, withOffsets, wrongRegisters, otherNumber, astray, atEnd, otherType, wrongStack, wrongOut, stepRefusal, showRefusal}
 use Rattle.walk.specs.Steps.{bytesAt, movedOn, stepWalk, stepOut}
-use Rattle.walk.specs.Asks.{Reached, Within, IsStanding, refusalIn}
+use Rattle.walk.specs.Asks.{InBounds, Within, IsStanding, refusalIn}
 use Rattle.walk.proofs.Passes.{Ready, ready}
 use Rattle.places.specs.Places.{eights}
 
@@ -135,7 +135,7 @@ module _ (s : Station) (seat : List ℕ) (w : Walk) (regs stack out : List ℕ) 
         let y = step-left kcb s seat w a (λ m. omega arith) in
         (p ∙ sym (under-high kcb (described s seat) 11 (omega arith)) ∙ ap (refusalUnder kcb (described s seat)) (sym x), y .0, y .1)
 
-    pub reached-here : Reached w
+    pub reached-here : InBounds w
     reached-here = is-ready .reached
 
     pub small-here : Small (asked c)

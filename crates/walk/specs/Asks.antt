@@ -18,7 +18,7 @@ use Rattle.walk.specs.declared.Standing.{Standing}
 use Rattle.walk.specs.declared.Standing.the-variants.{Before, Refused}
 
 -- offsets that a walk can have: no sum overflows, and a vector register stands behind the general ones
-pub record Reached (w : Walk) : Type 0 where
+pub record InBounds (w : Walk) : Type 0 where
   pub position : w .position ≤ 64
   pub general : w .general .0 ≤ 48
   pub behind : 48 ≤ w .vector .0

@@ -18,7 +18,7 @@ ghost use Rattle.places.specs.Places.{eights, generalFor, vectorFor};
 ghost use Rattle.places.specs.Recorded.{listed, asked as askedOf, Small};
 ghost use Rattle.walk.specs.Offsets.{holds, readAt, step as stepOffsets, sourceOf, walkAt};
 ghost use Rattle.walk.specs.Orders.{offsetsOf, withOffsets};
-ghost use Rattle.walk.specs.Asks.{Reached, IsCounted, readFor};
+ghost use Rattle.walk.specs.Asks.{InBounds, IsCounted, readFor};
 
 // The walk before argument `position`, where so much is used.
 pub fn walk_at(number: u32, position: usize, used: Used) -> Walk
@@ -119,7 +119,7 @@ fn raise_overflow(overflow: Bytes, align: Bytes) -> Bytes
 
 // The offset at which an eightbyte of this kind is read, behind those that took `passed`.
 fn read(walk: Walk, passed: Counts, kind: Kind) -> Bytes
-    requires { ⌜ Reached walk × (passed .general .0 ≤ 1) × (passed .vector .0 ≤ 1) ⌝ }
+    requires { ⌜ InBounds walk × (passed .general .0 ≤ 1) × (passed .vector .0 ≤ 1) ⌝ }
     ensures { λ r. ⌜ r .0 ≡ readFor (walk .general .0 + 8 * passed .general .0) (walk .vector .0 + 16 * passed .vector .0) kind ⌝ }
 {
     let general = units::plus(walk.general, units::general_bytes(passed.general));
@@ -133,7 +133,7 @@ fn read(walk: Walk, passed: Counts, kind: Kind) -> Bytes
 
 // Where the argument that the walk stands before is fetched.
 pub fn fetch_at(walk: Walk, shape: Shape) -> Fetch
-    requires { ⌜ Reached walk × Small (askedOf shape) ⌝ }
+    requires { ⌜ InBounds walk × Small (askedOf shape) ⌝ }
     ensures { λ r. ⌜ sourceOf r ≡ readAt eights (offsetsOf walk) (askedOf shape) ⌝ }
 {
     let kinds = shape.kinds;
@@ -155,7 +155,7 @@ pub fn fetch_at(walk: Walk, shape: Shape) -> Fetch
 
 // The walk behind that argument: "both offsets move on", or "its size is added, and the result is raised to 8".
 pub fn moved_on(walk: Walk, shape: Shape) -> Walk
-    requires { ⌜ Reached walk × Small (askedOf shape) ⌝ }
+    requires { ⌜ InBounds walk × Small (askedOf shape) ⌝ }
     ensures { λ r. ⌜ r ≡ withOffsets (walk .number) (suc (walk .position)) (stepOffsets eights (offsetsOf walk) (askedOf shape)) ⌝ }
 {
     let number = walk.number;

@@ -1,19 +1,19 @@
-// The walk over unnamed arguments (document 01, "Station and walk"; 000, section 3.5.7): where it stands, where the next argument is fetched and where the walk stands after it, as definitions and laws; `fetching` works it out.
-pub use going_on::checked;
+// The walk over unnamed arguments (document 01, "Station and walk"; 000, section 3.5.7): opened, checked, stepped, and the next argument shown where it lies.
+pub use checking::checked;
 pub use opening::open_walk;
 pub use showing::Part;
 pub use showing::ShownAnswer;
 pub use showing::show;
 pub use showing::show_number;
 pub use showing::shown_at;
-pub use step_calls::Stepped;
-pub use step_calls::step;
-pub use step_calls::stepping;
+pub use stepping::Stepped;
+pub use stepping::step;
+pub use stepping::step_by_value;
 
 mod fetching; // where a walk stands, fetches and stands then, worked out
 mod opening; // opening a walk
-mod going_on; // whether a walk goes on where it stands: every check of a step but that of the out buffer
-mod step_calls; // the step of a walk, by value and lent
+mod checking; // whether a walk goes on where it stands: every check of a step but that of the out buffer
+mod stepping; // the step of a walk, by value and lent
 mod showing; // where the next argument lies, and the part that shows it
 
 use form::Refusal;

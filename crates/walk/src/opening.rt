@@ -10,7 +10,7 @@ ghost use Rattle.walk.specs.Orders.{standing, variadicOrder};
 ghost use Rattle.walk.specs.Steps.{openedIf, openAnswer};
 
 // 1..10, 16, and the walk before the first unnamed argument.
-fn opening(number: u32, d: &[u8]) -> OpenAnswer
+fn open_on(number: u32, d: &[u8]) -> OpenAnswer
     ensures { λ r. ⌜ r ≡ openedIf kcb (now (d .entry)) (first (variadicOrder kcb (now (d .entry)))) (standing kcb (now (d .entry)) number (kcb .named (now (d .entry)))) ⌝ }
 {
     let answer = layout::layout_of(d);
@@ -38,5 +38,5 @@ pub fn open_walk(station: Station, seat: &[u8]) -> OpenAnswer
     let length = station.length;
     let end = length.0;
     let number = station.number;
-    opening(number, &seat[..end])
+    open_on(number, &seat[..end])
 }

@@ -1,9 +1,9 @@
-// The part of an image that an argument lies in (document 01, "Station and walk", "A second call").
+// The next argument shown where it lies (document 01, "Station and walk", "A second call", "A third call"): as a part of one of the two images.
 use crate::Fetch;
 use crate::Standing;
 use crate::Walk;
+use crate::checking;
 use crate::fetching;
-use crate::going_on;
 use form::Refusal;
 use places::Kind;
 use places::Kinds;
@@ -82,7 +82,7 @@ fn in_registers(offset: Bytes, shape: Shape) -> ShownAnswer
 }
 
 // The part of an argument that is fetched there.
-pub fn part_of(fetch: Fetch, shape: Shape) -> ShownAnswer
+fn part_of(fetch: Fetch, shape: Shape) -> ShownAnswer
     ensures { λ r. ⌜ r ≡ partIn (sourceOf fetch) (askedOf shape) ⌝ }
 {
     let size = shape.size;
@@ -96,10 +96,10 @@ pub fn part_of(fetch: Fetch, shape: Shape) -> ShownAnswer
     }
 }
 
-// The part of an image that shows an argument (document 01, "Station and walk", "A second call").
+// ---- the bytes of that part
 
 // The part that an answer names; the empty part for a refusal, and where the argument lies in more than one.
-pub fn part_in<'a>(answer: ShownAnswer, registers: &'a [u8], stack: &'a [u8]) -> &'a [u8]
+fn part_in<'a>(answer: ShownAnswer, registers: &'a [u8], stack: &'a [u8]) -> &'a [u8]
     requires { ⌜ Lies answer (length (now registers)) (length (now stack)) ⌝ }
     ensures { λ r. ⌜ now r ≡ shownBytes answer (now (registers .entry)) (now (stack .entry)) ⌝ }
 {
@@ -119,7 +119,7 @@ pub fn part_in<'a>(answer: ShownAnswer, registers: &'a [u8], stack: &'a [u8]) ->
     }
 }
 
-// An argument shown where it lies (document 01, "Station and walk", "A second call").
+// ---- the calls
 
 // Where the argument that the walk stands before lies.
 pub fn shown_at(
@@ -133,9 +133,9 @@ pub fn shown_at(
     ensures { λ r. ⌜ (r ≡ shownAnswer kcb station (now (seat .entry)) walk (asking (now (registers .entry)) (now (stack .entry)) asked []))
         × Lies r (length (now (registers .entry))) (length (now (stack .entry))) ⌝ }
 {
-    let standing = going_on::checked(station, seat, walk, registers, stack, asked);
+    let standing = checking::checked(station, seat, walk, registers, stack, asked);
     let Standing::Before(shape) = standing else {
-        return ShownAnswer::Refused(going_on::refusal_in(standing));
+        return ShownAnswer::Refused(checking::refusal_in(standing));
     };
     let fetch = fetching::fetch_at(walk, shape);
     part_of(fetch, shape)
@@ -156,8 +156,6 @@ pub fn show<'a>(
     part_in(answer, registers, stack)
 }
 
-// The number of `show` (document 01, "Station and walk", "A third call").
-
 // The refusal of `show`, number 0 for none.
 pub fn show_number(
     station: Station,
@@ -169,6 +167,6 @@ pub fn show_number(
 ) -> Refusal
     ensures { λ r. ⌜ r ≡ refusalUnder kcb (described station (now (seat .entry))) (showRefusal kcb station (now (seat .entry)) walk (asking (now (registers .entry)) (now (stack .entry)) asked [])) ⌝ }
 {
-    let standing = going_on::checked(station, seat, walk, registers, stack, asked);
-    going_on::refusal_in(standing)
+    let standing = checking::checked(station, seat, walk, registers, stack, asked);
+    checking::refusal_in(standing)
 }

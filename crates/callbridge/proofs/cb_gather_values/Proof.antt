@@ -1,5 +1,6 @@
--- `callbridge::cb_gather_values` meets its contract: a walk of its MIR, by hand. Each struct that is lent is copied out whole; they and the rest go on to `give_gathered`, which is covered; the record that comes back is stored whole, and the borrow is closed at it.
--- All that the proof knows of `give_gathered` is that it meets its contract. The walk reads nothing of the definitions.
+-- tools/thin_walks writes this file: change the function or the tool, then run it.
+-- `callbridge::cb_gather_values` meets its contract: a walk of its MIR. Each struct that is lent is copied out whole; they and the rest go on to `gather_values`, which is covered; the record that comes back is stored whole, and the borrow is closed at it.
+-- All that the proof knows of `gather_values` is that it meets its contract. The walk reads nothing of the definitions.
 -- Assumes nothing.
 use mathlib.Core.Path.{_≡_, refl, ap}
 use Prim.Native.Nat.{ℕ}
@@ -40,22 +41,22 @@ use denote.Triple.Clauses.{ensured, lasts}
 use denote.Triple.Table.{entered, cited}
 use denote.Triple.Walked.{says, Stays, stay-ref, gave-slice, stay-none-slice, walkOf, AllGo, goes-ref, goes-gave-slice, goes-none-slice, Walks, ends-at, walked, walk-meets}
 use denote.Exit.{yes}
-use Rattle.flat.specs.Outcome.{refusalIn, leftIn}
-use Rattle.flat.specs.Handed.{gatheredGiven}
 use Rattle.moving.specs.Answers.{gatherAnswer, valuesAfter}
-use Rattle.flat.specs.declared.moving_calls.Gathered.{Gathered}
+use Rattle.c_calls.specs.Outcome.{refusalIn, leftIn}
+use Rattle.c_calls.specs.MovingCalls.{gatheredGiven}
+use Rattle.flat.specs.declared.Gathered.{Gathered}
 use Rattle.form.specs.declared.Refusal.{Refusal}
-use Rattle.flat.specs.declared.moving_calls.GivenGathered.{GivenGathered}
-use Rattle.flat.proofs.moving_calls.Gathered as T-Gathered
-use Rattle.flat.proofs.moving_calls.Gathered.Laws as T′-Gathered
+use Rattle.c_calls.specs.declared.GivenGathered.{GivenGathered}
+use Rattle.flat.proofs.Gathered as T-Gathered
+use Rattle.flat.proofs.Gathered.Laws as T′-Gathered
 use Rattle.form.proofs.Refusal as T-Refusal
 use Rattle.form.proofs.Refusal.Laws as T′-Refusal
-use Rattle.flat.proofs.moving_calls.GivenGathered as U
-use Rattle.flat.proofs.moving_calls.GivenGathered.Laws as U′
-use Rattle.flat.proofs.give_gathered as g
-use Rattle.flat.proofs.give_gathered.Symbol as g-def
-use Rattle.flat.proofs.give_gathered.Symbol.{name as #flat·give-gathered}
-use Rattle.flat.proofs.give_gathered.Met as g-thm
+use Rattle.c_calls.proofs.GivenGathered as U
+use Rattle.c_calls.proofs.GivenGathered.Laws as U′
+use Rattle.c_calls.proofs.gather_values as g
+use Rattle.c_calls.proofs.gather_values.Symbol as g-def
+use Rattle.c_calls.proofs.gather_values.Symbol.{name as #c-calls·gather-values}
+use Rattle.c_calls.proofs.gather_values.Met as g-thm
 use Rattle.callbridge.proofs.cb_gather_values.Key.{name as #callbridge·cb-gather-values}
 use Rattle.callbridge.proofs.cb_gather_values as f
 use Rattle.callbridge.proofs.cb_gather_values.Statement as stated
@@ -71,8 +72,8 @@ abbrev mach-Refusal : Refusal → List Val
 mach-Refusal = LL.vals T-Refusal.the-type T′-Refusal.the-laws
 
 -- the contract that the proof cites
-abbrev Callee : {M : Type 1} (𝓤 : URA M) (H : Heap 𝓤) (A : Atoms 𝓤) (mem : Memory → SProp 𝓤) (run : Routine → Fun 𝓤) → Contract 𝓤
-Callee 𝓤 H A mem run = tripleOf 𝓤 H A g.signature (g.spec 𝓤 H A mem run)
+abbrev Callee : {M : Type 1} (𝓤 : URA M) (H : Heap 𝓤) (A : Atoms 𝓤) (at-mem : Memory → SProp 𝓤) (run : Routine → Fun 𝓤) → Contract 𝓤
+Callee 𝓤 H A at-mem run = tripleOf 𝓤 H A g.signature (g.spec 𝓤 H A at-mem run)
 
 module _ {M : Type 1} (𝓤 : URA M) (H : Heap 𝓤) (A : Atoms 𝓤) (W : Given 𝓤 H A) (at-mem : Memory → SProp 𝓤) (run : Routine → Fun 𝓤) (κ₀ κ₁ κ₂ κ₃ κ₄ : Lft) (q₀ q₁ q₂ q₃ q₄ : Share) (d : RefT (List ℕ)) (registers : RefT (List ℕ)) (stack : RefT (List ℕ)) (values : RefT (List ℕ)) (b4 o4 : ℕ) (γ4 : GName) (gathered : Gathered) where
   abbrev v0 : Val
@@ -132,45 +133,81 @@ module _ {M : Type 1} (𝓤 : URA M) (H : Heap 𝓤) (A : Atoms 𝓤) (W : Given
   exits r values′ e l3 fits =
       qed W (‵ Own0 ∷ ‵ Own1 ∷ ‵ Own2 ∷ ‵ (finally u8 (values .name) values′) ∷ ‵ (fobs γ4 (T-Gathered.the-row .coded .code (r .gathered))) ∷ ‵ (fbor κ₄ (Body (mem T-Gathered.the-row) b4 o4 γ4)) ∷ ‵ (flft κ₀ q₀) ∷ ‵ (flft κ₁ q₁) ∷ ‵ (flft κ₂ q₂) ∷ ‵ (flft κ₃ q₃) ∷ ‵ (flft κ₄ q₄) ∷ []) ∵
       suffices ! _ (ends-at 𝓤 H A f.ended stayed (f.clauses 𝓤 H A at-mem run) W (((κ₀, (κ₁, (κ₂, (κ₃, (κ₄, tt))))), (q₀, (q₁, (q₂, (q₃, (q₄, tt))))), tt, a, vals), tt) (only (mach-Refusal (r .refusal))) (r .refusal) (tt, (tt, (tt, (values′, (r .gathered, tt))))) (tt, (tt, (tt, (l3, (tt, tt)))))) $ says ! e $
-      nothing ! $ move ! (11 ∷ 0 ∷ []) $ join ! $ move ! (10 ∷ 0 ∷ []) $ join ! $ move ! (9 ∷ 0 ∷ []) $ join ! $ move ! (8 ∷ 0 ∷ []) $ join ! $ move ! (7 ∷ 0 ∷ []) $ join ! $ frame ! $
-      nothing ! $ move ! (5 ∷ 6 ∷ 0 ∷ []) $ feqI ! (List Val) (vptr b4 o4 ∷ []) (vptr b4 o4 ∷ []) refl $ fjoin3 ! $ fjoin ! $ move ! (4 ∷ 0 ∷ []) $ fjoin ! $ move ! (3 ∷ 0 ∷ []) $ fjoin ! $ move ! (2 ∷ 0 ∷ []) $ fjoin ! $ move ! (1 ∷ 0 ∷ []) $ fjoin ! $ frame ! $ owned ! T-Refusal.the-row (Is T-Refusal.the-row) (LL.makes T-Refusal.the-type T′-Refusal.the-plain 𝓤 H A) (r .refusal) (mach-Refusal (r .refusal)) fits $ done !
+      -- the tokens
+      nothing ! $ move ! (11 ∷ 0 ∷ []) $ join ! $ move ! (10 ∷ 0 ∷ []) $ join ! $ move ! (9 ∷ 0 ∷ []) $ join ! $ move ! (8 ∷ 0 ∷ []) $ join ! $ move ! (7 ∷ 0 ∷ []) $ join ! $
+      frame ! $
+      -- what is left of the parameters, and the result
+      nothing ! $ move ! (5 ∷ 6 ∷ 0 ∷ []) $ feqI ! (List Val) (vptr b4 o4 ∷ []) (vptr b4 o4 ∷ []) refl $ fjoin3 ! $ fjoin ! $ move ! (4 ∷ 0 ∷ []) $ fjoin ! $ move ! (3 ∷ 0 ∷ []) $
+      fjoin ! $ move ! (2 ∷ 0 ∷ []) $ fjoin ! $ move ! (1 ∷ 0 ∷ []) $ fjoin ! $ frame ! $
+      owned ! T-Refusal.the-row (Is T-Refusal.the-row) (LL.makes T-Refusal.the-type T′-Refusal.the-plain 𝓤 H A) (r .refusal) (mach-Refusal (r .refusal)) fits $ done !
 
-  module _ (C : Calls 𝓤 H) (Λ : Loops 𝓤 H) (fm : FmC 𝓤 H (W .laws) C) (known : Triple 𝓤 (C #flat·give-gathered) (Callee 𝓤 H A at-mem run)) where
-    walk : Room u8 (length (d .now)) → Room u8 (length (registers .now)) → Room u8 (length (stack .now)) → Room u8 (length (values .now)) → ent 𝓤 (onEntry 𝓤 H A f.signature (κ₀, (κ₁, (κ₂, (κ₃, (κ₄, tt))))) (q₀, (q₁, (q₂, (q₃, (q₄, tt))))) a vals) (WpFn 𝓤 H C Λ code.function (v0 ∷ v1 ∷ v2 ∷ v3 ∷ vptr b4 o4 ∷ []) Post)
-    walk room0 room1 room2 room3 =
+  module _ (C : Calls 𝓤 H) (Λ : Loops 𝓤 H) (fm : FmC 𝓤 H (W .laws) C) (known : Triple 𝓤 (C #c-calls·gather-values) (Callee 𝓤 H A at-mem run)) where
+    goes-through : Room u8 (length (d .now)) → Room u8 (length (registers .now)) → Room u8 (length (stack .now)) → Room u8 (length (values .now)) → ent 𝓤 (onEntry 𝓤 H A f.signature (κ₀, (κ₁, (κ₂, (κ₃, (κ₄, tt))))) (q₀, (q₁, (q₂, (q₃, (q₄, tt))))) a vals) (WpFn 𝓤 H C Λ code.function (v0 ∷ v1 ∷ v2 ∷ v3 ∷ vptr b4 o4 ∷ []) Post)
+    goes-through room0 room1 room2 room3 =
+        -- at entry: the tokens, and what the parameters own; then a cell for each local, and the arguments into theirs
         qed W ((‵ (flft κ₀ q₀) ⊛ ‵ (flft κ₁ q₁) ⊛ ‵ (flft κ₂ q₂) ⊛ ‵ (flft κ₃ q₃) ⊛ ‵ (flft κ₄ q₄) ⊛ ‵ ftrue) ∷ ‵ (owns (ShrSlice (named 0) κ₀ u8 ∷ ShrSlice (named 1) κ₁ u8 ∷ ShrSlice (named 2) κ₂ u8 ∷ MutSlice (named 3) κ₃ u8 ∷ MutRef (named 4) κ₄ T-Gathered.the-row ∷ []) a vals) ∷ []) ∵ enter ! C Λ code.function (v0 ∷ v1 ∷ v2 ∷ v3 ∷ vptr b4 o4 ∷ []) _ $
-        alloc1 ! (λ l₀. alloc1 ! (λ l₁. alloc1 ! (λ l₂. alloc1 ! (λ l₃. alloc1 ! (λ l₄. alloc1 ! (λ l₅. alloc1 ! (λ l₆. alloc1 ! (λ l₇. alloc1 ! (λ l₈. alloc1 ! (λ l₉. alloc0 ! $ params1 ! $
-        pass1 ! (init ! 16 refl (tt, (tt, (record { fits = room0 .0 }, tt)))) $ pass1 ! (init ! 14 refl (tt, (tt, (record { fits = room1 .0 }, tt)))) $ pass1 ! (init ! 12 refl (tt, (tt, (record { fits = room2 .0 }, tt)))) $ pass1 ! (init ! 10 refl (tt, (tt, (record { fits = room3 .0 }, tt)))) $ pass1 ! (init ! 8 refl (tt, tt)) $ pass0 ! $
-        move ! (20 ∷ []) $ split ! $ move ! (1 ∷ []) $ split ! $ move ! (1 ∷ []) $ split ! $ move ! (1 ∷ []) $ split ! $ move ! (1 ∷ []) $ split ! $ move ! (1 ∷ []) $ move ! (26 ∷ []) $ fsplit ! $ move ! (1 ∷ []) $ fsplit ! $ move ! (1 ∷ []) $ fsplit ! $ move ! (1 ∷ []) $ fsplit ! $ move ! (1 ∷ []) $ fsplit ! $ move ! (1 ∷ []) $
-        move ! (1 ∷ []) $ fsplit3 ! $ drop ! $ move ! (0 ∷ 1 ∷ 8 ∷ []) $ opens ! tt T-Gathered.the-row {h = gathered} b4 o4 (λ vs. spelt ! T-Gathered.the-row (Is T-Gathered.the-row) (shows 𝓤 H A T-Gathered.the-row) mach-Gathered (LL.tells T-Gathered.the-type T′-Gathered.the-laws) fullShare gathered vs b4 o4 $ move ! (1 ∷ []) $ peeks ! T-Gathered.the-row (Is T-Gathered.the-row) (shows 𝓤 H A T-Gathered.the-row) gathered (mach-Gathered gathered) (λ was4.
+        alloc1 ! (λ l₀. alloc1 ! (λ l₁. alloc1 ! (λ l₂. alloc1 ! (λ l₃. alloc1 ! (λ l₄. alloc1 ! (λ l₅. alloc1 ! (λ l₆. alloc1 ! (λ l₇. alloc1 ! (λ l₈. alloc1 ! (λ l₉.
+        alloc0 ! $ params1 ! $
+        pass1 ! (init ! 16 refl (tt, (tt, (record { fits = room0 .0 }, tt)))) $ pass1 ! (init ! 14 refl (tt, (tt, (record { fits = room1 .0 }, tt)))) $
+        pass1 ! (init ! 12 refl (tt, (tt, (record { fits = room2 .0 }, tt)))) $ pass1 ! (init ! 10 refl (tt, (tt, (record { fits = room3 .0 }, tt)))) $
+        pass1 ! (init ! 8 refl (tt, tt)) $ pass0 ! $
+        -- each token, and what each parameter owns
+        move ! (20 ∷ []) $ split ! $ move ! (1 ∷ []) $ split ! $ move ! (1 ∷ []) $ split ! $ move ! (1 ∷ []) $ split ! $ move ! (1 ∷ []) $ split ! $ move ! (1 ∷ []) $
+        move ! (26 ∷ []) $ fsplit ! $ move ! (1 ∷ []) $ fsplit ! $ move ! (1 ∷ []) $ fsplit ! $ move ! (1 ∷ []) $ fsplit ! $ move ! (1 ∷ []) $ fsplit ! $ move ! (1 ∷ []) $
+        -- `gathered` is opened, and looked into
+        move ! (1 ∷ []) $ fsplit3 ! $ drop ! $ move ! (0 ∷ 1 ∷ 8 ∷ []) $ opens ! tt T-Gathered.the-row {h = gathered} b4 o4 (λ vs.
+        spelt ! T-Gathered.the-row (Is T-Gathered.the-row) (shows 𝓤 H A T-Gathered.the-row) mach-Gathered (LL.tells T-Gathered.the-type T′-Gathered.the-laws) fullShare gathered vs b4 o4 $
+        move ! (1 ∷ []) $ peeks ! T-Gathered.the-row (Is T-Gathered.the-row) (shows 𝓤 H A T-Gathered.the-row) gathered (mach-Gathered gathered) (λ was4.
+        -- `values` is copied to be passed on
         assigns ! (addr ! (from ! (fld ! refl (hop ! (look-in ! 25 (sub ! 0 refl (whole !))) (stop !))))) (from ! (stop !)) (init ! 19 refl (tt, tt)) $
         assigns ! (agg ! (and-then ! (load ! (from ! (stop !)) (look ! 19 refl)) (and-then ! (load ! (from ! (fld ! refl (stop !))) (look-in ! 25 (sub ! 1 refl (whole !)))) (no-more !)))) (from ! (stop !)) (init ! 17 refl (tt, (tt, (record { fits = room3 .0 }, tt)))) $
+        -- `gathered` is copied to be passed on
         assigns ! (of-opd ! (load ! (from ! (hop ! (look ! 23 refl) (stop !))) (look-raw ! 1 refl))) (from ! (stop !)) (init ! 15 refl (LL.lawful T-Gathered.the-type T′-Gathered.the-laws 𝓤 H A W .typed gathered _ was4 .0)) $
-        nothing ! $ owned ! T-Gathered.the-row (Is T-Gathered.the-row) (LL.makes T-Gathered.the-type T′-Gathered.the-plain 𝓤 H A) gathered (mach-Gathered gathered) was4 $ fjoin ! $ move ! (7 ∷ 0 ∷ []) $ fjoin ! $ move ! (7 ∷ []) $ use1 W (‵ Own2 ⊛ ‵ Own2) (shr-slice-copy 𝓤 H A W (named 2) κ₂ u8 .twice stack (v2 ∷ [])) $ split ! $ move ! (0 ∷ 2 ∷ []) $ fjoin ! $ move ! (8 ∷ []) $ use1 W (‵ Own1 ⊛ ‵ Own1) (shr-slice-copy 𝓤 H A W (named 1) κ₁ u8 .twice registers (v1 ∷ [])) $ split ! $ move ! (0 ∷ 2 ∷ []) $ fjoin ! $ move ! (9 ∷ []) $ use1 W (‵ Own0 ⊛ ‵ Own0) (shr-slice-copy 𝓤 H A W (named 0) κ₀ u8 .twice d (v0 ∷ [])) $ split ! $ move ! (0 ∷ 2 ∷ []) $ fjoin ! $ nothing ! $ move ! (12 ∷ 0 ∷ []) $ join ! $ move ! (12 ∷ 0 ∷ []) $ join ! $ move ! (12 ∷ 0 ∷ []) $ join ! $ move ! (12 ∷ 0 ∷ []) $ join ! $ use2 W (raw (Callee 𝓤 H A at-mem run .pre to)) is-asked $
+        -- what the callee asks
+        nothing ! $ owned ! T-Gathered.the-row (Is T-Gathered.the-row) (LL.makes T-Gathered.the-type T′-Gathered.the-plain 𝓤 H A) gathered (mach-Gathered gathered) was4 $ fjoin ! $
+        move ! (7 ∷ 0 ∷ []) $ fjoin ! $ move ! (7 ∷ []) $ use1 W (‵ Own2 ⊛ ‵ Own2) (shr-slice-copy 𝓤 H A W (named 2) κ₂ u8 .twice stack (v2 ∷ [])) $ split ! $ move ! (0 ∷ 2 ∷ []) $
+        fjoin ! $ move ! (8 ∷ []) $ use1 W (‵ Own1 ⊛ ‵ Own1) (shr-slice-copy 𝓤 H A W (named 1) κ₁ u8 .twice registers (v1 ∷ [])) $ split ! $ move ! (0 ∷ 2 ∷ []) $ fjoin ! $
+        move ! (9 ∷ []) $ use1 W (‵ Own0 ⊛ ‵ Own0) (shr-slice-copy 𝓤 H A W (named 0) κ₀ u8 .twice d (v0 ∷ [])) $ split ! $ move ! (0 ∷ 2 ∷ []) $ fjoin ! $ nothing ! $
+        move ! (12 ∷ 0 ∷ []) $ join ! $ move ! (12 ∷ 0 ∷ []) $ join ! $ move ! (12 ∷ 0 ∷ []) $ join ! $ move ! (12 ∷ 0 ∷ []) $ join ! $
+        use2 W (raw (Callee 𝓤 H A at-mem run .pre to)) is-asked $
+        -- the call
         calls-at ! fm (Callee 𝓤 H A at-mem run) known to (and-then ! (load ! (from ! (stop !)) (look ! 27 refl)) (and-then ! (load ! (from ! (stop !)) (look ! 25 refl)) (and-then ! (load ! (from ! (stop !)) (look ! 23 refl)) (and-then ! (load ! (from ! (stop !)) (look ! 13 refl)) (and-then ! (load ! (from ! (stop !)) (look ! 11 refl)) (no-more !)))))) (λ ret.
-        use1 W (later (some (λ (r : GivenGathered). (toks ⊛ ‵ (U.the-row .own r (ret ∷ []))) ⊛ raw (ensured 𝓤 H A g.ended (g.clauses 𝓤 H A at-mem run) (κ₀, (κ₁, (κ₂, (κ₃, tt)))) (d, (registers, (stack, (values, (gathered, tt))))) tt r)))) (id⊢ 𝓤 _) $ await ! tt $ pick ! (λ r. split ! $ move ! (1 ∷ []) $
-        use1 W (some (λ (zs : Unit {0} × (Unit {0} × (Unit {0} × (List ℕ × (Unit {0} × Unit {0}))))). ‵ (lasts g.ended (κ₀, (κ₁, (κ₂, (κ₃, tt)))) (d, (registers, (stack, (values, (gathered, tt))))) zs) ⊛ raw (fact 𝓤 (Said r (zs .1 .1 .1 .0))))) (id⊢ 𝓤 _) $ pick ! (λ zs. split ! $ move ! (1 ∷ []) $ heard ! (Said r (zs .1 .1 .1 .0)) (λ e. fsplit ! $ move ! (1 ∷ []) $ fsplit ! $ move ! (1 ∷ []) $ fsplit ! $ move ! (1 ∷ []) $ fsplit ! $ fsplit ! $ move ! (1 ∷ []) $ feqL ! (λ l3.
-        move ! (5 ∷ []) $ split ! $ split ! $ move ! (1 ∷ []) $ split ! $ move ! (1 ∷ []) $ split ! $ move ! (1 ∷ []) $ split ! $ move ! (1 ∷ []) $ move ! (5 ∷ []) $ peeks ! U.the-row (Is U.the-row) (shows 𝓤 H A U.the-row) r (ret ∷ []) (λ is.
+        use1 W (later (some (λ (r : GivenGathered). (toks ⊛ ‵ (U.the-row .own r (ret ∷ []))) ⊛ raw (ensured 𝓤 H A g.ended (g.clauses 𝓤 H A at-mem run) (κ₀, (κ₁, (κ₂, (κ₃, tt)))) (d, (registers, (stack, (values, (gathered, tt))))) tt r)))) (id⊢ 𝓤 _) $ await ! tt $
+        pick ! (λ r. split ! $ move ! (1 ∷ []) $
+        use1 W (some (λ (zs : Unit {0} × (Unit {0} × (Unit {0} × (List ℕ × (Unit {0} × Unit {0}))))). ‵ (lasts g.ended (κ₀, (κ₁, (κ₂, (κ₃, tt)))) (d, (registers, (stack, (values, (gathered, tt))))) zs) ⊛ raw (fact 𝓤 (Said r (zs .1 .1 .1 .0))))) (id⊢ 𝓤 _) $
+        pick ! (λ zs. split ! $ move ! (1 ∷ []) $ heard ! (Said r (zs .1 .1 .1 .0)) (λ e. fsplit ! $ move ! (1 ∷ []) $ fsplit ! $ move ! (1 ∷ []) $ fsplit ! $ move ! (1 ∷ []) $
+        fsplit ! $ fsplit ! $ move ! (1 ∷ []) $ feqL ! (λ l3.
+        move ! (5 ∷ []) $ split ! $ split ! $ move ! (1 ∷ []) $ split ! $ move ! (1 ∷ []) $ split ! $ move ! (1 ∷ []) $ split ! $ move ! (1 ∷ []) $ move ! (5 ∷ []) $
+        peeks ! U.the-row (Is U.the-row) (shows 𝓤 H A U.the-row) r (ret ∷ []) (λ is.
+        -- the result lands
         land ! (from ! (stop !)) (init ! 27 refl (LL.lawful U.the-type U′.the-laws 𝓤 H A W .typed r _ is .0)) $
         rewrite ! 27 (λ (u : Val). ‵ (fat fullShare U′.mir l₆ 0 u)) (ap only (LL.tells U.the-type U′.the-laws r _ is)) refl $
+        -- `gathered` is stored in
         assigns ! (of-opd ! (load ! (from ! (fld ! refl (stop !))) (look-in ! 27 (sub ! 0 refl (whole !))))) (from ! (hop ! (look ! 29 refl) (stop !))) (store-raw ! 15 refl (LL.lawful T-Gathered.the-type T′-Gathered.the-laws 𝓤 H A W .typed (r .gathered) (mach-Gathered (r .gathered)) (LL.owed U.the-type U′.the-laws r _ is .0) .0)) $
+        -- the result
         assigns ! (of-opd ! (load ! (from ! (fld ! refl (stop !))) (look-in ! 27 (sub ! 1 refl (whole !))))) (from ! (stop !)) (init ! 39 refl (LL.lawful T-Refusal.the-type T′-Refusal.the-laws 𝓤 H A W .typed (r .refusal) (mach-Refusal (r .refusal)) (LL.owed U.the-type U′.the-laws r _ is .1 .0) .0)) $
-        owned ! T-Gathered.the-row (Is T-Gathered.the-row) (LL.makes T-Gathered.the-type T′-Gathered.the-plain 𝓤 H A) (r .gathered) (mach-Gathered (r .gathered)) (LL.owed U.the-type U′.the-laws r _ is .0) $ move ! (16 ∷ 0 ∷ 17 ∷ 18 ∷ 19 ∷ []) $ closes ! tt T-Gathered.the-row (r .gathered) (mach-Gathered (r .gathered)) b4 o4 $
-        returns ! (look ! 38 refl) $ forget ! 38 refl $ forget ! 36 refl $ forget ! 34 refl $ forget ! 32 refl $ forget ! 30 refl $ forget ! 28 refl $ forget ! 26 refl $ forget ! 24 refl $ forget ! 22 refl $ forget ! 20 refl $
-        move ! (38 ∷ 39 ∷ []) $ free1 ! $ move ! (36 ∷ 37 ∷ []) $ free1 ! $ move ! (34 ∷ 35 ∷ []) $ free1 ! $ move ! (32 ∷ 33 ∷ []) $ free1 ! $ move ! (30 ∷ 31 ∷ []) $ free1 ! $ move ! (28 ∷ 29 ∷ []) $ free1 ! $ move ! (26 ∷ 27 ∷ []) $ free1 ! $ move ! (24 ∷ 25 ∷ []) $ free1 ! $ move ! (22 ∷ 23 ∷ []) $ free1 ! $ move ! (20 ∷ 21 ∷ []) $ free1 ! $ free0 ! $
+        -- `gathered` is closed at what was stored
+        owned ! T-Gathered.the-row (Is T-Gathered.the-row) (LL.makes T-Gathered.the-type T′-Gathered.the-plain 𝓤 H A) (r .gathered) (mach-Gathered (r .gathered)) (LL.owed U.the-type U′.the-laws r _ is .0) $
+        move ! (16 ∷ 0 ∷ 17 ∷ 18 ∷ 19 ∷ []) $ closes ! tt T-Gathered.the-row (r .gathered) (mach-Gathered (r .gathered)) b4 o4 $
+        -- the return: each local is forgotten and freed
+        returns ! (look ! 38 refl) $ forget ! 38 refl $ forget ! 36 refl $ forget ! 34 refl $ forget ! 32 refl $ forget ! 30 refl $ forget ! 28 refl $ forget ! 26 refl $
+        forget ! 24 refl $ forget ! 22 refl $ forget ! 20 refl $
+        move ! (38 ∷ 39 ∷ []) $ free1 ! $ move ! (36 ∷ 37 ∷ []) $ free1 ! $ move ! (34 ∷ 35 ∷ []) $ free1 ! $ move ! (32 ∷ 33 ∷ []) $ free1 ! $ move ! (30 ∷ 31 ∷ []) $ free1 ! $
+        move ! (28 ∷ 29 ∷ []) $ free1 ! $ move ! (26 ∷ 27 ∷ []) $ free1 ! $ move ! (24 ∷ 25 ∷ []) $ free1 ! $ move ! (22 ∷ 23 ∷ []) $ free1 ! $ move ! (20 ∷ 21 ∷ []) $ free1 ! $
+        free0 ! $
         keep ! (14 ∷ 15 ∷ 16 ∷ 9 ∷ 0 ∷ 1 ∷ 8 ∷ 7 ∷ 6 ∷ 5 ∷ 2 ∷ []) $ by ! (exits r (zs .1 .1 .1 .0) e l3 (LL.owed U.the-type U′.the-laws r _ is .1 .0))))))))))))))))))))
 
-module _ {M : Type 1} (𝓤 : URA M) (H : Heap 𝓤) (A : Atoms 𝓤) (W : Given 𝓤 H A) (mem : Memory → SProp 𝓤) (run : Routine → Fun 𝓤) where
-  cb-gather-values-walks : (C : Calls 𝓤 H) (Λ : Loops 𝓤 H) → FmC 𝓤 H (W .laws) C → Triple 𝓤 (C #flat·give-gathered) (Callee 𝓤 H A mem run) → Walks 𝓤 H A f.ended stayed (WpFn 𝓤 H C Λ code.function) (f.clauses 𝓤 H A mem run)
-  cb-gather-values-walks C Λ fm known = walked 𝓤 H A f.ended stayed (f.clauses 𝓤 H A mem run) (WpFn 𝓤 H C Λ code.function) (λ κs. (slice-vals, (slice-vals, (slice-vals, (slice-vals, (ptr-vals, tt)))))) (λ κs. (shr-slice-tells (named 0) (κs .0) u8, (shr-slice-tells (named 1) (κs .1 .0) u8, (shr-slice-tells (named 2) (κs .1 .1 .0) u8, (mut-slice-tells (named 3) (κs .1 .1 .1 .0) u8, (mut-tells (named 4) (κs .1 .1 .1 .1 .0) T-Gathered.the-row, tt))))))
-      (λ κs qs bounds a _ are. via 𝓤 _ (fst∗ 𝓤 _ (emp 𝓤)) (walk 𝓤 H A W mem run (κs .0) (κs .1 .0) (κs .1 .1 .0) (κs .1 .1 .1 .0) (κs .1 .1 .1 .1 .0) (qs .0) (qs .1 .0) (qs .1 .1 .0) (qs .1 .1 .1 .0) (qs .1 .1 .1 .1 .0) (a .0) (a .1 .0) (a .1 .1 .0) (a .1 .1 .1 .0) (a .1 .1 .1 .1 .0 .ptr .0) (a .1 .1 .1 .1 .0 .ptr .1) (a .1 .1 .1 .1 .0 .name) (a .1 .1 .1 .1 .0 .now) C Λ fm known (are .0 .0 .1) (are .1 .0 .0 .1) (are .1 .1 .0 .0 .1) (are .1 .1 .1 .0 .0 .1)))
+module _ {M : Type 1} (𝓤 : URA M) (H : Heap 𝓤) (A : Atoms 𝓤) (W : Given 𝓤 H A) (at-mem : Memory → SProp 𝓤) (run : Routine → Fun 𝓤) where
+  cb-gather-values-walks : (C : Calls 𝓤 H) (Λ : Loops 𝓤 H) → FmC 𝓤 H (W .laws) C → Triple 𝓤 (C #c-calls·gather-values) (Callee 𝓤 H A at-mem run) → Walks 𝓤 H A f.ended stayed (WpFn 𝓤 H C Λ code.function) (f.clauses 𝓤 H A at-mem run)
+  cb-gather-values-walks C Λ fm known = walked 𝓤 H A f.ended stayed (f.clauses 𝓤 H A at-mem run) (WpFn 𝓤 H C Λ code.function) (λ κs. (slice-vals, (slice-vals, (slice-vals, (slice-vals, (ptr-vals, tt)))))) (λ κs. (shr-slice-tells (named 0) (κs .0) u8, (shr-slice-tells (named 1) (κs .1 .0) u8, (shr-slice-tells (named 2) (κs .1 .1 .0) u8, (mut-slice-tells (named 3) (κs .1 .1 .1 .0) u8, (mut-tells (named 4) (κs .1 .1 .1 .1 .0) T-Gathered.the-row, tt))))))
+      (λ κs qs bounds a _ are. via 𝓤 _ (fst∗ 𝓤 _ (emp 𝓤)) (goes-through 𝓤 H A W at-mem run (κs .0) (κs .1 .0) (κs .1 .1 .0) (κs .1 .1 .1 .0) (κs .1 .1 .1 .1 .0) (qs .0) (qs .1 .0) (qs .1 .1 .0) (qs .1 .1 .1 .0) (qs .1 .1 .1 .1 .0) (a .0) (a .1 .0) (a .1 .1 .0) (a .1 .1 .1 .0) (a .1 .1 .1 .1 .0 .ptr .0) (a .1 .1 .1 .1 .0 .ptr .1) (a .1 .1 .1 .1 .0 .name) (a .1 .1 .1 .1 .0 .now) C Λ fm known (are .0 .0 .1) (are .1 .0 .0 .1) (are .1 .1 .0 .0 .1) (are .1 .1 .1 .0 .0 .1)))
 
   goes : AllGo 𝓤 H A W 5 (f.signature .params) (f.ended .kept) stayed
   goes = (goes-none-slice 𝓤 H A W 5 (0 ∷ []) tt (plain (λ _. u8)) yes, (goes-none-slice 𝓤 H A W 5 (1 ∷ []) tt (plain (λ _. u8)) yes, (goes-none-slice 𝓤 H A W 5 (2 ∷ []) tt (plain (λ _. u8)) yes, (goes-gave-slice 𝓤 H A W 5 3 tt (plain (λ _. u8)), (goes-ref 𝓤 H A W 5 4 tt (plain (λ _. T-Gathered.the-row)), tt)))))
 
-cb-gather-values-meets : {M : Type 1} (𝓤 : URA M) (H : Heap 𝓤) (A : Atoms 𝓤) → Given 𝓤 H A → (mem : Memory → SProp 𝓤) (run : Routine → Fun 𝓤) (𝓣 : Tables 𝓤 H) → Triple 𝓤 (𝓣 .C #flat·give-gathered) (Callee 𝓤 H A mem run)
-    → Meets 𝓤 H A f.signature (WpFn 𝓤 H (𝓣 .C) (𝓣 .Λ) code.function) (f.spec 𝓤 H A mem run)
-cb-gather-values-meets 𝓤 H A W mem run 𝓣 known = walk-meets 𝓤 H A f.ended stayed W (goes 𝓤 H A W mem run) (f.clauses 𝓤 H A mem run) (WpFn 𝓤 H (𝓣 .C) (𝓣 .Λ) code.function) (WpFn-mono 𝓤 H (W .laws) 𝓣 code.function) (cb-gather-values-walks 𝓤 H A W mem run (𝓣 .C) (𝓣 .Λ) (fmOf 𝓤 H (W .laws) 𝓣) known)
+cb-gather-values-meets : {M : Type 1} (𝓤 : URA M) (H : Heap 𝓤) (A : Atoms 𝓤) → Given 𝓤 H A → (at-mem : Memory → SProp 𝓤) (run : Routine → Fun 𝓤) (𝓣 : Tables 𝓤 H) → Triple 𝓤 (𝓣 .C #c-calls·gather-values) (Callee 𝓤 H A at-mem run)
+    → Meets 𝓤 H A f.signature (WpFn 𝓤 H (𝓣 .C) (𝓣 .Λ) code.function) (f.spec 𝓤 H A at-mem run)
+cb-gather-values-meets 𝓤 H A W at-mem run 𝓣 known = walk-meets 𝓤 H A f.ended stayed W (goes 𝓤 H A W at-mem run) (f.clauses 𝓤 H A at-mem run) (WpFn 𝓤 H (𝓣 .C) (𝓣 .Λ) code.function) (WpFn-mono 𝓤 H (W .laws) 𝓣 code.function) (cb-gather-values-walks 𝓤 H A W at-mem run (𝓣 .C) (𝓣 .Λ) (fmOf 𝓤 H (W .laws) 𝓣) known)
 
 pub cb-gather-values-spec : {M : Type 1} → stated.statement M
 unfolding code.routine tablesOf
@@ -178,4 +215,4 @@ cb-gather-values-spec 𝓤 H 𝓜 𝓖 𝓡 =
     entered 𝓤 H (tripleOf 𝓤 H (𝓖 .A) f.signature (f.spec 𝓤 H (𝓖 .A) (𝓜 .mem) (𝓡 .run)))
     (tables 𝓤 H 𝓜 𝓡 code.env .C) (tables 𝓤 H 𝓜 𝓡 code.env .Λ) #callbridge·cb-gather-values code.function (code.unfolded 𝓤 H 𝓜 𝓡)
     (cb-gather-values-meets 𝓤 H (𝓖 .A) (givenOf 𝓤 H 𝓜 𝓖) (𝓜 .mem) (𝓡 .run) (tablesOf 𝓤 H 𝓜 (tables 𝓤 H 𝓜 𝓡 code.env))
-    (cited 𝓤 H (Callee 𝓤 H (𝓖 .A) (𝓜 .mem) (𝓡 .run)) 𝓜 𝓡 code.env #flat·give-gathered g-def.routine code.calls-flat·give-gathered (g-thm.met 𝓤 H 𝓜 𝓖 𝓡)))
+    (cited 𝓤 H (Callee 𝓤 H (𝓖 .A) (𝓜 .mem) (𝓡 .run)) 𝓜 𝓡 code.env #c-calls·gather-values g-def.routine code.calls-c-calls·gather-values (g-thm.met 𝓤 H 𝓜 𝓖 𝓡)))

@@ -61,14 +61,14 @@ use Rattle.layout.specs.Asks.{AskArgument}
 use Rattle.layout.specs.Verdict.{verdict}
 use Rattle.layout.specs.Lists.{listUsed, filled}
 use Rattle.types.proofs.Table.{filled-none, filled-next, length-filled}
-use Rattle.flat.specs.Lists.{flatAt, flatStep, listBegun}
-use Rattle.flat.proofs.Rows.{row-count, row-used, row-refusal, row-layout, row-accepted, row-asks, row-record, row-next}
+use Rattle.c_calls.specs.LayoutCalls.{flatAt, flatStep, listBegun}
+use Rattle.c_calls.proofs.Rows.{row-count, row-used, row-refusal, row-layout, row-accepted, row-asks, row-record, row-next}
 use Rattle.places.specs.declared.Used.{Used}
 use Rattle.form.specs.declared.Refusal.{Refusal}
 use Rattle.flat.specs.declared.Placement.{Placement}
 use Rattle.flat.specs.declared.Layout.{Layout}
-use Rattle.flat.specs.declared.layout_calls.ListBegun.{ListBegun}
-use Rattle.flat.specs.declared.layout_calls.FlatStep.{FlatStep}
+use Rattle.c_calls.specs.declared.ListBegun.{ListBegun}
+use Rattle.c_calls.specs.declared.FlatStep.{FlatStep}
 use Rattle.flat.proofs.Placement as T
 use Rattle.flat.proofs.Placement.Laws as T′
 use Rattle.flat.proofs.Layout as L
@@ -77,18 +77,18 @@ use Rattle.places.proofs.Used as S
 use Rattle.places.proofs.Used.Laws as S′
 use Rattle.form.proofs.Refusal as E
 use Rattle.form.proofs.Refusal.Laws as E′
-use Rattle.flat.proofs.layout_calls.ListBegun as B
-use Rattle.flat.proofs.layout_calls.ListBegun.Laws as B′
-use Rattle.flat.proofs.layout_calls.FlatStep as U
-use Rattle.flat.proofs.layout_calls.FlatStep.Laws as U′
-use Rattle.flat.proofs.begin_list as begin
-use Rattle.flat.proofs.begin_list.Symbol as begin-def
-use Rattle.flat.proofs.begin_list.Symbol.{name as #flat·begin-list}
-use Rattle.flat.proofs.begin_list.Met as begin-thm
-use Rattle.flat.proofs.place_flat as one
-use Rattle.flat.proofs.place_flat.Symbol as one-def
-use Rattle.flat.proofs.place_flat.Symbol.{name as #flat·place-flat}
-use Rattle.flat.proofs.place_flat.Met as one-thm
+use Rattle.c_calls.proofs.ListBegun as B
+use Rattle.c_calls.proofs.ListBegun.Laws as B′
+use Rattle.c_calls.proofs.FlatStep as U
+use Rattle.c_calls.proofs.FlatStep.Laws as U′
+use Rattle.c_calls.proofs.begin_list as begin
+use Rattle.c_calls.proofs.begin_list.Symbol as begin-def
+use Rattle.c_calls.proofs.begin_list.Symbol.{name as #c-calls·begin-list}
+use Rattle.c_calls.proofs.begin_list.Met as begin-thm
+use Rattle.c_calls.proofs.place_flat as one
+use Rattle.c_calls.proofs.place_flat.Symbol as one-def
+use Rattle.c_calls.proofs.place_flat.Symbol.{name as #c-calls·place-flat}
+use Rattle.c_calls.proofs.place_flat.Met as one-thm
 use Rattle.callbridge.proofs.cb_lay_out.Key.{name as #callbridge·cb-lay-out}
 use Rattle.callbridge.proofs.cb_lay_out as f
 use Rattle.callbridge.proofs.cb_lay_out.Statement as stated
@@ -249,7 +249,7 @@ module _ {M : Type 1} (𝓤 : URA M) (H : Heap 𝓤) (A : Atoms 𝓤) (W : Given
   Nearer-wf : WellFounded Nearer
   Nearer-wf = InvImage·wf (λ (i : Upto). n - i .0) (Nat·lt-wfRel .wf)
 
-  module _ (𝓣 : Tables 𝓤 H) (fm : FmC 𝓤 H (W .laws) (𝓣 .C)) (known-one : Triple 𝓤 (𝓣 .C #flat·place-flat) (One 𝓤 H A mem run)) (l₀ l₁ l₂ l₃ l₄ l₅ l₆ l₇ l₈ l₉ l₁₀ l₁₁ l₁₂ l₁₃ : ℕ) where
+  module _ (𝓣 : Tables 𝓤 H) (fm : FmC 𝓤 H (W .laws) (𝓣 .C)) (known-one : Triple 𝓤 (𝓣 .C #c-calls·place-flat) (One 𝓤 H A mem run)) (l₀ l₁ l₂ l₃ l₄ l₅ l₆ l₇ l₈ l₉ l₁₀ l₁₁ l₁₂ l₁₃ : ℕ) where
     abbrev C : Calls 𝓤 H
     C = 𝓣 .C
 
@@ -334,7 +334,7 @@ module _ {M : Type 1} (𝓤 : URA M) (H : Heap 𝓤) (A : Atoms 𝓤) (W : Given
         keep ! (1 ∷ 2 ∷ 3 ∷ 4 ∷ 5 ∷ 6 ∷ 0 ∷ 7 ∷ 8 ∷ 9 ∷ 10 ∷ 11 ∷ 12 ∷ 13 ∷ 14 ∷ 15 ∷ 16 ∷ 17 ∷ 18 ∷ 19 ∷ 20 ∷ 21 ∷ 22 ∷ 23 ∷ 24 ∷ 25 ∷ 26 ∷ 27 ∷ 28 ∷ 29 ∷ 30 ∷ 31 ∷ 32 ∷ 33 ∷ 34 ∷ 35 ∷ 36 ∷ 37 ∷ []) $ looped within known goodB
 
   -- the MIR up to the loop: both borrows are opened, the summary's is closed
-  walk : (𝓣 : Tables 𝓤 H) → FmC 𝓤 H (W .laws) (𝓣 .C) → Triple 𝓤 (𝓣 .C #flat·begin-list) (Begin 𝓤 H A mem run) → Triple 𝓤 (𝓣 .C #flat·place-flat) (One 𝓤 H A mem run)
+  walk : (𝓣 : Tables 𝓤 H) → FmC 𝓤 H (W .laws) (𝓣 .C) → Triple 𝓤 (𝓣 .C #c-calls·begin-list) (Begin 𝓤 H A mem run) → Triple 𝓤 (𝓣 .C #c-calls·place-flat) (One 𝓤 H A mem run)
       → ent 𝓤 (onEntry 𝓤 H A f.signature (κ₁, (κ₂, (κ, tt))) (q₁, (q₂, (q, tt))) a vals) (WpFn 𝓤 H (𝓣 .C) (𝓣 .Λ) code.function (vz ∷ vptr b₂ o₂ ∷ s ∷ []) Post)
   walk 𝓣 fm known-begin known-one =
       qed W ((‵ (flft κ₁ q₁) ⊛ (‵ (flft κ₂ q₂) ⊛ (‵ (flft κ q) ⊛ ‵ ftrue))) ∷ ‵ (owns (ShrSlice (named 0) κ₁ u8 ∷ MutRef (named 1) κ₂ L.the-row ∷ MutSlice (named 2) κ T.the-row ∷ []) a vals) ∷ []) ∵ enter ! (𝓣 .C) (𝓣 .Λ) code.function (vz ∷ vptr b₂ o₂ ∷ s ∷ []) _ $
@@ -360,7 +360,7 @@ module _ {M : Type 1} (𝓤 : URA M) (H : Heap 𝓤) (A : Atoms 𝓤) (W : Given
       begun 𝓣 fm known-one l₀ l₁ l₂ l₃ l₄ l₅ l₆ l₇ l₈ l₉ l₁₀ l₁₁ l₁₂ l₁₃ (subst (λ (h : ListBegun). h .count ≤ length ys) (e .0) (e .1)) (subst (λ (h : ListBegun). verdict (z .now) ≡ 0 → Tabled (z .now) (h .table)) (e .0) (e .2)) (LL.owes B.the-type B′.the-laws dec (LL.owed B.the-type B′.the-laws dec (w ∷ []) is)) (LL.owed B.the-type B′.the-laws dec (w ∷ []) is .1 .1 .1 .0) (LL.owed B.the-type B′.the-laws dec (w ∷ []) is .1 .1 .0 .1)))))))))))))))))))))
 
 module _ {M : Type 1} (𝓤 : URA M) (H : Heap 𝓤) (A : Atoms 𝓤) (W : Given 𝓤 H A) (mem : Memory → SProp 𝓤) (run : Routine → Fun 𝓤) where
-  cb-lay-out-walks : (𝓣 : Tables 𝓤 H) → FmC 𝓤 H (W .laws) (𝓣 .C) → Triple 𝓤 (𝓣 .C #flat·begin-list) (Begin 𝓤 H A mem run) → Triple 𝓤 (𝓣 .C #flat·place-flat) (One 𝓤 H A mem run)
+  cb-lay-out-walks : (𝓣 : Tables 𝓤 H) → FmC 𝓤 H (W .laws) (𝓣 .C) → Triple 𝓤 (𝓣 .C #c-calls·begin-list) (Begin 𝓤 H A mem run) → Triple 𝓤 (𝓣 .C #c-calls·place-flat) (One 𝓤 H A mem run)
       → Walks 𝓤 H A f.ended stayed (WpFn 𝓤 H (𝓣 .C) (𝓣 .Λ) code.function) (f.clauses 𝓤 H A mem run)
   cb-lay-out-walks 𝓣 fm known-begin known-one = walked 𝓤 H A f.ended stayed (f.clauses 𝓤 H A mem run) (WpFn 𝓤 H (𝓣 .C) (𝓣 .Λ) code.function)
       (λ κs. (slice-vals, (ptr-vals, (slice-vals, tt)))) (λ κs. (shr-slice-tells (named 0) (κs .0) u8, (mut-tells (named 1) (κs .1 .0) L.the-row, (mut-slice-tells (named 2) (κs .1 .1 .0) T.the-row, tt))))
@@ -370,7 +370,7 @@ module _ {M : Type 1} (𝓤 : URA M) (H : Heap 𝓤) (A : Atoms 𝓤) (W : Given
   goes : AllGo 𝓤 H A W 3 (f.signature .params) (f.ended .kept) stayed
   goes = (goes-none-slice 𝓤 H A W 3 (0 ∷ []) tt (plain (λ _. u8)) yes, (goes-ref 𝓤 H A W 3 1 tt (plain (λ _. L.the-row)), (goes-slice 𝓤 H A W 3 2 tt (plain (λ _. T.the-row)), tt)))
 
-cb-lay-out-meets : {M : Type 1} (𝓤 : URA M) (H : Heap 𝓤) (A : Atoms 𝓤) → Given 𝓤 H A → (mem : Memory → SProp 𝓤) (run : Routine → Fun 𝓤) (𝓣 : Tables 𝓤 H) → Triple 𝓤 (𝓣 .C #flat·begin-list) (Begin 𝓤 H A mem run) → Triple 𝓤 (𝓣 .C #flat·place-flat) (One 𝓤 H A mem run)
+cb-lay-out-meets : {M : Type 1} (𝓤 : URA M) (H : Heap 𝓤) (A : Atoms 𝓤) → Given 𝓤 H A → (mem : Memory → SProp 𝓤) (run : Routine → Fun 𝓤) (𝓣 : Tables 𝓤 H) → Triple 𝓤 (𝓣 .C #c-calls·begin-list) (Begin 𝓤 H A mem run) → Triple 𝓤 (𝓣 .C #c-calls·place-flat) (One 𝓤 H A mem run)
     → Meets 𝓤 H A f.signature (WpFn 𝓤 H (𝓣 .C) (𝓣 .Λ) code.function) (f.spec 𝓤 H A mem run)
 cb-lay-out-meets 𝓤 H A W mem run 𝓣 known-begin known-one = walk-meets 𝓤 H A f.ended stayed W (goes 𝓤 H A W mem run) (f.clauses 𝓤 H A mem run) (WpFn 𝓤 H (𝓣 .C) (𝓣 .Λ) code.function) (WpFn-mono 𝓤 H (W .laws) 𝓣 code.function) (cb-lay-out-walks 𝓤 H A W mem run 𝓣 (fmOf 𝓤 H (W .laws) 𝓣) known-begin known-one)
 
@@ -380,5 +380,5 @@ cb-lay-out-spec 𝓤 H 𝓜 𝓖 𝓡 =
     entered 𝓤 H (tripleOf 𝓤 H (𝓖 .A) f.signature (f.spec 𝓤 H (𝓖 .A) (𝓜 .mem) (𝓡 .run)))
     (tables 𝓤 H 𝓜 𝓡 code.env .C) (tables 𝓤 H 𝓜 𝓡 code.env .Λ) #callbridge·cb-lay-out code.function (code.unfolded 𝓤 H 𝓜 𝓡)
     (cb-lay-out-meets 𝓤 H (𝓖 .A) (givenOf 𝓤 H 𝓜 𝓖) (𝓜 .mem) (𝓡 .run) (tablesOf 𝓤 H 𝓜 (tables 𝓤 H 𝓜 𝓡 code.env))
-    (cited 𝓤 H (Begin 𝓤 H (𝓖 .A) (𝓜 .mem) (𝓡 .run)) 𝓜 𝓡 code.env #flat·begin-list begin-def.routine code.calls-flat·begin-list (begin-thm.met 𝓤 H 𝓜 𝓖 𝓡))
-    (cited 𝓤 H (One 𝓤 H (𝓖 .A) (𝓜 .mem) (𝓡 .run)) 𝓜 𝓡 code.env #flat·place-flat one-def.routine code.calls-flat·place-flat (one-thm.met 𝓤 H 𝓜 𝓖 𝓡)))
+    (cited 𝓤 H (Begin 𝓤 H (𝓖 .A) (𝓜 .mem) (𝓡 .run)) 𝓜 𝓡 code.env #c-calls·begin-list begin-def.routine code.calls-c-calls·begin-list (begin-thm.met 𝓤 H 𝓜 𝓖 𝓡))
+    (cited 𝓤 H (One 𝓤 H (𝓖 .A) (𝓜 .mem) (𝓡 .run)) 𝓜 𝓡 code.env #c-calls·place-flat one-def.routine code.calls-c-calls·place-flat (one-thm.met 𝓤 H 𝓜 𝓖 𝓡)))

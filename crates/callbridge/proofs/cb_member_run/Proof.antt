@@ -1,5 +1,6 @@
--- `callbridge::cb_member_run` meets its contract: a walk of its MIR, by hand. Each struct that is lent is copied out whole; they and the rest go on to `give_run`, which is covered; the record that comes back is stored whole, and the borrow is closed at it.
--- All that the proof knows of `give_run` is that it meets its contract. The walk reads nothing of the definitions.
+-- tools/thin_walks writes this file: change the function or the tool, then run it.
+-- `callbridge::cb_member_run` meets its contract: a walk of its MIR. Each struct that is lent is copied out whole; they and the rest go on to `member_run`, which is covered; the record that comes back is stored whole, and the borrow is closed at it.
+-- All that the proof knows of `member_run` is that it meets its contract. The walk reads nothing of the definitions.
 -- Assumes nothing.
 use mathlib.Core.Path.{_≡_, refl, ap}
 use Prim.Native.Nat.{ℕ, _<_, _^_}
@@ -41,22 +42,22 @@ use denote.Triple.Clauses.{ensured, lasts}
 use denote.Triple.Table.{entered, cited}
 use denote.Triple.Walked.{says, Stays, stay-ref, stay-none, stay-none-slice, walkOf, AllGo, goes-ref, goes-none, goes-none-slice, Walks, ends-at, walked, walk-meets}
 use denote.Exit.{yes}
-use Rattle.flat.specs.Outcome.{refusalIn, leftIn}
-use Rattle.flat.specs.Given.{runGiven}
+use Rattle.c_calls.specs.Outcome.{refusalIn, leftIn}
+use Rattle.c_calls.specs.TypeCalls.{runGiven}
 use Rattle.questions.specs.Runs.{runAnswer}
 use Rattle.flat.specs.declared.Part.{Part}
 use Rattle.form.specs.declared.Refusal.{Refusal}
-use Rattle.flat.specs.declared.type_calls.GivenPart.{GivenPart}
+use Rattle.c_calls.specs.declared.GivenPart.{GivenPart}
 use Rattle.flat.proofs.Part as T-Part
 use Rattle.flat.proofs.Part.Laws as T′-Part
 use Rattle.form.proofs.Refusal as T-Refusal
 use Rattle.form.proofs.Refusal.Laws as T′-Refusal
-use Rattle.flat.proofs.type_calls.GivenPart as U
-use Rattle.flat.proofs.type_calls.GivenPart.Laws as U′
-use Rattle.flat.proofs.give_run as g
-use Rattle.flat.proofs.give_run.Symbol as g-def
-use Rattle.flat.proofs.give_run.Symbol.{name as #flat·give-run}
-use Rattle.flat.proofs.give_run.Met as g-thm
+use Rattle.c_calls.proofs.GivenPart as U
+use Rattle.c_calls.proofs.GivenPart.Laws as U′
+use Rattle.c_calls.proofs.member_run as g
+use Rattle.c_calls.proofs.member_run.Symbol as g-def
+use Rattle.c_calls.proofs.member_run.Symbol.{name as #c-calls·member-run}
+use Rattle.c_calls.proofs.member_run.Met as g-thm
 use Rattle.callbridge.proofs.cb_member_run.Key.{name as #callbridge·cb-member-run}
 use Rattle.callbridge.proofs.cb_member_run as f
 use Rattle.callbridge.proofs.cb_member_run.Statement as stated
@@ -72,8 +73,8 @@ abbrev mach-Refusal : Refusal → List Val
 mach-Refusal = LL.vals T-Refusal.the-type T′-Refusal.the-laws
 
 -- the contract that the proof cites
-abbrev Callee : {M : Type 1} (𝓤 : URA M) (H : Heap 𝓤) (A : Atoms 𝓤) (mem : Memory → SProp 𝓤) (run : Routine → Fun 𝓤) → Contract 𝓤
-Callee 𝓤 H A mem run = tripleOf 𝓤 H A g.signature (g.spec 𝓤 H A mem run)
+abbrev Callee : {M : Type 1} (𝓤 : URA M) (H : Heap 𝓤) (A : Atoms 𝓤) (at-mem : Memory → SProp 𝓤) (run : Routine → Fun 𝓤) → Contract 𝓤
+Callee 𝓤 H A at-mem run = tripleOf 𝓤 H A g.signature (g.spec 𝓤 H A at-mem run)
 
 module _ {M : Type 1} (𝓤 : URA M) (H : Heap 𝓤) (A : Atoms 𝓤) (W : Given 𝓤 H A) (at-mem : Memory → SProp 𝓤) (run : Routine → Fun 𝓤) (κ₀ κ₁ : Lft) (q₀ q₁ : Share) (d : RefT (List ℕ)) (asked : ℕ) (asked-fits : asked < 2 ^ 8) (b2 o2 : ℕ) (γ2 : GName) (part : Part) where
   abbrev v0 : Val
@@ -118,43 +119,69 @@ module _ {M : Type 1} (𝓤 : URA M) (H : Heap 𝓤) (A : Atoms 𝓤) (W : Given
   exits r e fits =
       qed W (‵ Own0 ∷ ‵ (fobs γ2 (T-Part.the-row .coded .code (r .part))) ∷ ‵ (fbor κ₁ (Body (mem T-Part.the-row) b2 o2 γ2)) ∷ ‵ (flft κ₀ q₀) ∷ ‵ (flft κ₁ q₁) ∷ []) ∵
       suffices ! _ (ends-at 𝓤 H A f.ended stayed (f.clauses 𝓤 H A at-mem run) W (((κ₀, (κ₁, tt)), (q₀, (q₁, tt)), tt, a, vals), tt) (only (mach-Refusal (r .refusal))) (r .refusal) (tt, (tt, (r .part, tt))) (tt, (tt, (tt, tt)))) $ says ! e $
+      -- the tokens
       nothing ! $ move ! (5 ∷ 0 ∷ []) $ join ! $ move ! (4 ∷ 0 ∷ []) $ join ! $ frame ! $
-      nothing ! $ move ! (2 ∷ 3 ∷ 0 ∷ []) $ feqI ! (List Val) (vptr b2 o2 ∷ []) (vptr b2 o2 ∷ []) refl $ fjoin3 ! $ fjoin ! $ owned ! u8 (Is u8) (uint-makes 𝓤 H A W w8) asked _ (refl, asked-fits) $ fjoin ! $ move ! (1 ∷ 0 ∷ []) $ fjoin ! $ frame ! $ owned ! T-Refusal.the-row (Is T-Refusal.the-row) (LL.makes T-Refusal.the-type T′-Refusal.the-plain 𝓤 H A) (r .refusal) (mach-Refusal (r .refusal)) fits $ done !
+      -- what is left of the parameters, and the result
+      nothing ! $ move ! (2 ∷ 3 ∷ 0 ∷ []) $ feqI ! (List Val) (vptr b2 o2 ∷ []) (vptr b2 o2 ∷ []) refl $ fjoin3 ! $ fjoin ! $
+      owned ! u8 (Is u8) (uint-makes 𝓤 H A W w8) asked _ (refl, asked-fits) $ fjoin ! $ move ! (1 ∷ 0 ∷ []) $ fjoin ! $ frame ! $
+      owned ! T-Refusal.the-row (Is T-Refusal.the-row) (LL.makes T-Refusal.the-type T′-Refusal.the-plain 𝓤 H A) (r .refusal) (mach-Refusal (r .refusal)) fits $ done !
 
-  module _ (C : Calls 𝓤 H) (Λ : Loops 𝓤 H) (fm : FmC 𝓤 H (W .laws) C) (known : Triple 𝓤 (C #flat·give-run) (Callee 𝓤 H A at-mem run)) where
-    walk : Room u8 (length (d .now)) → ent 𝓤 (onEntry 𝓤 H A f.signature (κ₀, (κ₁, tt)) (q₀, (q₁, tt)) a vals) (WpFn 𝓤 H C Λ code.function (v0 ∷ vint w8 asked ∷ vptr b2 o2 ∷ []) Post)
-    walk room0 =
+  module _ (C : Calls 𝓤 H) (Λ : Loops 𝓤 H) (fm : FmC 𝓤 H (W .laws) C) (known : Triple 𝓤 (C #c-calls·member-run) (Callee 𝓤 H A at-mem run)) where
+    goes-through : Room u8 (length (d .now)) → ent 𝓤 (onEntry 𝓤 H A f.signature (κ₀, (κ₁, tt)) (q₀, (q₁, tt)) a vals) (WpFn 𝓤 H C Λ code.function (v0 ∷ vint w8 asked ∷ vptr b2 o2 ∷ []) Post)
+    goes-through room0 =
+        -- at entry: the tokens, and what the parameters own; then a cell for each local, and the arguments into theirs
         qed W ((‵ (flft κ₀ q₀) ⊛ ‵ (flft κ₁ q₁) ⊛ ‵ ftrue) ∷ ‵ (owns (ShrSlice (named 0) κ₀ u8 ∷ u8 ∷ MutRef (named 1) κ₁ T-Part.the-row ∷ []) a vals) ∷ []) ∵ enter ! C Λ code.function (v0 ∷ vint w8 asked ∷ vptr b2 o2 ∷ []) _ $
         alloc1 ! (λ l₀. alloc1 ! (λ l₁. alloc1 ! (λ l₂. alloc1 ! (λ l₃. alloc1 ! (λ l₄. alloc1 ! (λ l₅. alloc0 ! $ params1 ! $
-        pass1 ! (init ! 8 refl (tt, (tt, (record { fits = room0 .0 }, tt)))) $ pass1 ! (init ! 6 refl (tt, record { fits = asked-fits })) $ pass1 ! (init ! 4 refl (tt, tt)) $ pass0 ! $
-        move ! (12 ∷ []) $ split ! $ move ! (1 ∷ []) $ split ! $ move ! (1 ∷ []) $ move ! (15 ∷ []) $ fsplit ! $ move ! (1 ∷ []) $ fsplit ! $ move ! (1 ∷ []) $ fsplit ! $ move ! (1 ∷ []) $
-        move ! (1 ∷ []) $ fsplit3 ! $ drop ! $ move ! (0 ∷ 1 ∷ 6 ∷ []) $ opens ! tt T-Part.the-row {h = part} b2 o2 (λ vs. spelt ! T-Part.the-row (Is T-Part.the-row) (shows 𝓤 H A T-Part.the-row) mach-Part (LL.tells T-Part.the-type T′-Part.the-laws) fullShare part vs b2 o2 $ move ! (1 ∷ []) $ peeks ! T-Part.the-row (Is T-Part.the-row) (shows 𝓤 H A T-Part.the-row) part (mach-Part part) (λ was2.
+        pass1 ! (init ! 8 refl (tt, (tt, (record { fits = room0 .0 }, tt)))) $ pass1 ! (init ! 6 refl (tt, record { fits = asked-fits })) $ pass1 ! (init ! 4 refl (tt, tt)) $
+        pass0 ! $
+        -- each token, and what each parameter owns
+        move ! (12 ∷ []) $ split ! $ move ! (1 ∷ []) $ split ! $ move ! (1 ∷ []) $ move ! (15 ∷ []) $ fsplit ! $ move ! (1 ∷ []) $ fsplit ! $ move ! (1 ∷ []) $ fsplit ! $
+        move ! (1 ∷ []) $
+        -- `part` is opened, and looked into
+        move ! (1 ∷ []) $ fsplit3 ! $ drop ! $ move ! (0 ∷ 1 ∷ 6 ∷ []) $ opens ! tt T-Part.the-row {h = part} b2 o2 (λ vs.
+        spelt ! T-Part.the-row (Is T-Part.the-row) (shows 𝓤 H A T-Part.the-row) mach-Part (LL.tells T-Part.the-type T′-Part.the-laws) fullShare part vs b2 o2 $ move ! (1 ∷ []) $
+        peeks ! T-Part.the-row (Is T-Part.the-row) (shows 𝓤 H A T-Part.the-row) part (mach-Part part) (λ was2.
+        -- `part` is copied to be passed on
         assigns ! (of-opd ! (load ! (from ! (hop ! (look ! 14 refl) (stop !))) (look-raw ! 1 refl))) (from ! (stop !)) (init ! 10 refl (LL.lawful T-Part.the-type T′-Part.the-laws 𝓤 H A W .typed part _ was2 .0)) $
-        nothing ! $ owned ! T-Part.the-row (Is T-Part.the-row) (LL.makes T-Part.the-type T′-Part.the-plain 𝓤 H A) part (mach-Part part) was2 $ fjoin ! $ owned ! u8 (Is u8) (uint-makes 𝓤 H A W w8) asked _ (refl, asked-fits) $ fjoin ! $ move ! (8 ∷ []) $ use1 W (‵ Own0 ⊛ ‵ Own0) (shr-slice-copy 𝓤 H A W (named 0) κ₀ u8 .twice d (v0 ∷ [])) $ split ! $ move ! (0 ∷ 2 ∷ []) $ fjoin ! $ nothing ! $ move ! (11 ∷ 0 ∷ []) $ join ! $ use2 W (raw (Callee 𝓤 H A at-mem run .pre to)) is-asked $
+        -- what the callee asks
+        nothing ! $ owned ! T-Part.the-row (Is T-Part.the-row) (LL.makes T-Part.the-type T′-Part.the-plain 𝓤 H A) part (mach-Part part) was2 $ fjoin ! $
+        owned ! u8 (Is u8) (uint-makes 𝓤 H A W w8) asked _ (refl, asked-fits) $ fjoin ! $ move ! (8 ∷ []) $
+        use1 W (‵ Own0 ⊛ ‵ Own0) (shr-slice-copy 𝓤 H A W (named 0) κ₀ u8 .twice d (v0 ∷ [])) $ split ! $ move ! (0 ∷ 2 ∷ []) $ fjoin ! $ nothing ! $ move ! (11 ∷ 0 ∷ []) $ join ! $
+        use2 W (raw (Callee 𝓤 H A at-mem run .pre to)) is-asked $
+        -- the call
         calls-at ! fm (Callee 𝓤 H A at-mem run) known to (and-then ! (load ! (from ! (stop !)) (look ! 18 refl)) (and-then ! (load ! (from ! (stop !)) (look ! 16 refl)) (and-then ! (load ! (from ! (stop !)) (look ! 10 refl)) (no-more !)))) (λ ret.
-        use1 W (later (some (λ (r : GivenPart). (toks ⊛ ‵ (U.the-row .own r (ret ∷ []))) ⊛ raw (ensured 𝓤 H A g.ended (g.clauses 𝓤 H A at-mem run) (κ₀, tt) (d, (asked, (part, tt))) tt r)))) (id⊢ 𝓤 _) $ await ! tt $ pick ! (λ r. split ! $ move ! (1 ∷ []) $
-        use1 W (some (λ (zs : Unit {0} × (Unit {0} × (Unit {0} × Unit {0}))). ‵ (lasts g.ended (κ₀, tt) (d, (asked, (part, tt))) zs) ⊛ raw (fact 𝓤 (Said r)))) (id⊢ 𝓤 _) $ pick ! (λ zs. split ! $ move ! (1 ∷ []) $ heard ! (Said r) (λ e.
+        use1 W (later (some (λ (r : GivenPart). (toks ⊛ ‵ (U.the-row .own r (ret ∷ []))) ⊛ raw (ensured 𝓤 H A g.ended (g.clauses 𝓤 H A at-mem run) (κ₀, tt) (d, (asked, (part, tt))) tt r)))) (id⊢ 𝓤 _) $ await ! tt $
+        pick ! (λ r. split ! $ move ! (1 ∷ []) $
+        use1 W (some (λ (zs : Unit {0} × (Unit {0} × (Unit {0} × Unit {0}))). ‵ (lasts g.ended (κ₀, tt) (d, (asked, (part, tt))) zs) ⊛ raw (fact 𝓤 (Said r)))) (id⊢ 𝓤 _) $
+        pick ! (λ zs. split ! $ move ! (1 ∷ []) $ heard ! (Said r) (λ e.
         move ! (1 ∷ []) $ split ! $ split ! $ move ! (1 ∷ []) $ move ! (2 ∷ []) $ peeks ! U.the-row (Is U.the-row) (shows 𝓤 H A U.the-row) r (ret ∷ []) (λ is.
+        -- the result lands
         land ! (from ! (stop !)) (init ! 15 refl (LL.lawful U.the-type U′.the-laws 𝓤 H A W .typed r _ is .0)) $
         rewrite ! 15 (λ (u : Val). ‵ (fat fullShare U′.mir l₄ 0 u)) (ap only (LL.tells U.the-type U′.the-laws r _ is)) refl $
+        -- `part` is stored in
         assigns ! (of-opd ! (load ! (from ! (fld ! refl (stop !))) (look-in ! 15 (sub ! 0 refl (whole !))))) (from ! (hop ! (look ! 17 refl) (stop !))) (store-raw ! 6 refl (LL.lawful T-Part.the-type T′-Part.the-laws 𝓤 H A W .typed (r .part) (mach-Part (r .part)) (LL.owed U.the-type U′.the-laws r _ is .0) .0)) $
+        -- the result
         assigns ! (of-opd ! (load ! (from ! (fld ! refl (stop !))) (look-in ! 15 (sub ! 1 refl (whole !))))) (from ! (stop !)) (init ! 23 refl (LL.lawful T-Refusal.the-type T′-Refusal.the-laws 𝓤 H A W .typed (r .refusal) (mach-Refusal (r .refusal)) (LL.owed U.the-type U′.the-laws r _ is .1 .0) .0)) $
-        owned ! T-Part.the-row (Is T-Part.the-row) (LL.makes T-Part.the-type T′-Part.the-plain 𝓤 H A) (r .part) (mach-Part (r .part)) (LL.owed U.the-type U′.the-laws r _ is .0) $ move ! (7 ∷ 0 ∷ 8 ∷ 9 ∷ 10 ∷ []) $ closes ! tt T-Part.the-row (r .part) (mach-Part (r .part)) b2 o2 $
+        -- `part` is closed at what was stored
+        owned ! T-Part.the-row (Is T-Part.the-row) (LL.makes T-Part.the-type T′-Part.the-plain 𝓤 H A) (r .part) (mach-Part (r .part)) (LL.owed U.the-type U′.the-laws r _ is .0) $
+        move ! (7 ∷ 0 ∷ 8 ∷ 9 ∷ 10 ∷ []) $ closes ! tt T-Part.the-row (r .part) (mach-Part (r .part)) b2 o2 $
+        -- the return: each local is forgotten and freed
         returns ! (look ! 22 refl) $ forget ! 22 refl $ forget ! 20 refl $ forget ! 18 refl $ forget ! 16 refl $ forget ! 14 refl $ forget ! 12 refl $
-        move ! (22 ∷ 23 ∷ []) $ free1 ! $ move ! (20 ∷ 21 ∷ []) $ free1 ! $ move ! (18 ∷ 19 ∷ []) $ free1 ! $ move ! (16 ∷ 17 ∷ []) $ free1 ! $ move ! (14 ∷ 15 ∷ []) $ free1 ! $ move ! (12 ∷ 13 ∷ []) $ free1 ! $ free0 ! $
+        move ! (22 ∷ 23 ∷ []) $ free1 ! $ move ! (20 ∷ 21 ∷ []) $ free1 ! $ move ! (18 ∷ 19 ∷ []) $ free1 ! $ move ! (16 ∷ 17 ∷ []) $ free1 ! $ move ! (14 ∷ 15 ∷ []) $ free1 ! $
+        move ! (12 ∷ 13 ∷ []) $ free1 ! $ free0 ! $
         keep ! (7 ∷ 0 ∷ 1 ∷ 5 ∷ 2 ∷ []) $ by ! (exits r e (LL.owed U.the-type U′.the-laws r _ is .1 .0)))))))))))))))
 
-module _ {M : Type 1} (𝓤 : URA M) (H : Heap 𝓤) (A : Atoms 𝓤) (W : Given 𝓤 H A) (mem : Memory → SProp 𝓤) (run : Routine → Fun 𝓤) where
-  cb-member-run-walks : (C : Calls 𝓤 H) (Λ : Loops 𝓤 H) → FmC 𝓤 H (W .laws) C → Triple 𝓤 (C #flat·give-run) (Callee 𝓤 H A mem run) → Walks 𝓤 H A f.ended stayed (WpFn 𝓤 H C Λ code.function) (f.clauses 𝓤 H A mem run)
-  cb-member-run-walks C Λ fm known = walked 𝓤 H A f.ended stayed (f.clauses 𝓤 H A mem run) (WpFn 𝓤 H C Λ code.function) (λ κs. (slice-vals, (uint-vals w8, (ptr-vals, tt)))) (λ κs. (shr-slice-tells (named 0) (κs .0) u8, (uint-tells w8, (mut-tells (named 1) (κs .1 .0) T-Part.the-row, tt))))
-      (λ κs qs bounds a _ are. via 𝓤 _ (fst∗ 𝓤 _ (emp 𝓤)) (walk 𝓤 H A W mem run (κs .0) (κs .1 .0) (qs .0) (qs .1 .0) (a .0) (a .1 .0) (are .1 .0 .1) (a .1 .1 .0 .ptr .0) (a .1 .1 .0 .ptr .1) (a .1 .1 .0 .name) (a .1 .1 .0 .now) C Λ fm known (are .0 .0 .1)))
+module _ {M : Type 1} (𝓤 : URA M) (H : Heap 𝓤) (A : Atoms 𝓤) (W : Given 𝓤 H A) (at-mem : Memory → SProp 𝓤) (run : Routine → Fun 𝓤) where
+  cb-member-run-walks : (C : Calls 𝓤 H) (Λ : Loops 𝓤 H) → FmC 𝓤 H (W .laws) C → Triple 𝓤 (C #c-calls·member-run) (Callee 𝓤 H A at-mem run) → Walks 𝓤 H A f.ended stayed (WpFn 𝓤 H C Λ code.function) (f.clauses 𝓤 H A at-mem run)
+  cb-member-run-walks C Λ fm known = walked 𝓤 H A f.ended stayed (f.clauses 𝓤 H A at-mem run) (WpFn 𝓤 H C Λ code.function) (λ κs. (slice-vals, (uint-vals w8, (ptr-vals, tt)))) (λ κs. (shr-slice-tells (named 0) (κs .0) u8, (uint-tells w8, (mut-tells (named 1) (κs .1 .0) T-Part.the-row, tt))))
+      (λ κs qs bounds a _ are. via 𝓤 _ (fst∗ 𝓤 _ (emp 𝓤)) (goes-through 𝓤 H A W at-mem run (κs .0) (κs .1 .0) (qs .0) (qs .1 .0) (a .0) (a .1 .0) (are .1 .0 .1) (a .1 .1 .0 .ptr .0) (a .1 .1 .0 .ptr .1) (a .1 .1 .0 .name) (a .1 .1 .0 .now) C Λ fm known (are .0 .0 .1)))
 
   goes : AllGo 𝓤 H A W 2 (f.signature .params) (f.ended .kept) stayed
   goes = (goes-none-slice 𝓤 H A W 2 (0 ∷ []) tt (plain (λ _. u8)) yes, (goes-none 𝓤 H A W 2 (λ _. u8) yes (λ κs x f. refl), (goes-ref 𝓤 H A W 2 1 tt (plain (λ _. T-Part.the-row)), tt)))
 
-cb-member-run-meets : {M : Type 1} (𝓤 : URA M) (H : Heap 𝓤) (A : Atoms 𝓤) → Given 𝓤 H A → (mem : Memory → SProp 𝓤) (run : Routine → Fun 𝓤) (𝓣 : Tables 𝓤 H) → Triple 𝓤 (𝓣 .C #flat·give-run) (Callee 𝓤 H A mem run)
-    → Meets 𝓤 H A f.signature (WpFn 𝓤 H (𝓣 .C) (𝓣 .Λ) code.function) (f.spec 𝓤 H A mem run)
-cb-member-run-meets 𝓤 H A W mem run 𝓣 known = walk-meets 𝓤 H A f.ended stayed W (goes 𝓤 H A W mem run) (f.clauses 𝓤 H A mem run) (WpFn 𝓤 H (𝓣 .C) (𝓣 .Λ) code.function) (WpFn-mono 𝓤 H (W .laws) 𝓣 code.function) (cb-member-run-walks 𝓤 H A W mem run (𝓣 .C) (𝓣 .Λ) (fmOf 𝓤 H (W .laws) 𝓣) known)
+cb-member-run-meets : {M : Type 1} (𝓤 : URA M) (H : Heap 𝓤) (A : Atoms 𝓤) → Given 𝓤 H A → (at-mem : Memory → SProp 𝓤) (run : Routine → Fun 𝓤) (𝓣 : Tables 𝓤 H) → Triple 𝓤 (𝓣 .C #c-calls·member-run) (Callee 𝓤 H A at-mem run)
+    → Meets 𝓤 H A f.signature (WpFn 𝓤 H (𝓣 .C) (𝓣 .Λ) code.function) (f.spec 𝓤 H A at-mem run)
+cb-member-run-meets 𝓤 H A W at-mem run 𝓣 known = walk-meets 𝓤 H A f.ended stayed W (goes 𝓤 H A W at-mem run) (f.clauses 𝓤 H A at-mem run) (WpFn 𝓤 H (𝓣 .C) (𝓣 .Λ) code.function) (WpFn-mono 𝓤 H (W .laws) 𝓣 code.function) (cb-member-run-walks 𝓤 H A W at-mem run (𝓣 .C) (𝓣 .Λ) (fmOf 𝓤 H (W .laws) 𝓣) known)
 
 pub cb-member-run-spec : {M : Type 1} → stated.statement M
 unfolding code.routine tablesOf
@@ -162,4 +189,4 @@ cb-member-run-spec 𝓤 H 𝓜 𝓖 𝓡 =
     entered 𝓤 H (tripleOf 𝓤 H (𝓖 .A) f.signature (f.spec 𝓤 H (𝓖 .A) (𝓜 .mem) (𝓡 .run)))
     (tables 𝓤 H 𝓜 𝓡 code.env .C) (tables 𝓤 H 𝓜 𝓡 code.env .Λ) #callbridge·cb-member-run code.function (code.unfolded 𝓤 H 𝓜 𝓡)
     (cb-member-run-meets 𝓤 H (𝓖 .A) (givenOf 𝓤 H 𝓜 𝓖) (𝓜 .mem) (𝓡 .run) (tablesOf 𝓤 H 𝓜 (tables 𝓤 H 𝓜 𝓡 code.env))
-    (cited 𝓤 H (Callee 𝓤 H (𝓖 .A) (𝓜 .mem) (𝓡 .run)) 𝓜 𝓡 code.env #flat·give-run g-def.routine code.calls-flat·give-run (g-thm.met 𝓤 H 𝓜 𝓖 𝓡)))
+    (cited 𝓤 H (Callee 𝓤 H (𝓖 .A) (𝓜 .mem) (𝓡 .run)) 𝓜 𝓡 code.env #c-calls·member-run g-def.routine code.calls-c-calls·member-run (g-thm.met 𝓤 H 𝓜 𝓖 𝓡)))

@@ -18,11 +18,11 @@ read-sized-requires c κs = search needs
 array-share-prefix-space : tie.Need-array-share-prefix-space
 array-share-prefix-space c = search needs
 
-slice-aggregate-attaching : tie.Need-slice-aggregate-attaching
-slice-aggregate-attaching c = sym (length-take-le _ _ (c .before .before .before .read-sized .ensures))
+slice-aggregate-attach-by-value : tie.Need-slice-aggregate-attach-by-value
+slice-aggregate-attach-by-value c = sym (length-take-le _ _ (c .before .before .before .read-sized .ensures))
 
-attaching-requires : tie.Need-attaching-requires
-attaching-requires c κs = search needs
+attach-by-value-requires : tie.Need-attach-by-value-requires
+attach-by-value-requires c κs = search needs
 
 slice-aggregate-print-refusal : tie.Need-slice-aggregate-print-refusal
 slice-aggregate-print-refusal c = search needs
@@ -44,8 +44,8 @@ attach-lent-spec =
     slice-aggregate-read-sized
     read-sized-requires
     array-share-prefix-space
-    slice-aggregate-attaching
-    attaching-requires
+    slice-aggregate-attach-by-value
+    attach-by-value-requires
     slice-aggregate-print-refusal
     print-refusal-requires
     same-length

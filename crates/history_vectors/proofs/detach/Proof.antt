@@ -9,14 +9,14 @@ use Rattle.history_vectors.proofs.detach.Tie as tie
 returns : tie.Need-returns
 returns c = search needs
 
-slice-relend-prefix-detaching : tie.Need-slice-relend-prefix-detaching
-slice-relend-prefix-detaching c = search needs
+slice-relend-prefix-detach-by-value : tie.Need-slice-relend-prefix-detach-by-value
+slice-relend-prefix-detach-by-value c = search needs
 
-slice-aggregate-detaching : tie.Need-slice-aggregate-detaching
-slice-aggregate-detaching c = sym (length-take-le _ _ (c .before .if1 .left))
+slice-aggregate-detach-by-value : tie.Need-slice-aggregate-detach-by-value
+slice-aggregate-detach-by-value c = sym (length-take-le _ _ (c .before .if1 .left))
 
-detaching-requires : tie.Need-detaching-requires
-detaching-requires c κs = search needs
+detach-by-value-requires : tie.Need-detach-by-value-requires
+detach-by-value-requires c κs = search needs
 
 slice-aggregate-print-refusal : tie.Need-slice-aggregate-print-refusal
 slice-aggregate-print-refusal c = search needs
@@ -41,9 +41,9 @@ detach-spec =
     tie.close
     (tie.spec
     returns
-    slice-relend-prefix-detaching
-    slice-aggregate-detaching
-    detaching-requires
+    slice-relend-prefix-detach-by-value
+    slice-aggregate-detach-by-value
+    detach-by-value-requires
     slice-aggregate-print-refusal
     print-refusal-requires
     print-seat-requires

@@ -5,7 +5,7 @@ use native.Mathlib.Omega.{arith}
 use borrow.Author.Needs.{needs}
 use lib.ListN.{length}
 use denote.Ref.{now}
-use Rattle.text.proofs.Written.{wrote-more}
+use Rattle.listing.proofs.Written.{wrote-more}
 use Rattle.layout.proofs.Layouts.{laid-accepted}
 use Rattle.listing.proofs.Lines.{accepted-laid, listing-length, listing-short, listing-bytes}
 use Rattle.layout.specs.declared.LayoutAnswer.the-variants.{Laid, Refused}

@@ -34,10 +34,10 @@ use Rattle.classify.proofs.aggregates.work_out.Kinds as work-out-kinds
 use Rattle.classify.proofs.aggregates.+classify_elements+classify_members+classify_type+work_out.Lts-work_out as work-out-lts
 use Rattle.classes.proofs.clean_up.Reads as clean-up-reads
 use Rattle.classes.proofs.merge_both.Reads as merge-both-reads
-use Rattle.classify.proofs.words.basic_at.Reads as basic-at-reads
+use Rattle.classify.proofs.table_words.basic_at.Reads as basic-at-reads
 use Rattle.classify.proofs.aggregates.look_up.Reads as look-up-reads
 use Rattle.classify.proofs.aggregates.mark_for.Reads as mark-for-reads
-use Rattle.classify.proofs.words.unpack.Reads as unpack-reads
+use Rattle.classify.proofs.table_words.unpack.Reads as unpack-reads
 use Rattle.description.proofs.a_at.Reads as a-at-reads
 use Rattle.description.proofs.count_at.Reads as count-at-reads
 use Rattle.description.proofs.kind_at.Reads as kind-at-reads

@@ -2,7 +2,7 @@
 -- Assumes nothing.
 use borrow.Author.Needs.{needs}
 use Rattle.listing.specs.Listing.{headLine}
-use Rattle.text.proofs.Written.{wrote-join}
+use Rattle.listing.proofs.Written.{wrote-join}
 use Rattle.listing.proofs.line_writing.put_head.Statement.{statement}
 use Rattle.listing.proofs.line_writing.put_head.Tie as tie
 

@@ -2,7 +2,7 @@
 use mathlib.Core.Path.{sym, _∙_}
 use native.Mathlib.Omega.{arith}
 use borrow.Author.Needs.{needs}
-use Rattle.text.proofs.Written.{wrote-none, wrote-join, wrote-more}
+use Rattle.listing.proofs.Written.{wrote-none, wrote-join, wrote-more}
 use Rattle.listing.specs.Listing.{refusedLine}
 use Rattle.listing.proofs.line_writing.put_refused.Statement.{statement}
 use Rattle.listing.proofs.line_writing.put_refused.Tie as tie

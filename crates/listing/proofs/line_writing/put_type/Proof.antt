@@ -4,7 +4,7 @@ use native.Mathlib.Omega.{arith}
 use borrow.Author.Needs.{needs}
 use borrow.Author.Tests.{eq-eqb, ne-eqb}
 use denote.Ref.{now}
-use Rattle.text.proofs.Written.{wrote-none, wrote-more}
+use Rattle.listing.proofs.Written.{wrote-none, wrote-more}
 use Rattle.listing.proofs.line_writing.put_type.Statement.{statement}
 use Rattle.listing.proofs.line_writing.put_type.Tie as tie
 

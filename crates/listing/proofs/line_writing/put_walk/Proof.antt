@@ -5,7 +5,7 @@ use borrow.Author.Needs.{needs}
 use borrow.Author.Tests.{eq-eqb}
 use Rattle.listing.specs.Listing.{walkLine}
 use Rattle.listing.proofs.Lines.{walk-is}
-use Rattle.text.proofs.Written.{wrote-more}
+use Rattle.listing.proofs.Written.{wrote-more}
 use Rattle.listing.proofs.line_writing.put_walk.Statement.{statement}
 use Rattle.listing.proofs.line_writing.put_walk.Tie as tie
 

@@ -27,14 +27,14 @@ argument-at-requires c κs = (whole _ (c .before .before .before .before .before
 extent-in-requires : tie.Need-extent-in-requires Inv-loop μ-loop
 extent-in-requires c κs = turn-type _ _ _ _ (omega (arith, c .before .loop-test .taken, c .before .before .loop .inv .1)) (c .before .before .loop .inv .0 .turn) (c .before .before .before .before .before .before .before .before .pre .0 .accepted) _ (c .argument-at .ensures)
 
-next-place-requires : tie.Need-next-place-requires Inv-loop μ-loop
-next-place-requires c κs = (turn-type _ _ _ _ (omega (arith, c .before .before .before .loop-test .taken, c .before .before .before .before .loop .inv .1)) (c .before .before .before .before .loop .inv .0 .turn) (c .before .before .before .before .before .before .before .before .before .before .pre .0 .accepted) _ (c .before .before .argument-at .ensures), turn-room-left _ _ _ _ (omega (arith, c .before .before .before .loop-test .taken, c .before .before .before .before .loop .inv .1)) (c .before .before .before .before .loop .inv .0 .turn) _ (c .before .before .before .before .before .before .before .before .before .before .pre .2) (c .before .before .before .before .before .before .before .before .before .before .pre .0 .accepted) _ (c .before .before .argument-at .ensures), turn-small _ _ _ _ (omega (arith, c .before .before .before .loop-test .taken, c .before .before .before .before .loop .inv .1)) (c .before .before .before .before .loop .inv .0 .turn) _ (c .before .before .before .before .before .before .before .before .before .before .pre .2) (c .before .before .before .before .before .before .before .before .before .before .pre .0 .accepted) _ (c .before .before .argument-at .ensures), c .before .extent-in .ensures)
+place-type-requires : tie.Need-place-type-requires Inv-loop μ-loop
+place-type-requires c κs = (turn-type _ _ _ _ (omega (arith, c .before .before .before .loop-test .taken, c .before .before .before .before .loop .inv .1)) (c .before .before .before .before .loop .inv .0 .turn) (c .before .before .before .before .before .before .before .before .before .before .pre .0 .accepted) _ (c .before .before .argument-at .ensures), turn-room-left _ _ _ _ (omega (arith, c .before .before .before .loop-test .taken, c .before .before .before .before .loop .inv .1)) (c .before .before .before .before .loop .inv .0 .turn) _ (c .before .before .before .before .before .before .before .before .before .before .pre .2) (c .before .before .before .before .before .before .before .before .before .before .pre .0 .accepted) _ (c .before .before .argument-at .ensures), turn-small _ _ _ _ (omega (arith, c .before .before .before .loop-test .taken, c .before .before .before .before .loop .inv .1)) (c .before .before .before .before .loop .inv .0 .turn) _ (c .before .before .before .before .before .before .before .before .before .before .pre .2) (c .before .before .before .before .before .before .before .before .before .before .pre .0 .accepted) _ (c .before .before .argument-at .ensures), c .before .extent-in .ensures)
 
 place-one-requires : tie.Need-place-one-requires Inv-loop μ-loop
-place-one-requires c κs = turn-move _ _ _ _ (omega (arith, c .before .before .before .before .before .before .loop-test .taken, c .before .before .before .before .before .before .before .loop .inv .1)) (c .before .before .before .before .before .before .before .loop .inv .0 .turn) _ (turn-step _ _ _ _ (omega (arith, c .before .before .before .before .before .before .loop-test .taken, c .before .before .before .before .before .before .before .loop .inv .1)) (c .before .before .before .before .before .before .before .loop .inv .0 .turn) _ (c .before .before .before .before .before .before .before .before .before .before .before .before .before .pre .2) (c .before .before .before .before .before .before .before .before .before .before .before .before .before .pre .0 .accepted) _ (c .before .before .before .before .before .argument-at .ensures) (c .before .before .before .before .extent-in .result) (c .before .before .before .before .extent-in .ensures) (c .before .before .next-place .result) (c .before .before .next-place .ensures)) _ _ _ (c .before .before .before .before .before .before .before .loop .inv .0 .lent)
+place-one-requires c κs = turn-move _ _ _ _ (omega (arith, c .before .before .before .before .before .before .loop-test .taken, c .before .before .before .before .before .before .before .loop .inv .1)) (c .before .before .before .before .before .before .before .loop .inv .0 .turn) _ (turn-step _ _ _ _ (omega (arith, c .before .before .before .before .before .before .loop-test .taken, c .before .before .before .before .before .before .before .loop .inv .1)) (c .before .before .before .before .before .before .before .loop .inv .0 .turn) _ (c .before .before .before .before .before .before .before .before .before .before .before .before .before .pre .2) (c .before .before .before .before .before .before .before .before .before .before .before .before .before .pre .0 .accepted) _ (c .before .before .before .before .before .argument-at .ensures) (c .before .before .before .before .extent-in .result) (c .before .before .before .before .extent-in .ensures) (c .before .before .place-type .result) (c .before .before .place-type .ensures)) _ _ _ (c .before .before .before .before .before .before .before .loop .inv .0 .lent)
 
 plus-requires : tie.Need-plus-requires Inv-loop μ-loop
-plus-requires c κs = turn-room _ _ _ _ (omega (arith, c .before .before .before .before .before .before .before .before .before .before .before .loop-test .taken, c .before .before .before .before .before .before .before .before .before .before .before .before .loop .inv .1)) (c .before .before .before .before .before .before .before .before .before .before .before .before .loop .inv .0 .turn) _ (turn-step _ _ _ _ (omega (arith, c .before .before .before .before .before .before .before .before .before .before .before .loop-test .taken, c .before .before .before .before .before .before .before .before .before .before .before .before .loop .inv .1)) (c .before .before .before .before .before .before .before .before .before .before .before .before .loop .inv .0 .turn) _ (c .before .before .before .before .before .before .before .before .before .before .before .before .before .before .before .before .before .before .pre .2) (c .before .before .before .before .before .before .before .before .before .before .before .before .before .before .before .before .before .before .pre .0 .accepted) _ (c .before .before .before .before .before .before .before .before .before .before .argument-at .ensures) (c .before .before .before .before .before .before .before .before .before .extent-in .result) (c .before .before .before .before .before .before .before .before .before .extent-in .ensures) (c .before .before .before .before .before .before .before .next-place .result) (c .before .before .before .before .before .before .before .next-place .ensures)) _ _ _ (c .before .before .before .before .before .before .before .before .before .before .before .before .loop .inv .0 .lent)
+plus-requires c κs = turn-room _ _ _ _ (omega (arith, c .before .before .before .before .before .before .before .before .before .before .before .loop-test .taken, c .before .before .before .before .before .before .before .before .before .before .before .before .loop .inv .1)) (c .before .before .before .before .before .before .before .before .before .before .before .before .loop .inv .0 .turn) _ (turn-step _ _ _ _ (omega (arith, c .before .before .before .before .before .before .before .before .before .before .before .loop-test .taken, c .before .before .before .before .before .before .before .before .before .before .before .before .loop .inv .1)) (c .before .before .before .before .before .before .before .before .before .before .before .before .loop .inv .0 .turn) _ (c .before .before .before .before .before .before .before .before .before .before .before .before .before .before .before .before .before .before .pre .2) (c .before .before .before .before .before .before .before .before .before .before .before .before .before .before .before .before .before .before .pre .0 .accepted) _ (c .before .before .before .before .before .before .before .before .before .before .argument-at .ensures) (c .before .before .before .before .before .before .before .before .before .extent-in .result) (c .before .before .before .before .before .before .before .before .before .extent-in .ensures) (c .before .before .before .before .before .before .before .place-type .result) (c .before .before .before .before .before .before .before .place-type .ensures)) _ _ _ (c .before .before .before .before .before .before .before .before .before .before .before .before .loop .inv .0 .lent)
 
 add-i : tie.Need-add-i Inv-loop μ-loop
 add-i c = omega arith
@@ -43,7 +43,7 @@ loop-less : tie.Need-loop-less Inv-loop μ-loop
 loop-less c = omega arith
 
 loop-again : tie.Need-loop-again Inv-loop μ-loop
-loop-again c = (placing-next _ _ _ _ _ _ _ _ _ (omega (arith, c .before .before .before .before .before .before .before .before .before .before .before .before .before .loop-test .taken, c .before .before .before .before .before .before .before .before .before .before .before .before .before .before .loop .inv .1)) (c .before .before .before .before .before .before .before .before .before .before .before .before .before .before .loop .inv .0) _ (turn-step _ _ _ _ (omega (arith, c .before .before .before .before .before .before .before .before .before .before .before .before .before .loop-test .taken, c .before .before .before .before .before .before .before .before .before .before .before .before .before .before .loop .inv .1)) (c .before .before .before .before .before .before .before .before .before .before .before .before .before .before .loop .inv .0 .turn) _ (c .before .before .before .before .before .before .before .before .before .before .before .before .before .before .before .before .before .before .before .before .pre .2) (c .before .before .before .before .before .before .before .before .before .before .before .before .before .before .before .before .before .before .before .before .pre .0 .accepted) _ (c .before .before .before .before .before .before .before .before .before .before .before .before .argument-at .ensures) (c .before .before .before .before .before .before .before .before .before .before .before .extent-in .result) (c .before .before .before .before .before .before .before .before .before .before .before .extent-in .ensures) (c .before .before .before .before .before .before .before .before .before .next-place .result) (c .before .before .before .before .before .before .before .before .before .next-place .ensures)) _ (c .before .plus .ensures) _ _ (omega arith) (omega arith) (c .before .before .before .before .before .before .place-one .ensures), c .before .before .before .before .before .before .before .before .before .before .before .before .before .before .loop .inv .1)
+loop-again c = (placing-next _ _ _ _ _ _ _ _ _ (omega (arith, c .before .before .before .before .before .before .before .before .before .before .before .before .before .loop-test .taken, c .before .before .before .before .before .before .before .before .before .before .before .before .before .before .loop .inv .1)) (c .before .before .before .before .before .before .before .before .before .before .before .before .before .before .loop .inv .0) _ (turn-step _ _ _ _ (omega (arith, c .before .before .before .before .before .before .before .before .before .before .before .before .before .loop-test .taken, c .before .before .before .before .before .before .before .before .before .before .before .before .before .before .loop .inv .1)) (c .before .before .before .before .before .before .before .before .before .before .before .before .before .before .loop .inv .0 .turn) _ (c .before .before .before .before .before .before .before .before .before .before .before .before .before .before .before .before .before .before .before .before .pre .2) (c .before .before .before .before .before .before .before .before .before .before .before .before .before .before .before .before .before .before .before .before .pre .0 .accepted) _ (c .before .before .before .before .before .before .before .before .before .before .before .before .argument-at .ensures) (c .before .before .before .before .before .before .before .before .before .before .before .extent-in .result) (c .before .before .before .before .before .before .before .before .before .before .before .extent-in .ensures) (c .before .before .before .before .before .before .before .before .before .place-type .result) (c .before .before .before .before .before .before .before .before .before .place-type .ensures)) _ (c .before .plus .ensures) _ _ (omega arith) (omega arith) (c .before .before .before .before .before .before .place-one .ensures), c .before .before .before .before .before .before .before .before .before .before .before .before .before .before .loop .inv .1)
 
 same-length : tie.Need-same-length Inv-loop μ-loop
 same-length c = omega arith
@@ -64,7 +64,7 @@ place-all-spec =
     loop-holds
     argument-at-requires
     extent-in-requires
-    next-place-requires
+    place-type-requires
     place-one-requires
     plus-requires
     add-i

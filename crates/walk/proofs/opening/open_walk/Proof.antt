@@ -27,14 +27,14 @@ refusal-of-requires-2 c κs = search needs
 returns-2 : tie.Need-returns-2
 returns-2 c = answer-idle kcb (c .before .before .before .before .before .before .args .station) (now (c .before .before .before .before .before .before .args .seat)) (c .refusal-of2 .result) (c .refusal-of2 .ensures) (sym (c .before .before .before .before .wrong-seat .ensures) ∙ c .before .before .before .if1 .left) (not-true _ (c .before .if2 .taken))
 
-slice-aggregate-opening : tie.Need-slice-aggregate-opening
-slice-aggregate-opening c = let z = right-seat (c .before .before .before .before .before .before .before .args .station) (now (c .before .before .before .before .before .before .before .args .seat)) (sym (c .before .before .before .before .before .wrong-seat .ensures) ∙ c .before .before .before .before .if1 .left) in sym (length-take-le (c .before .before .before .before .before .before .before .args .station .length .0) (now (c .before .before .before .before .before .before .before .args .seat)) (omega (arith, z .full, z .within)))
+slice-aggregate-open-on : tie.Need-slice-aggregate-open-on
+slice-aggregate-open-on c = let z = right-seat (c .before .before .before .before .before .before .before .args .station) (now (c .before .before .before .before .before .before .before .args .seat)) (sym (c .before .before .before .before .before .wrong-seat .ensures) ∙ c .before .before .before .before .if1 .left) in sym (length-take-le (c .before .before .before .before .before .before .before .args .station .length .0) (now (c .before .before .before .before .before .before .before .args .seat)) (omega (arith, z .full, z .within)))
 
-opening-requires : tie.Need-opening-requires
-opening-requires c κs = search needs
+open-on-requires : tie.Need-open-on-requires
+open-on-requires c κs = search needs
 
 returns-3 : tie.Need-returns-3
-returns-3 c = answer-rest kcb (c .before .before .before .before .before .before .before .before .args .station) (now (c .before .before .before .before .before .before .before .before .args .seat)) (c .opening .result) (sym (c .before .before .before .before .before .before .wrong-seat .ensures) ∙ c .before .before .before .before .before .if1 .left) (not-false _ (c .before .before .before .if2 .left)) (c .opening .ensures)
+returns-3 c = answer-rest kcb (c .before .before .before .before .before .before .before .before .args .station) (now (c .before .before .before .before .before .before .before .before .args .seat)) (c .open-on .result) (sym (c .before .before .before .before .before .before .wrong-seat .ensures) ∙ c .before .before .before .before .before .if1 .left) (not-false _ (c .before .before .before .if2 .left)) (c .open-on .ensures)
 
 pub open-walk-spec : {M : Type 1} → statement M
 open-walk-spec =
@@ -45,6 +45,6 @@ open-walk-spec =
     returns
     refusal-of-requires-2
     returns-2
-    slice-aggregate-opening
-    opening-requires
+    slice-aggregate-open-on
+    open-on-requires
     returns-3)

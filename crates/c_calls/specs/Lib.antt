@@ -1,0 +1,6 @@
+pub mod Outcome
+pub mod TypeCalls
+pub mod LayoutCalls
+pub mod MovingCalls
+pub mod ReturningCalls
+pub mod WalkCalls

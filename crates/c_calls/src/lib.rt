@@ -1,0 +1,85 @@
+// What each C call answers and leaves, by value: the call is asked of the library, and of its answer is made the refusal, number 0 for
+// none, and the lent record at exit, which a refusal leaves as it was (document 01, "A refusal returns its number only and writes
+// nothing"). `callbridge` lends the record and stores it.
+pub use layout_calls::begin_list;
+pub use layout_calls::layout_of;
+pub use layout_calls::place_flat;
+pub use moving_calls::gather_values;
+pub use moving_calls::place_values;
+pub use returning_calls::put_returned;
+pub use returning_calls::take_returned;
+pub use type_calls::member_run;
+pub use type_calls::type_classes;
+pub use type_calls::type_extent;
+pub use walk_calls::open_walk;
+pub use walk_calls::show;
+
+mod type_calls; // cb_type_extent, cb_type_classes, cb_member_run
+mod layout_calls; // cb_layout_of, cb_lay_out
+mod moving_calls; // cb_place_values, cb_gather_values
+mod returning_calls; // cb_put_returned, cb_take_returned
+mod walk_calls; // cb_open_walk, cb_show
+
+use flat::Classes;
+use flat::Gathered;
+use flat::Layout;
+use flat::Part;
+use flat::Placed;
+use flat::Placement;
+use form::Refusal;
+use places::Used;
+use types::Extent;
+use walk::Walk;
+
+// Of each call the lent record at exit, and the refusal.
+
+pub struct GivenExtent {
+    pub extent: Extent,
+    pub refusal: Refusal,
+}
+
+pub struct GivenClasses {
+    pub classes: Classes,
+    pub refusal: Refusal,
+}
+
+pub struct GivenPart {
+    pub part: Part,
+    pub refusal: Refusal,
+}
+
+pub struct GivenLayout {
+    pub layout: Layout,
+    pub refusal: Refusal,
+}
+
+pub struct GivenPlaced {
+    pub placed: Placed,
+    pub refusal: Refusal,
+}
+
+pub struct GivenGathered {
+    pub gathered: Gathered,
+    pub refusal: Refusal,
+}
+
+pub struct GivenWalk {
+    pub walk: Walk,
+    pub refusal: Refusal,
+}
+
+// Before the first record of a lent list: what `GivenLayout` says, how many records there are, none for a refusal, what is used,
+// and the table that the records are made by.
+pub struct ListBegun {
+    pub layout: Layout,
+    pub refusal: Refusal,
+    pub count: usize,
+    pub used: Used,
+    pub table: [u32; 64],
+}
+
+// One flat record, and what is used after it.
+pub struct FlatStep {
+    pub placement: Placement,
+    pub used: Used,
+}

@@ -1,0 +1,56 @@
+// cb_put_returned and cb_take_returned, by value, and the lent bytes at exit (document 02, request 2026-02).
+use crate::GivenGathered;
+use flat::Gathered;
+use form::Refusal;
+use returning::PutAnswer;
+use returning::TakeAnswer;
+ghost use mathlib.Core.Path.{_≡_};
+ghost use lib.ListN.{length};
+ghost use Rattle.returning.specs.Answers.{putAnswer, imageAfter, takeAnswer, valueAfter};
+ghost use Rattle.c_calls.specs.Outcome.{refusalIn, leftIn};
+ghost use Rattle.c_calls.specs.ReturningCalls.{putGiven, takenGiven};
+
+// What putting gives: no record.
+fn put_given(answer: PutAnswer) -> Refusal
+    ensures { λ r. ⌜ r ≡ putGiven answer ⌝ }
+{
+    match answer {
+        PutAnswer::Put => form::refusal_of(0),
+        PutAnswer::Refused(refusal) => refusal,
+    }
+}
+
+// What taking gives: the hidden address.
+fn taken_given(answer: TakeAnswer, held: Gathered) -> GivenGathered
+    ensures { λ r. ⌜ (r .refusal ≡ refusalIn (takenGiven answer)) × (r .gathered ≡ leftIn (takenGiven answer) held) ⌝ }
+{
+    match answer {
+        TakeAnswer::Taken(address) => GivenGathered {
+            gathered: Gathered { hidden: address },
+            refusal: form::refusal_of(0),
+        },
+        TakeAnswer::Refused(refusal) => GivenGathered {
+            gathered: held,
+            refusal: refusal,
+        },
+    }
+}
+
+// Putting a returned value, with the return image at exit.
+pub fn put_returned(d: &[u8], hidden: u64, value: &[u8], image: &mut [u8]) -> Refusal
+    ensures { λ r. ⌜ (r ≡ putGiven (putAnswer (now (d .entry)) (now (value .entry)) (length (now (image .entry)))))
+        × (now (image .exit) ≡ imageAfter (now (d .entry)) hidden (now (value .entry)) (now (image .entry))) ⌝ }
+{
+    let answer = returning::put_returned(d, hidden, value, image);
+    put_given(answer)
+}
+
+// Taking a returned value, with its bytes at exit.
+pub fn take_returned(d: &[u8], image: &[u8], value: &mut [u8], held: Gathered) -> GivenGathered
+    ensures { λ r. ⌜ (r .refusal ≡ refusalIn (takenGiven (takeAnswer (now (d .entry)) (now (image .entry)) (length (now (value .entry))))))
+        × ((r .gathered ≡ leftIn (takenGiven (takeAnswer (now (d .entry)) (now (image .entry)) (length (now (value .entry))))) held)
+        × (now (value .exit) ≡ valueAfter (now (d .entry)) (now (image .entry)) (now (value .entry)))) ⌝ }
+{
+    let answer = returning::take_returned(d, image, value);
+    taken_given(answer, held)
+}

@@ -1,0 +1,208 @@
+// The classes of a basic type, and a type's two classes as one word of the table: packed with what they ask for, oneClass into an entry, and read again.
+use classes::Class;
+use units::Bytes;
+ghost use mathlib.Core.Path.{_≡_};
+ghost use mathlib.Core.List.{[], _∷_};
+ghost use Prim.Native.Nat.{_+_, _*_, _/_, _%_, _<_, _≤_};
+ghost use lib.ListN.{getD};
+ghost use Rattle.classify.specs.Classify.{oneClass, basicAt};
+ghost use Rattle.classify.specs.Table.{classBy, unpackedOf, packedOf, askOf, asksOf, wordOf};
+
+// Of each code: its first class, the class of its second part, and how far on that part starts.
+const FIRST: [Class; 16] = [
+    Class::Integer,
+    Class::Integer,
+    Class::Integer,
+    Class::Integer,
+    Class::Integer,
+    Class::Integer,
+    Class::Sse,
+    Class::Sse,
+    Class::X87,
+    Class::Sse,
+    Class::Sse,
+    Class::Sse,
+    Class::Sse,
+    Class::Sse,
+    Class::ComplexX87,
+    Class::Integer,
+];
+
+const SECOND: [Class; 16] = [
+    Class::NoClass,
+    Class::NoClass,
+    Class::NoClass,
+    Class::NoClass,
+    Class::NoClass,
+    Class::Integer,
+    Class::NoClass,
+    Class::NoClass,
+    Class::X87Up,
+    Class::SseUp,
+    Class::NoClass,
+    Class::SseUp,
+    Class::Sse,
+    Class::Sse,
+    Class::NoClass,
+    Class::NoClass,
+];
+
+const GAP: [u8; 16] = [0, 0, 0, 0, 0, 8, 0, 0, 8, 8, 0, 8, 4, 8, 0, 0];
+
+// Of each code: its classes at offset 0 and what they ask for, in one number as `word_of` makes it. INTEGER alone is 64 + 1, and
+// 128 for one general register: 193.
+const WORDS: [u16; 16] = [
+    193,
+    193,
+    193,
+    193,
+    193,
+    329,
+    2114,
+    2114,
+    1900,
+    2138,
+    2114,
+    2138,
+    2114,
+    4178,
+    966,
+    193,
+];
+
+// One class, in the eightbyte that `at` lies in.
+fn put_class(at: Bytes, class: Class) -> [Class; 2]
+    ensures { λ r. ⌜ r ≡ oneClass 2 (at .0) class ⌝ }
+{
+    let eightbyte = units::eightbyte_of(at);
+    let i = eightbyte.0;
+    let mut classes = [Class::NoClass, Class::NoClass];
+    if i < 2 {
+        classes[i] = class;
+    }
+    classes
+}
+
+// A basic type at offset `at`.
+pub fn basic_at(code: usize, at: Bytes) -> [Class; 2]
+    requires { ⌜ (code < 16) × (at .0 ≤ 4096) ⌝ }
+    ensures { λ r. ⌜ r ≡ basicAt 2 code (at .0) ⌝ }
+{
+    let first = put_class(at, FIRST[code]);
+    let second_at = units::plus(at, Bytes(wide(GAP[code])));
+    let second = put_class(second_at, SECOND[code]);
+    classes::merge_both(first, second)
+}
+
+// The class with this number.
+fn class_by(code: usize) -> Class
+    requires { ⌜ code < 8 ⌝ }
+    ensures { λ r. ⌜ r ≡ classBy code ⌝ }
+{
+    match code {
+        0 => Class::NoClass,
+        1 => Class::Integer,
+        2 => Class::Sse,
+        3 => Class::SseUp,
+        4 => Class::X87,
+        5 => Class::X87Up,
+        6 => Class::ComplexX87,
+        _ => Class::Memory,
+    }
+}
+
+// Two classes out of one number.
+pub fn unpack(packed: usize) -> [Class; 2]
+    ensures { λ r. ⌜ r ≡ unpackedOf packed ⌝ }
+{
+    let first = class_by(packed % 8);
+    let second = class_by(packed / 8 % 8);
+    [first, second]
+}
+
+// Two classes in one number, which is not 0.
+pub fn pack(classes: [Class; 2]) -> u8
+    ensures { λ r. ⌜ (r ≡ packedOf classes) × (unpackedOf r ≡ classes) ⌝ }
+{
+    let first = classes[0];
+    let second = classes[1];
+    let low = classes::code_of(first);
+    let high = classes::code_of(second);
+    64 + low + 8 * high
+}
+
+pub fn wide(byte: u8) -> usize
+    ensures { λ r. ⌜ r ≡ byte ⌝ }
+{
+    byte as usize
+}
+
+// What an eightbyte of this class asks for.
+fn ask_of(class: Class) -> u32
+    ensures { λ r. ⌜ r ≡ askOf class ⌝ }
+{
+    match class {
+        Class::NoClass => 0,
+        Class::Integer => 1,
+        Class::Sse => 16,
+        Class::SseUp => 0,
+        Class::X87 => 7,
+        Class::X87Up => 7,
+        Class::ComplexX87 => 7,
+        Class::Memory => 7,
+    }
+}
+
+// What a value with these classes asks for.
+fn asks_of(first: Class, second: Class) -> u32
+    ensures { λ r. ⌜ r ≡ asksOf (first ∷ second ∷ []) ⌝ }
+{
+    let asks = ask_of(first) + ask_of(second);
+    if !classes::is_same(first, Class::NoClass) {
+        return asks;
+    }
+    if !classes::is_same(second, Class::NoClass) {
+        return asks;
+    }
+    7
+}
+
+// Two classes and what they ask for, in one number.
+pub fn word_of(classes: [Class; 2]) -> u32
+    ensures { λ r. ⌜ r ≡ wordOf classes ⌝ }
+{
+    let first = classes[0];
+    let second = classes[1];
+    let asks = asks_of(first, second);
+    pack(classes) as u32 + 128 * asks
+}
+
+fn widened(word: u16) -> u32
+    ensures { λ r. ⌜ r ≡ word ⌝ }
+{
+    word as u32
+}
+
+// The same of a basic type.
+pub fn basic_word(code: usize) -> u32
+    requires { ⌜ code < 16 ⌝ }
+    ensures { λ r. ⌜ r ≡ wordOf (basicAt 2 code 0) ⌝ }
+{
+    widened(WORDS[code])
+}
+
+// An entry with classes and what they ask for.
+pub fn with_word(entry: u32, word: u32) -> u32
+    requires { ⌜ word < 8192 ⌝ }
+    ensures { λ r. ⌜ r ≡ entry % 262144 + 262144 * word ⌝ }
+{
+    entry % 262144 + 262144 * word
+}
+
+// The classes of type k, by the table.
+pub fn classes_in(table: &[u32; 64], k: usize) -> [Class; 2]
+    requires { ⌜ k < 64 ⌝ }
+    ensures { λ r. ⌜ r ≡ unpackedOf (getD (now (table .entry)) k 0 / 262144) ⌝ }
+{
+    unpack(types::wide(table[k]) / 262144)
+}

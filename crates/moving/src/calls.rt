@@ -1,0 +1,69 @@
+// The calls: the bytes of all values, packed, into the two images, and out of them (document 01, "Images and moving bytes").
+use crate::GatherAnswer;
+use crate::PlaceAnswer;
+use crate::filling;
+use crate::refusals;
+use layout::LayoutAnswer;
+use units::Bytes;
+ghost use mathlib.Core.Path.{_≡_};
+ghost use lib.ListN.{length};
+ghost use Rattle.moving.specs.Answers.{placeAnswer, registersAfter, stackAfter, gatherAnswer, valuesAfter};
+
+// Places packed values: every byte of both images is written, or none.
+pub fn place_values(
+    d: &[u8],
+    hidden: u64,
+    values: &[u8],
+    registers: &mut [u8],
+    stack: &mut [u8],
+) -> PlaceAnswer
+    ensures { λ r. ⌜ (r ≡ placeAnswer (now (d .entry)) (now (values .entry)) (length (now (registers .entry))) (length (now (stack .entry))))
+        × ((now (registers .exit) ≡ registersAfter (now (d .entry)) hidden (now (values .entry)) (now (registers .entry)) (now (stack .entry)))
+        × (now (stack .exit) ≡ stackAfter (now (d .entry)) hidden (now (values .entry)) (now (registers .entry)) (now (stack .entry)))) ⌝ }
+{
+    let mut table = [0u32; 64];
+    let answer = layout::layout_with(d, &mut table);
+    let LayoutAnswer::Laid(layout) = answer else {
+        return PlaceAnswer::Refused(layout::refusal_in(answer));
+    };
+    if refusals::wrong_length(
+        layout,
+        Bytes(values.len()),
+        Bytes(registers.len()),
+        Bytes(stack.len()),
+    ) {
+        return PlaceAnswer::Refused(form::refusal_of(11));
+    }
+    if refusals::first_broken(d, values, &table) < description::byte_at(d, 8) {
+        return PlaceAnswer::Refused(form::refusal_of(12));
+    }
+    let count = layout.used.vector;
+    filling::fill_images(d, layout.hidden, hidden, values, registers, stack, &table);
+    PlaceAnswer::Placed(count)
+}
+
+// Gathers the values again, packed, and answers the hidden address.
+pub fn gather_values(d: &[u8], registers: &[u8], stack: &[u8], values: &mut [u8]) -> GatherAnswer
+    ensures { λ r. ⌜ (r ≡ gatherAnswer (now (d .entry)) (now (registers .entry)) (now (stack .entry)) (length (now (values .entry))))
+        × (now (values .exit) ≡ valuesAfter (now (d .entry)) (now (registers .entry)) (now (stack .entry)) (now (values .entry))) ⌝ }
+{
+    let mut table = [0u32; 64];
+    let answer = layout::layout_with(d, &mut table);
+    let LayoutAnswer::Laid(layout) = answer else {
+        return GatherAnswer::Refused(layout::refusal_in(answer));
+    };
+    if refusals::wrong_length(
+        layout,
+        Bytes(values.len()),
+        Bytes(registers.len()),
+        Bytes(stack.len()),
+    ) {
+        return GatherAnswer::Refused(form::refusal_of(11));
+    }
+    let passed = layout.hidden;
+    filling::gather_all(d, places::fresh(passed), registers, stack, values, &table);
+    if !passed {
+        return GatherAnswer::Gathered(0);
+    }
+    GatherAnswer::Gathered(images::address_in(registers))
+}

@@ -1,0 +1,47 @@
+-- `take` meets its contract.
+-- Assumes nothing.
+use borrow.Author.Needs.{needs}
+use Rattle.places.proofs.Records.{taken-general, taken-vector, taken-upper}
+use Rattle.places.proofs.argument_places.take.Statement.{statement}
+use Rattle.places.proofs.argument_places.take.Tie as tie
+
+enum-told : tie.Need-enum-told
+enum-told c = search needs
+
+one-more-requires : tie.Need-one-more-requires
+one-more-requires c κs = search needs
+
+enum-told-2 : tie.Need-enum-told-2
+enum-told-2 c = search needs
+
+one-more-requires-2 : tie.Need-one-more-requires-2
+one-more-requires-2 c κs = search needs
+
+enum-told-3 : tie.Need-enum-told-3
+enum-told-3 c = search needs
+
+before-last-requires : tie.Need-before-last-requires
+before-last-requires c κs = search needs
+
+returns : tie.Need-returns
+returns c = rw (c .before .enum-told .given .1) (taken-general _ _ (c .one-more .ensures))
+
+returns-2 : tie.Need-returns-2
+returns-2 c = rw (c .before .enum-told2 .given .1) (taken-vector _ _ (c .one-more2 .ensures))
+
+returns-3 : tie.Need-returns-3
+returns-3 c = rw (c .before .enum-told3 .given .1) (taken-upper _ _ (c .before-last .ensures))
+
+pub take-spec : {M : Type 1} → statement M
+take-spec =
+    tie.close
+    (tie.spec
+    enum-told
+    one-more-requires
+    enum-told-2
+    one-more-requires-2
+    enum-told-3
+    before-last-requires
+    returns
+    returns-2
+    returns-3)
