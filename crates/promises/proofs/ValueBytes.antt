@@ -14,7 +14,7 @@ use Rattle.places.specs.Shapes.{Shape, Shaped}
 use Rattle.places.specs.Places.{eights, Place, onStack, place, after, area}
 use Rattle.places.specs.Images.{bytesOf, addresses, total, valueOffset}
 use Rattle.places.specs.Statements.{OnePlaceEach}
-use Rattle.places.proofs.OnePlaceEach.{all-seated, addresses-past, apart, address-at}
+use Rattle.places.proofs.Apart.{all-seated, addresses-past, apart, address-at}
 use Rattle.layout.specs.Arguments.{shapeAt, shapesFrom, shapes, hidden, usedFirst, usedAt, areaOf}
 use Rattle.layout.specs.Layout.{valuesOf}
 use Rattle.layout.specs.Placements.{placementAt}

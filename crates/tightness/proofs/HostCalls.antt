@@ -1,4 +1,4 @@
--- "Each public call accepts all inputs": the contracts of the calls that hosts use ask nothing, one theorem for each. Assumes nothing.
+-- Written by tools/tightness: "Each public call accepts all inputs": the contracts of the calls that hosts use ask nothing, one theorem for each. Assumes nothing.
 use mathlib.Core.Path.{refl}
 use Rattle.tightness.specs.Tight.{Total}
 use Rattle.form.proofs.read_form

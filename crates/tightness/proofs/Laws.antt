@@ -64,11 +64,11 @@ standing-same P n d p (Refused s) (Refused t) e f = ap Refused (e .1 ∙ sym (f 
 
 -- ---- two slices of which a contract says what they are together: what is lent keeps its length, so it says what each is
 
-pub settle-parts : {r s q t k : List ℕ} {n : ℕ} {A B : Type 1} → ∥ (r ++ s ≡ k) × A ∥₁ → ∥ (q ++ t ≡ k) × B ∥₁ → ∥ length r ≡ n ∥₁ → ∥ length q ≡ n ∥₁ → (r ≡ q) × (s ≡ t)
-settle-parts {r} {s} {q} {t} {k} p u l m = (settle bytes p u (λ e f. by e f .0), settle bytes p u (λ e f. by e f .1))
+pub settle-parts : {r s q t : List ℕ} {n : ℕ} {φ ψ : Type 0} {A B : Type 1} → ∥ φ × A ∥₁ → ∥ ψ × B ∥₁ → (φ → ψ → r ++ s ≡ q ++ t) → ∥ length r ≡ n ∥₁ → ∥ length q ≡ n ∥₁ → (r ≡ q) × (s ≡ t)
+settle-parts {r} {s} {q} {t} {n} {φ} {ψ} p u same l m = (settle bytes p u (λ e f. by e f .0), settle bytes p u (λ e f. by e f .1))
   where
     same-length : length r ≡ length q
     same-length = ∥∥₁-elim l (ℕ-set (length r) (length q)) (λ g. ∥∥₁-elim m (ℕ-set (length r) (length q)) (λ h. g ∙ sym h))
 
-    by : r ++ s ≡ k → q ++ t ≡ k → (r ≡ q) × (s ≡ t)
-    by e f = split-image r s q t same-length (e ∙ sym f)
+    by : φ → ψ → (r ≡ q) × (s ≡ t)
+    by e f = split-image r s q t same-length (same e f)

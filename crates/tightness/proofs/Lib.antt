@@ -1,5 +1,8 @@
+-- Written by tools/tightness: the files of theorems, those by hand first. Assumes nothing.
 pub mod Laws
 pub mod HostCalls
+pub mod OfUnits
+pub mod OfAddresses
 pub mod OfDescription
 pub mod OfForm
 pub mod OfTypes
@@ -18,5 +21,3 @@ pub mod OfListing
 pub mod OfFlat
 pub mod OfCCalls
 pub mod OfCallbridge
-pub mod OfAddresses
-pub mod OfUnits

@@ -1,16 +1,7 @@
--- Each public function of `c_calls` meets its contract, and the contract is tight. Assumes nothing.
-use mathlib.Core.Path.{refl, sym, _∙_, _≡_}
+-- Written by tools/tightness: each public function of `c_calls` meets its contract, and the contract is tight. Assumes nothing.
+use mathlib.Core.Path.{_≡_, refl, sym, _∙_}
 use Rattle.tightness.specs.Tight.{Meets, Tight}
-use Rattle.tightness.proofs.Laws.{equal, result, settle, bytes}
-use Rattle.c_calls.proofs.type_extent
-use Rattle.c_calls.proofs.type_extent.Met as type-extent-met
-use Rattle.c_calls.proofs.type_extent.Symbol as type-extent-symbol
-use Rattle.c_calls.proofs.type_classes
-use Rattle.c_calls.proofs.type_classes.Met as type-classes-met
-use Rattle.c_calls.proofs.type_classes.Symbol as type-classes-symbol
-use Rattle.c_calls.proofs.member_run
-use Rattle.c_calls.proofs.member_run.Met as member-run-met
-use Rattle.c_calls.proofs.member_run.Symbol as member-run-symbol
+use Rattle.tightness.proofs.Laws.{bytes, equal, result, settle}
 use Rattle.c_calls.proofs.layout_of
 use Rattle.c_calls.proofs.layout_of.Met as layout-of-met
 use Rattle.c_calls.proofs.layout_of.Symbol as layout-of-symbol
@@ -20,48 +11,39 @@ use Rattle.c_calls.proofs.begin_list.Symbol as begin-list-symbol
 use Rattle.c_calls.proofs.place_flat
 use Rattle.c_calls.proofs.place_flat.Met as place-flat-met
 use Rattle.c_calls.proofs.place_flat.Symbol as place-flat-symbol
-use Rattle.c_calls.proofs.gather_values
-use Rattle.c_calls.proofs.gather_values.Met as gather-values-met
-use Rattle.c_calls.proofs.gather_values.Symbol as gather-values-symbol
 use Rattle.c_calls.proofs.place_values
 use Rattle.c_calls.proofs.place_values.Met as place-values-met
 use Rattle.c_calls.proofs.place_values.Symbol as place-values-symbol
+use Rattle.c_calls.proofs.gather_values
+use Rattle.c_calls.proofs.gather_values.Met as gather-values-met
+use Rattle.c_calls.proofs.gather_values.Symbol as gather-values-symbol
 use Rattle.c_calls.proofs.put_returned
 use Rattle.c_calls.proofs.put_returned.Met as put-returned-met
 use Rattle.c_calls.proofs.put_returned.Symbol as put-returned-symbol
 use Rattle.c_calls.proofs.take_returned
 use Rattle.c_calls.proofs.take_returned.Met as take-returned-met
 use Rattle.c_calls.proofs.take_returned.Symbol as take-returned-symbol
-use Rattle.c_calls.proofs.show
-use Rattle.c_calls.proofs.show.Met as show-met
-use Rattle.c_calls.proofs.show.Symbol as show-symbol
+use Rattle.c_calls.proofs.type_extent
+use Rattle.c_calls.proofs.type_extent.Met as type-extent-met
+use Rattle.c_calls.proofs.type_extent.Symbol as type-extent-symbol
+use Rattle.c_calls.proofs.type_classes
+use Rattle.c_calls.proofs.type_classes.Met as type-classes-met
+use Rattle.c_calls.proofs.type_classes.Symbol as type-classes-symbol
+use Rattle.c_calls.proofs.member_run
+use Rattle.c_calls.proofs.member_run.Met as member-run-met
+use Rattle.c_calls.proofs.member_run.Symbol as member-run-symbol
 use Rattle.c_calls.proofs.open_walk
 use Rattle.c_calls.proofs.open_walk.Met as open-walk-met
 use Rattle.c_calls.proofs.open_walk.Symbol as open-walk-symbol
-
-pub meets-c-calls-type-extent : Meets type_extent.ended (λ M. type_extent.clauses {M = M}) type-extent-symbol.routine
-meets-c-calls-type-extent M = type-extent-met.met
-
-pub tight-c-calls-type-extent : Tight type_extent.ended (λ M. type_extent.clauses {M = M})
-tight-c-calls-type-extent c r q w v a b = (settle (result type_extent.ended c) (a .ensured) (b .ensured) (λ e f i. record { refusal = (e .0 ∙ sym (f .0)) i; extent = (e .1 ∙ sym (f .1)) i }), refl)
-
-pub meets-c-calls-type-classes : Meets type_classes.ended (λ M. type_classes.clauses {M = M}) type-classes-symbol.routine
-meets-c-calls-type-classes M = type-classes-met.met
-
-pub tight-c-calls-type-classes : Tight type_classes.ended (λ M. type_classes.clauses {M = M})
-tight-c-calls-type-classes c r q w v a b = (settle (result type_classes.ended c) (a .ensured) (b .ensured) (λ e f i. record { refusal = (e .0 ∙ sym (f .0)) i; classes = (e .1 ∙ sym (f .1)) i }), refl)
-
-pub meets-c-calls-member-run : Meets member_run.ended (λ M. member_run.clauses {M = M}) member-run-symbol.routine
-meets-c-calls-member-run M = member-run-met.met
-
-pub tight-c-calls-member-run : Tight member_run.ended (λ M. member_run.clauses {M = M})
-tight-c-calls-member-run c r q w v a b = (settle (result member_run.ended c) (a .ensured) (b .ensured) (λ e f i. record { refusal = (e .0 ∙ sym (f .0)) i; part = (e .1 ∙ sym (f .1)) i }), refl)
+use Rattle.c_calls.proofs.show
+use Rattle.c_calls.proofs.show.Met as show-met
+use Rattle.c_calls.proofs.show.Symbol as show-symbol
 
 pub meets-c-calls-layout-of : Meets layout_of.ended (λ M. layout_of.clauses {M = M}) layout-of-symbol.routine
 meets-c-calls-layout-of M = layout-of-met.met
 
 pub tight-c-calls-layout-of : Tight layout_of.ended (λ M. layout_of.clauses {M = M})
-tight-c-calls-layout-of c r q w v a b = (settle (result layout_of.ended c) (a .ensured) (b .ensured) (λ e f i. record { refusal = (e .0 ∙ sym (f .0)) i; layout = (e .1 ∙ sym (f .1)) i }), refl)
+tight-c-calls-layout-of c r q w v a b = (settle (result layout_of.ended c) (a .ensured) (b .ensured) (λ e f i. record { layout = (e .1 ∙ sym (f .1)) i; refusal = (e .0 ∙ sym (f .0)) i }), refl)
 
 pub meets-c-calls-begin-list : Meets begin_list.ended (λ M. begin_list.clauses {M = M}) begin-list-symbol.routine
 meets-c-calls-begin-list M = begin-list-met.met
@@ -79,49 +61,67 @@ pub meets-c-calls-place-values : Meets place_values.ended (λ M. place_values.cl
 meets-c-calls-place-values M = place-values-met.met
 
 pub tight-c-calls-place-values : Tight place_values.ended (λ M. place_values.clauses {M = M})
-tight-c-calls-place-values c r q w v a b = (settle (result place_values.ended c) (a .ensured) (b .ensured) (λ e f i. record { refusal = (e .0 ∙ sym (f .0)) i; placed = (e .1 .0 ∙ sym (f .1 .0)) i }), λ i. (tt, (tt, (tt, (registers i, (stack i, (tt, tt)))))))
+tight-c-calls-place-values c r q w v a b = (settle (result place_values.ended c) (a .ensured) (b .ensured) (λ e f i. record { placed = (e .1 .0 ∙ sym (f .1 .0)) i; refusal = (e .0 ∙ sym (f .0)) i }), λ i. (tt, (tt, (tt, (same-registers i, (same-stack i, (tt, tt)))))))
   where
-    registers : w .1 .1 .1 .0 ≡ v .1 .1 .1 .0
-    registers = settle bytes (a .ensured) (b .ensured) (λ e f. e .1 .1 .0 ∙ sym (f .1 .1 .0))
+    same-registers : w .1 .1 .1 .0 ≡ v .1 .1 .1 .0
+    same-registers = settle bytes (a .ensured) (b .ensured) (λ e f. e .1 .1 .0 ∙ sym (f .1 .1 .0))
 
-    stack : w .1 .1 .1 .1 .0 ≡ v .1 .1 .1 .1 .0
-    stack = settle bytes (a .ensured) (b .ensured) (λ e f. e .1 .1 .1 ∙ sym (f .1 .1 .1))
+    same-stack : w .1 .1 .1 .1 .0 ≡ v .1 .1 .1 .1 .0
+    same-stack = settle bytes (a .ensured) (b .ensured) (λ e f. e .1 .1 .1 ∙ sym (f .1 .1 .1))
 
 pub meets-c-calls-gather-values : Meets gather_values.ended (λ M. gather_values.clauses {M = M}) gather-values-symbol.routine
 meets-c-calls-gather-values M = gather-values-met.met
 
 pub tight-c-calls-gather-values : Tight gather_values.ended (λ M. gather_values.clauses {M = M})
-tight-c-calls-gather-values c r q w v a b = (settle (result gather_values.ended c) (a .ensured) (b .ensured) (λ e f i. record { refusal = (e .0 ∙ sym (f .0)) i; gathered = (e .1 .0 ∙ sym (f .1 .0)) i }), λ i. (tt, (tt, (tt, (values i, (tt, tt))))))
+tight-c-calls-gather-values c r q w v a b = (settle (result gather_values.ended c) (a .ensured) (b .ensured) (λ e f i. record { gathered = (e .1 .0 ∙ sym (f .1 .0)) i; refusal = (e .0 ∙ sym (f .0)) i }), λ i. (tt, (tt, (tt, (same-values i, (tt, tt))))))
   where
-    values : w .1 .1 .1 .0 ≡ v .1 .1 .1 .0
-    values = settle bytes (a .ensured) (b .ensured) (λ e f. e .1 .1 ∙ sym (f .1 .1))
+    same-values : w .1 .1 .1 .0 ≡ v .1 .1 .1 .0
+    same-values = settle bytes (a .ensured) (b .ensured) (λ e f. e .1 .1 ∙ sym (f .1 .1))
 
 pub meets-c-calls-put-returned : Meets put_returned.ended (λ M. put_returned.clauses {M = M}) put-returned-symbol.routine
 meets-c-calls-put-returned M = put-returned-met.met
 
 pub tight-c-calls-put-returned : Tight put_returned.ended (λ M. put_returned.clauses {M = M})
-tight-c-calls-put-returned c r q w v a b = (settle (result put_returned.ended c) (a .ensured) (b .ensured) (λ e f. e .0 ∙ sym (f .0)), λ i. (tt, (tt, (tt, (image i, tt)))))
+tight-c-calls-put-returned c r q w v a b = (settle (result put_returned.ended c) (a .ensured) (b .ensured) (λ e f. e .0 ∙ sym (f .0)), λ i. (tt, (tt, (tt, (same-image i, tt)))))
   where
-    image : w .1 .1 .1 .0 ≡ v .1 .1 .1 .0
-    image = settle bytes (a .ensured) (b .ensured) (λ e f. e .1 ∙ sym (f .1))
+    same-image : w .1 .1 .1 .0 ≡ v .1 .1 .1 .0
+    same-image = settle bytes (a .ensured) (b .ensured) (λ e f. e .1 ∙ sym (f .1))
 
 pub meets-c-calls-take-returned : Meets take_returned.ended (λ M. take_returned.clauses {M = M}) take-returned-symbol.routine
 meets-c-calls-take-returned M = take-returned-met.met
 
 pub tight-c-calls-take-returned : Tight take_returned.ended (λ M. take_returned.clauses {M = M})
-tight-c-calls-take-returned c r q w v a b = (settle (result take_returned.ended c) (a .ensured) (b .ensured) (λ e f i. record { refusal = (e .0 ∙ sym (f .0)) i; gathered = (e .1 .0 ∙ sym (f .1 .0)) i }), λ i. (tt, (tt, (value i, (tt, tt)))))
+tight-c-calls-take-returned c r q w v a b = (settle (result take_returned.ended c) (a .ensured) (b .ensured) (λ e f i. record { gathered = (e .1 .0 ∙ sym (f .1 .0)) i; refusal = (e .0 ∙ sym (f .0)) i }), λ i. (tt, (tt, (same-value i, (tt, tt)))))
   where
-    value : w .1 .1 .0 ≡ v .1 .1 .0
-    value = settle bytes (a .ensured) (b .ensured) (λ e f. e .1 .1 ∙ sym (f .1 .1))
+    same-value : w .1 .1 .0 ≡ v .1 .1 .0
+    same-value = settle bytes (a .ensured) (b .ensured) (λ e f. e .1 .1 ∙ sym (f .1 .1))
+
+pub meets-c-calls-type-extent : Meets type_extent.ended (λ M. type_extent.clauses {M = M}) type-extent-symbol.routine
+meets-c-calls-type-extent M = type-extent-met.met
+
+pub tight-c-calls-type-extent : Tight type_extent.ended (λ M. type_extent.clauses {M = M})
+tight-c-calls-type-extent c r q w v a b = (settle (result type_extent.ended c) (a .ensured) (b .ensured) (λ e f i. record { extent = (e .1 ∙ sym (f .1)) i; refusal = (e .0 ∙ sym (f .0)) i }), refl)
+
+pub meets-c-calls-type-classes : Meets type_classes.ended (λ M. type_classes.clauses {M = M}) type-classes-symbol.routine
+meets-c-calls-type-classes M = type-classes-met.met
+
+pub tight-c-calls-type-classes : Tight type_classes.ended (λ M. type_classes.clauses {M = M})
+tight-c-calls-type-classes c r q w v a b = (settle (result type_classes.ended c) (a .ensured) (b .ensured) (λ e f i. record { classes = (e .1 ∙ sym (f .1)) i; refusal = (e .0 ∙ sym (f .0)) i }), refl)
+
+pub meets-c-calls-member-run : Meets member_run.ended (λ M. member_run.clauses {M = M}) member-run-symbol.routine
+meets-c-calls-member-run M = member-run-met.met
+
+pub tight-c-calls-member-run : Tight member_run.ended (λ M. member_run.clauses {M = M})
+tight-c-calls-member-run c r q w v a b = (settle (result member_run.ended c) (a .ensured) (b .ensured) (λ e f i. record { part = (e .1 ∙ sym (f .1)) i; refusal = (e .0 ∙ sym (f .0)) i }), refl)
 
 pub meets-c-calls-open-walk : Meets open_walk.ended (λ M. open_walk.clauses {M = M}) open-walk-symbol.routine
 meets-c-calls-open-walk M = open-walk-met.met
 
 pub tight-c-calls-open-walk : Tight open_walk.ended (λ M. open_walk.clauses {M = M})
-tight-c-calls-open-walk c r q w v a b = (settle (result open_walk.ended c) (a .ensured) (b .ensured) (λ e f i. record { refusal = (e .0 ∙ sym (f .0)) i; walk = (e .1 ∙ sym (f .1)) i }), refl)
+tight-c-calls-open-walk c r q w v a b = (settle (result open_walk.ended c) (a .ensured) (b .ensured) (λ e f i. record { walk = (e .1 ∙ sym (f .1)) i; refusal = (e .0 ∙ sym (f .0)) i }), refl)
 
 pub meets-c-calls-show : Meets show.ended (λ M. show.clauses {M = M}) show-symbol.routine
 meets-c-calls-show M = show-met.met
 
 pub tight-c-calls-show : Tight show.ended (λ M. show.clauses {M = M})
-tight-c-calls-show c r q w v a b = (settle (result show.ended c) (a .ensured) (b .ensured) (λ e f i. record { refusal = (e .0 ∙ sym (f .0)) i; part = (e .1 ∙ sym (f .1)) i }), refl)
+tight-c-calls-show c r q w v a b = (settle (result show.ended c) (a .ensured) (b .ensured) (λ e f i. record { part = (e .1 ∙ sym (f .1)) i; refusal = (e .0 ∙ sym (f .0)) i }), refl)

@@ -1,71 +1,71 @@
--- Each public function of `callbridge` meets its contract, and the contract is tight. Assumes nothing.
+-- Written by tools/tightness: each public function of `callbridge` meets its contract, and the contract is tight. Assumes nothing.
 use mathlib.Core.Path.{_≡_, refl, sym, _∙_}
+use base.Stored.{codedList}
 use Rattle.tightness.specs.Tight.{Meets, Tight}
 use Rattle.tightness.proofs.Laws.{bytes, equal, result, settle}
-use Rattle.flat.proofs.Classes
-use Rattle.flat.proofs.Layout
-use Rattle.flat.proofs.Part
-use Rattle.flat.proofs.Placement
-use Rattle.flat.proofs.Gathered
-use Rattle.flat.proofs.Placed
-use Rattle.station.proofs.Station
-use Rattle.types.proofs.Extent
-use Rattle.walk.proofs.Walk
-use base.Stored.{codedList}
-use Rattle.callbridge.proofs.cb_attach
-use Rattle.callbridge.proofs.cb_attach.Met as cb-attach-met
-use Rattle.callbridge.proofs.cb_attach.Symbol as cb-attach-symbol
-use Rattle.callbridge.proofs.cb_check
-use Rattle.callbridge.proofs.cb_check.Met as cb-check-met
-use Rattle.callbridge.proofs.cb_check.Symbol as cb-check-symbol
-use Rattle.callbridge.proofs.cb_detach
-use Rattle.callbridge.proofs.cb_detach.Met as cb-detach-met
-use Rattle.callbridge.proofs.cb_detach.Symbol as cb-detach-symbol
-use Rattle.callbridge.proofs.cb_gather_values
-use Rattle.callbridge.proofs.cb_gather_values.Met as cb-gather-values-met
-use Rattle.callbridge.proofs.cb_gather_values.Symbol as cb-gather-values-symbol
-use Rattle.callbridge.proofs.cb_lay_out
-use Rattle.callbridge.proofs.cb_lay_out.Met as cb-lay-out-met
-use Rattle.callbridge.proofs.cb_lay_out.Symbol as cb-lay-out-symbol
-use Rattle.callbridge.proofs.cb_layout_of
-use Rattle.callbridge.proofs.cb_layout_of.Met as cb-layout-of-met
-use Rattle.callbridge.proofs.cb_layout_of.Symbol as cb-layout-of-symbol
-use Rattle.callbridge.proofs.cb_member_run
-use Rattle.callbridge.proofs.cb_member_run.Met as cb-member-run-met
-use Rattle.callbridge.proofs.cb_member_run.Symbol as cb-member-run-symbol
-use Rattle.callbridge.proofs.cb_new_station
-use Rattle.callbridge.proofs.cb_new_station.Met as cb-new-station-met
-use Rattle.callbridge.proofs.cb_new_station.Symbol as cb-new-station-symbol
-use Rattle.callbridge.proofs.cb_open_walk
-use Rattle.callbridge.proofs.cb_open_walk.Met as cb-open-walk-met
-use Rattle.callbridge.proofs.cb_open_walk.Symbol as cb-open-walk-symbol
-use Rattle.callbridge.proofs.cb_place_values
-use Rattle.callbridge.proofs.cb_place_values.Met as cb-place-values-met
-use Rattle.callbridge.proofs.cb_place_values.Symbol as cb-place-values-symbol
-use Rattle.callbridge.proofs.cb_put_returned
-use Rattle.callbridge.proofs.cb_put_returned.Met as cb-put-returned-met
-use Rattle.callbridge.proofs.cb_put_returned.Symbol as cb-put-returned-symbol
-use Rattle.callbridge.proofs.cb_show
-use Rattle.callbridge.proofs.cb_show.Met as cb-show-met
-use Rattle.callbridge.proofs.cb_show.Symbol as cb-show-symbol
-use Rattle.callbridge.proofs.cb_step
-use Rattle.callbridge.proofs.cb_step.Met as cb-step-met
-use Rattle.callbridge.proofs.cb_step.Symbol as cb-step-symbol
-use Rattle.callbridge.proofs.cb_take_returned
-use Rattle.callbridge.proofs.cb_take_returned.Met as cb-take-returned-met
-use Rattle.callbridge.proofs.cb_take_returned.Symbol as cb-take-returned-symbol
-use Rattle.callbridge.proofs.cb_type_classes
-use Rattle.callbridge.proofs.cb_type_classes.Met as cb-type-classes-met
-use Rattle.callbridge.proofs.cb_type_classes.Symbol as cb-type-classes-symbol
-use Rattle.callbridge.proofs.cb_type_extent
-use Rattle.callbridge.proofs.cb_type_extent.Met as cb-type-extent-met
-use Rattle.callbridge.proofs.cb_type_extent.Symbol as cb-type-extent-symbol
+use Rattle.flat.proofs.Classes as flat-Classes
+use Rattle.flat.proofs.Gathered as flat-Gathered
+use Rattle.flat.proofs.Layout as flat-Layout
+use Rattle.flat.proofs.Part as flat-Part
+use Rattle.flat.proofs.Placed as flat-Placed
+use Rattle.flat.proofs.Placement as flat-Placement
+use Rattle.station.proofs.Station as station-Station
+use Rattle.types.proofs.Extent as types-Extent
+use Rattle.walk.proofs.Walk as walk-Walk
 use Rattle.callbridge.proofs.cb_version
 use Rattle.callbridge.proofs.cb_version.Met as cb-version-met
 use Rattle.callbridge.proofs.cb_version.Symbol as cb-version-symbol
+use Rattle.callbridge.proofs.cb_check
+use Rattle.callbridge.proofs.cb_check.Met as cb-check-met
+use Rattle.callbridge.proofs.cb_check.Symbol as cb-check-symbol
+use Rattle.callbridge.proofs.cb_type_extent
+use Rattle.callbridge.proofs.cb_type_extent.Met as cb-type-extent-met
+use Rattle.callbridge.proofs.cb_type_extent.Symbol as cb-type-extent-symbol
+use Rattle.callbridge.proofs.cb_type_classes
+use Rattle.callbridge.proofs.cb_type_classes.Met as cb-type-classes-met
+use Rattle.callbridge.proofs.cb_type_classes.Symbol as cb-type-classes-symbol
+use Rattle.callbridge.proofs.cb_member_run
+use Rattle.callbridge.proofs.cb_member_run.Met as cb-member-run-met
+use Rattle.callbridge.proofs.cb_member_run.Symbol as cb-member-run-symbol
+use Rattle.callbridge.proofs.cb_layout_of
+use Rattle.callbridge.proofs.cb_layout_of.Met as cb-layout-of-met
+use Rattle.callbridge.proofs.cb_layout_of.Symbol as cb-layout-of-symbol
+use Rattle.callbridge.proofs.cb_lay_out
+use Rattle.callbridge.proofs.cb_lay_out.Met as cb-lay-out-met
+use Rattle.callbridge.proofs.cb_lay_out.Symbol as cb-lay-out-symbol
 use Rattle.callbridge.proofs.cb_write_listing
 use Rattle.callbridge.proofs.cb_write_listing.Met as cb-write-listing-met
 use Rattle.callbridge.proofs.cb_write_listing.Symbol as cb-write-listing-symbol
+use Rattle.callbridge.proofs.cb_place_values
+use Rattle.callbridge.proofs.cb_place_values.Met as cb-place-values-met
+use Rattle.callbridge.proofs.cb_place_values.Symbol as cb-place-values-symbol
+use Rattle.callbridge.proofs.cb_gather_values
+use Rattle.callbridge.proofs.cb_gather_values.Met as cb-gather-values-met
+use Rattle.callbridge.proofs.cb_gather_values.Symbol as cb-gather-values-symbol
+use Rattle.callbridge.proofs.cb_put_returned
+use Rattle.callbridge.proofs.cb_put_returned.Met as cb-put-returned-met
+use Rattle.callbridge.proofs.cb_put_returned.Symbol as cb-put-returned-symbol
+use Rattle.callbridge.proofs.cb_take_returned
+use Rattle.callbridge.proofs.cb_take_returned.Met as cb-take-returned-met
+use Rattle.callbridge.proofs.cb_take_returned.Symbol as cb-take-returned-symbol
+use Rattle.callbridge.proofs.cb_new_station
+use Rattle.callbridge.proofs.cb_new_station.Met as cb-new-station-met
+use Rattle.callbridge.proofs.cb_new_station.Symbol as cb-new-station-symbol
+use Rattle.callbridge.proofs.cb_attach
+use Rattle.callbridge.proofs.cb_attach.Met as cb-attach-met
+use Rattle.callbridge.proofs.cb_attach.Symbol as cb-attach-symbol
+use Rattle.callbridge.proofs.cb_detach
+use Rattle.callbridge.proofs.cb_detach.Met as cb-detach-met
+use Rattle.callbridge.proofs.cb_detach.Symbol as cb-detach-symbol
+use Rattle.callbridge.proofs.cb_open_walk
+use Rattle.callbridge.proofs.cb_open_walk.Met as cb-open-walk-met
+use Rattle.callbridge.proofs.cb_open_walk.Symbol as cb-open-walk-symbol
+use Rattle.callbridge.proofs.cb_step
+use Rattle.callbridge.proofs.cb_step.Met as cb-step-met
+use Rattle.callbridge.proofs.cb_step.Symbol as cb-step-symbol
+use Rattle.callbridge.proofs.cb_show
+use Rattle.callbridge.proofs.cb_show.Met as cb-show-met
+use Rattle.callbridge.proofs.cb_show.Symbol as cb-show-symbol
 
 pub meets-callbridge-cb-version : Meets cb_version.ended (λ M. cb_version.clauses {M = M}) cb-version-symbol.routine
 meets-callbridge-cb-version M = cb-version-met.met
@@ -83,106 +83,106 @@ pub meets-callbridge-cb-type-extent : Meets cb_type_extent.ended (λ M. cb_type_
 meets-callbridge-cb-type-extent M = cb-type-extent-met.met
 
 pub tight-callbridge-cb-type-extent : Tight cb_type_extent.ended (λ M. cb_type_extent.clauses {M = M})
-tight-callbridge-cb-type-extent c r q w v a b = (settle (result cb_type_extent.ended c) (a .ensured) (b .ensured) (λ e f. e .0 ∙ sym (f .0)), λ i. (tt, (tt, (extent i, tt))))
+tight-callbridge-cb-type-extent c r q w v a b = (settle (result cb_type_extent.ended c) (a .ensured) (b .ensured) (λ e f. e .0 ∙ sym (f .0)), λ i. (tt, (tt, (same-extent i, tt))))
   where
-    extent : w .1 .1 .0 ≡ v .1 .1 .0
-    extent = settle (Extent.the-row .coded) (a .ensured) (b .ensured) (λ e f. e .1 ∙ sym (f .1))
+    same-extent : w .1 .1 .0 ≡ v .1 .1 .0
+    same-extent = settle (types-Extent.the-row .coded) (a .ensured) (b .ensured) (λ e f. e .1 ∙ sym (f .1))
 
 pub meets-callbridge-cb-type-classes : Meets cb_type_classes.ended (λ M. cb_type_classes.clauses {M = M}) cb-type-classes-symbol.routine
 meets-callbridge-cb-type-classes M = cb-type-classes-met.met
 
 pub tight-callbridge-cb-type-classes : Tight cb_type_classes.ended (λ M. cb_type_classes.clauses {M = M})
-tight-callbridge-cb-type-classes c r q w v a b = (settle (result cb_type_classes.ended c) (a .ensured) (b .ensured) (λ e f. e .0 ∙ sym (f .0)), λ i. (tt, (tt, (classes i, tt))))
+tight-callbridge-cb-type-classes c r q w v a b = (settle (result cb_type_classes.ended c) (a .ensured) (b .ensured) (λ e f. e .0 ∙ sym (f .0)), λ i. (tt, (tt, (same-classes i, tt))))
   where
-    classes : w .1 .1 .0 ≡ v .1 .1 .0
-    classes = settle (Classes.the-row .coded) (a .ensured) (b .ensured) (λ e f. e .1 ∙ sym (f .1))
+    same-classes : w .1 .1 .0 ≡ v .1 .1 .0
+    same-classes = settle (flat-Classes.the-row .coded) (a .ensured) (b .ensured) (λ e f. e .1 ∙ sym (f .1))
 
 pub meets-callbridge-cb-member-run : Meets cb_member_run.ended (λ M. cb_member_run.clauses {M = M}) cb-member-run-symbol.routine
 meets-callbridge-cb-member-run M = cb-member-run-met.met
 
 pub tight-callbridge-cb-member-run : Tight cb_member_run.ended (λ M. cb_member_run.clauses {M = M})
-tight-callbridge-cb-member-run c r q w v a b = (settle (result cb_member_run.ended c) (a .ensured) (b .ensured) (λ e f. e .0 ∙ sym (f .0)), λ i. (tt, (tt, (part i, tt))))
+tight-callbridge-cb-member-run c r q w v a b = (settle (result cb_member_run.ended c) (a .ensured) (b .ensured) (λ e f. e .0 ∙ sym (f .0)), λ i. (tt, (tt, (same-part i, tt))))
   where
-    part : w .1 .1 .0 ≡ v .1 .1 .0
-    part = settle (Part.the-row .coded) (a .ensured) (b .ensured) (λ e f. e .1 ∙ sym (f .1))
+    same-part : w .1 .1 .0 ≡ v .1 .1 .0
+    same-part = settle (flat-Part.the-row .coded) (a .ensured) (b .ensured) (λ e f. e .1 ∙ sym (f .1))
 
 pub meets-callbridge-cb-layout-of : Meets cb_layout_of.ended (λ M. cb_layout_of.clauses {M = M}) cb-layout-of-symbol.routine
 meets-callbridge-cb-layout-of M = cb-layout-of-met.met
 
 pub tight-callbridge-cb-layout-of : Tight cb_layout_of.ended (λ M. cb_layout_of.clauses {M = M})
-tight-callbridge-cb-layout-of c r q w v a b = (settle (result cb_layout_of.ended c) (a .ensured) (b .ensured) (λ e f. e .0 ∙ sym (f .0)), λ i. (tt, (layout i, tt)))
+tight-callbridge-cb-layout-of c r q w v a b = (settle (result cb_layout_of.ended c) (a .ensured) (b .ensured) (λ e f. e .0 ∙ sym (f .0)), λ i. (tt, (same-layout i, tt)))
   where
-    layout : w .1 .0 ≡ v .1 .0
-    layout = settle (Layout.the-row .coded) (a .ensured) (b .ensured) (λ e f. e .1 ∙ sym (f .1))
+    same-layout : w .1 .0 ≡ v .1 .0
+    same-layout = settle (flat-Layout.the-row .coded) (a .ensured) (b .ensured) (λ e f. e .1 ∙ sym (f .1))
 
 pub meets-callbridge-cb-lay-out : Meets cb_lay_out.ended (λ M. cb_lay_out.clauses {M = M}) cb-lay-out-symbol.routine
 meets-callbridge-cb-lay-out M = cb-lay-out-met.met
 
 pub tight-callbridge-cb-lay-out : Tight cb_lay_out.ended (λ M. cb_lay_out.clauses {M = M})
-tight-callbridge-cb-lay-out c r q w v a b = (settle (result cb_lay_out.ended c) (a .ensured) (b .ensured) (λ e f. e .0 ∙ sym (f .0)), λ i. (tt, (layout i, (list i, tt))))
+tight-callbridge-cb-lay-out c r q w v a b = (settle (result cb_lay_out.ended c) (a .ensured) (b .ensured) (λ e f. e .0 ∙ sym (f .0)), λ i. (tt, (same-layout i, (same-list i, tt))))
   where
-    layout : w .1 .0 ≡ v .1 .0
-    layout = settle (Layout.the-row .coded) (a .ensured) (b .ensured) (λ e f. e .1 .0 ∙ sym (f .1 .0))
+    same-layout : w .1 .0 ≡ v .1 .0
+    same-layout = settle (flat-Layout.the-row .coded) (a .ensured) (b .ensured) (λ e f. e .1 .0 ∙ sym (f .1 .0))
 
-    list : w .1 .1 .0 ≡ v .1 .1 .0
-    list = settle (codedList (Placement.the-row .coded)) (a .ensured) (b .ensured) (λ e f. e .1 .1 ∙ sym (f .1 .1))
+    same-list : w .1 .1 .0 ≡ v .1 .1 .0
+    same-list = settle (codedList (flat-Placement.the-row .coded)) (a .ensured) (b .ensured) (λ e f. e .1 .1 ∙ sym (f .1 .1))
 
 pub meets-callbridge-cb-write-listing : Meets cb_write_listing.ended (λ M. cb_write_listing.clauses {M = M}) cb-write-listing-symbol.routine
 meets-callbridge-cb-write-listing M = cb-write-listing-met.met
 
 pub tight-callbridge-cb-write-listing : Tight cb_write_listing.ended (λ M. cb_write_listing.clauses {M = M})
-tight-callbridge-cb-write-listing c r q w v a b = (settle (result cb_write_listing.ended c) (a .ensured) (b .ensured) (λ e f. e .0 ∙ sym (f .0)), λ i. (tt, (out i, tt)))
+tight-callbridge-cb-write-listing c r q w v a b = (settle (result cb_write_listing.ended c) (a .ensured) (b .ensured) (λ e f. e .0 ∙ sym (f .0)), λ i. (tt, (same-out i, tt)))
   where
-    out : w .1 .0 ≡ v .1 .0
-    out = settle bytes (a .ensured) (b .ensured) (λ e f. e .2 ∙ sym (f .2))
+    same-out : w .1 .0 ≡ v .1 .0
+    same-out = settle bytes (a .ensured) (b .ensured) (λ e f. e .2 ∙ sym (f .2))
 
 pub meets-callbridge-cb-place-values : Meets cb_place_values.ended (λ M. cb_place_values.clauses {M = M}) cb-place-values-symbol.routine
 meets-callbridge-cb-place-values M = cb-place-values-met.met
 
 pub tight-callbridge-cb-place-values : Tight cb_place_values.ended (λ M. cb_place_values.clauses {M = M})
-tight-callbridge-cb-place-values c r q w v a b = (settle (result cb_place_values.ended c) (a .ensured) (b .ensured) (λ e f. e .0 ∙ sym (f .0)), λ i. (tt, (tt, (tt, (registers i, (stack i, (placed i, tt)))))))
+tight-callbridge-cb-place-values c r q w v a b = (settle (result cb_place_values.ended c) (a .ensured) (b .ensured) (λ e f. e .0 ∙ sym (f .0)), λ i. (tt, (tt, (tt, (same-registers i, (same-stack i, (same-placed i, tt)))))))
   where
-    registers : w .1 .1 .1 .0 ≡ v .1 .1 .1 .0
-    registers = settle bytes (a .ensured) (b .ensured) (λ e f. e .1 .1 .0 ∙ sym (f .1 .1 .0))
+    same-registers : w .1 .1 .1 .0 ≡ v .1 .1 .1 .0
+    same-registers = settle bytes (a .ensured) (b .ensured) (λ e f. e .1 .1 .0 ∙ sym (f .1 .1 .0))
 
-    stack : w .1 .1 .1 .1 .0 ≡ v .1 .1 .1 .1 .0
-    stack = settle bytes (a .ensured) (b .ensured) (λ e f. e .1 .1 .1 ∙ sym (f .1 .1 .1))
+    same-stack : w .1 .1 .1 .1 .0 ≡ v .1 .1 .1 .1 .0
+    same-stack = settle bytes (a .ensured) (b .ensured) (λ e f. e .1 .1 .1 ∙ sym (f .1 .1 .1))
 
-    placed : w .1 .1 .1 .1 .1 .0 ≡ v .1 .1 .1 .1 .1 .0
-    placed = settle (Placed.the-row .coded) (a .ensured) (b .ensured) (λ e f. e .1 .0 ∙ sym (f .1 .0))
+    same-placed : w .1 .1 .1 .1 .1 .0 ≡ v .1 .1 .1 .1 .1 .0
+    same-placed = settle (flat-Placed.the-row .coded) (a .ensured) (b .ensured) (λ e f. e .1 .0 ∙ sym (f .1 .0))
 
 pub meets-callbridge-cb-gather-values : Meets cb_gather_values.ended (λ M. cb_gather_values.clauses {M = M}) cb-gather-values-symbol.routine
 meets-callbridge-cb-gather-values M = cb-gather-values-met.met
 
 pub tight-callbridge-cb-gather-values : Tight cb_gather_values.ended (λ M. cb_gather_values.clauses {M = M})
-tight-callbridge-cb-gather-values c r q w v a b = (settle (result cb_gather_values.ended c) (a .ensured) (b .ensured) (λ e f. e .0 ∙ sym (f .0)), λ i. (tt, (tt, (tt, (values i, (gathered i, tt))))))
+tight-callbridge-cb-gather-values c r q w v a b = (settle (result cb_gather_values.ended c) (a .ensured) (b .ensured) (λ e f. e .0 ∙ sym (f .0)), λ i. (tt, (tt, (tt, (same-values i, (same-gathered i, tt))))))
   where
-    values : w .1 .1 .1 .0 ≡ v .1 .1 .1 .0
-    values = settle bytes (a .ensured) (b .ensured) (λ e f. e .1 .1 ∙ sym (f .1 .1))
+    same-values : w .1 .1 .1 .0 ≡ v .1 .1 .1 .0
+    same-values = settle bytes (a .ensured) (b .ensured) (λ e f. e .1 .1 ∙ sym (f .1 .1))
 
-    gathered : w .1 .1 .1 .1 .0 ≡ v .1 .1 .1 .1 .0
-    gathered = settle (Gathered.the-row .coded) (a .ensured) (b .ensured) (λ e f. e .1 .0 ∙ sym (f .1 .0))
+    same-gathered : w .1 .1 .1 .1 .0 ≡ v .1 .1 .1 .1 .0
+    same-gathered = settle (flat-Gathered.the-row .coded) (a .ensured) (b .ensured) (λ e f. e .1 .0 ∙ sym (f .1 .0))
 
 pub meets-callbridge-cb-put-returned : Meets cb_put_returned.ended (λ M. cb_put_returned.clauses {M = M}) cb-put-returned-symbol.routine
 meets-callbridge-cb-put-returned M = cb-put-returned-met.met
 
 pub tight-callbridge-cb-put-returned : Tight cb_put_returned.ended (λ M. cb_put_returned.clauses {M = M})
-tight-callbridge-cb-put-returned c r q w v a b = (settle (result cb_put_returned.ended c) (a .ensured) (b .ensured) (λ e f. e .0 ∙ sym (f .0)), λ i. (tt, (tt, (tt, (image i, tt)))))
+tight-callbridge-cb-put-returned c r q w v a b = (settle (result cb_put_returned.ended c) (a .ensured) (b .ensured) (λ e f. e .0 ∙ sym (f .0)), λ i. (tt, (tt, (tt, (same-image i, tt)))))
   where
-    image : w .1 .1 .1 .0 ≡ v .1 .1 .1 .0
-    image = settle bytes (a .ensured) (b .ensured) (λ e f. e .1 ∙ sym (f .1))
+    same-image : w .1 .1 .1 .0 ≡ v .1 .1 .1 .0
+    same-image = settle bytes (a .ensured) (b .ensured) (λ e f. e .1 ∙ sym (f .1))
 
 pub meets-callbridge-cb-take-returned : Meets cb_take_returned.ended (λ M. cb_take_returned.clauses {M = M}) cb-take-returned-symbol.routine
 meets-callbridge-cb-take-returned M = cb-take-returned-met.met
 
 pub tight-callbridge-cb-take-returned : Tight cb_take_returned.ended (λ M. cb_take_returned.clauses {M = M})
-tight-callbridge-cb-take-returned c r q w v a b = (settle (result cb_take_returned.ended c) (a .ensured) (b .ensured) (λ e f. e .0 ∙ sym (f .0)), λ i. (tt, (tt, (value i, (gathered i, tt)))))
+tight-callbridge-cb-take-returned c r q w v a b = (settle (result cb_take_returned.ended c) (a .ensured) (b .ensured) (λ e f. e .0 ∙ sym (f .0)), λ i. (tt, (tt, (same-value i, (same-gathered i, tt)))))
   where
-    value : w .1 .1 .0 ≡ v .1 .1 .0
-    value = settle bytes (a .ensured) (b .ensured) (λ e f. e .1 .1 ∙ sym (f .1 .1))
+    same-value : w .1 .1 .0 ≡ v .1 .1 .0
+    same-value = settle bytes (a .ensured) (b .ensured) (λ e f. e .1 .1 ∙ sym (f .1 .1))
 
-    gathered : w .1 .1 .1 .0 ≡ v .1 .1 .1 .0
-    gathered = settle (Gathered.the-row .coded) (a .ensured) (b .ensured) (λ e f. e .1 .0 ∙ sym (f .1 .0))
+    same-gathered : w .1 .1 .1 .0 ≡ v .1 .1 .1 .0
+    same-gathered = settle (flat-Gathered.the-row .coded) (a .ensured) (b .ensured) (λ e f. e .1 .0 ∙ sym (f .1 .0))
 
 pub meets-callbridge-cb-new-station : Meets cb_new_station.ended (λ M. cb_new_station.clauses {M = M}) cb-new-station-symbol.routine
 meets-callbridge-cb-new-station M = cb-new-station-met.met
@@ -194,52 +194,52 @@ pub meets-callbridge-cb-attach : Meets cb_attach.ended (λ M. cb_attach.clauses 
 meets-callbridge-cb-attach M = cb-attach-met.met
 
 pub tight-callbridge-cb-attach : Tight cb_attach.ended (λ M. cb_attach.clauses {M = M})
-tight-callbridge-cb-attach c r q w v a b = (settle (result cb_attach.ended c) (a .ensured) (b .ensured) (λ e f. e .0 ∙ sym (f .0)), λ i. (station i, (seat i, (tt, tt))))
+tight-callbridge-cb-attach c r q w v a b = (settle (result cb_attach.ended c) (a .ensured) (b .ensured) (λ e f. e .0 ∙ sym (f .0)), λ i. (same-station i, (same-seat i, (tt, tt))))
   where
-    station : w .0 ≡ v .0
-    station = settle (Station.the-row .coded) (a .ensured) (b .ensured) (λ e f. e .1 ∙ sym (f .1))
+    same-station : w .0 ≡ v .0
+    same-station = settle (station-Station.the-row .coded) (a .ensured) (b .ensured) (λ e f. e .1 ∙ sym (f .1))
 
-    seat : w .1 .0 ≡ v .1 .0
-    seat = settle bytes (a .ensured) (b .ensured) (λ e f. e .2 ∙ sym (f .2))
+    same-seat : w .1 .0 ≡ v .1 .0
+    same-seat = settle bytes (a .ensured) (b .ensured) (λ e f. e .2 ∙ sym (f .2))
 
 pub meets-callbridge-cb-detach : Meets cb_detach.ended (λ M. cb_detach.clauses {M = M}) cb-detach-symbol.routine
 meets-callbridge-cb-detach M = cb-detach-met.met
 
 pub tight-callbridge-cb-detach : Tight cb_detach.ended (λ M. cb_detach.clauses {M = M})
-tight-callbridge-cb-detach c r q w v a b = (settle (result cb_detach.ended c) (a .ensured) (b .ensured) (λ e f. e .0 ∙ sym (f .0)), λ i. (station i, (seat i, tt)))
+tight-callbridge-cb-detach c r q w v a b = (settle (result cb_detach.ended c) (a .ensured) (b .ensured) (λ e f. e .0 ∙ sym (f .0)), λ i. (same-station i, (same-seat i, tt)))
   where
-    station : w .0 ≡ v .0
-    station = settle (Station.the-row .coded) (a .ensured) (b .ensured) (λ e f. e .1 ∙ sym (f .1))
+    same-station : w .0 ≡ v .0
+    same-station = settle (station-Station.the-row .coded) (a .ensured) (b .ensured) (λ e f. e .1 ∙ sym (f .1))
 
-    seat : w .1 .0 ≡ v .1 .0
-    seat = settle bytes (a .ensured) (b .ensured) (λ e f. e .2 ∙ sym (f .2))
+    same-seat : w .1 .0 ≡ v .1 .0
+    same-seat = settle bytes (a .ensured) (b .ensured) (λ e f. e .2 ∙ sym (f .2))
 
 pub meets-callbridge-cb-open-walk : Meets cb_open_walk.ended (λ M. cb_open_walk.clauses {M = M}) cb-open-walk-symbol.routine
 meets-callbridge-cb-open-walk M = cb-open-walk-met.met
 
 pub tight-callbridge-cb-open-walk : Tight cb_open_walk.ended (λ M. cb_open_walk.clauses {M = M})
-tight-callbridge-cb-open-walk c r q w v a b = (settle (result cb_open_walk.ended c) (a .ensured) (b .ensured) (λ e f. e .0 ∙ sym (f .0)), λ i. (tt, (tt, (walk i, tt))))
+tight-callbridge-cb-open-walk c r q w v a b = (settle (result cb_open_walk.ended c) (a .ensured) (b .ensured) (λ e f. e .0 ∙ sym (f .0)), λ i. (tt, (tt, (same-walk i, tt))))
   where
-    walk : w .1 .1 .0 ≡ v .1 .1 .0
-    walk = settle (Walk.the-row .coded) (a .ensured) (b .ensured) (λ e f. e .1 ∙ sym (f .1))
+    same-walk : w .1 .1 .0 ≡ v .1 .1 .0
+    same-walk = settle (walk-Walk.the-row .coded) (a .ensured) (b .ensured) (λ e f. e .1 ∙ sym (f .1))
 
 pub meets-callbridge-cb-step : Meets cb_step.ended (λ M. cb_step.clauses {M = M}) cb-step-symbol.routine
 meets-callbridge-cb-step M = cb-step-met.met
 
 pub tight-callbridge-cb-step : Tight cb_step.ended (λ M. cb_step.clauses {M = M})
-tight-callbridge-cb-step c r q w v a b = (settle (result cb_step.ended c) (a .ensured) (b .ensured) (λ e f. e .0 ∙ sym (f .0)), λ i. (tt, (tt, (walk i, (tt, (tt, (tt, (out i, tt))))))))
+tight-callbridge-cb-step c r q w v a b = (settle (result cb_step.ended c) (a .ensured) (b .ensured) (λ e f. e .0 ∙ sym (f .0)), λ i. (tt, (tt, (same-walk i, (tt, (tt, (tt, (same-out i, tt))))))))
   where
-    walk : w .1 .1 .0 ≡ v .1 .1 .0
-    walk = settle (Walk.the-row .coded) (a .ensured) (b .ensured) (λ e f. e .1 ∙ sym (f .1))
+    same-walk : w .1 .1 .0 ≡ v .1 .1 .0
+    same-walk = settle (walk-Walk.the-row .coded) (a .ensured) (b .ensured) (λ e f. e .1 ∙ sym (f .1))
 
-    out : w .1 .1 .1 .1 .1 .1 .0 ≡ v .1 .1 .1 .1 .1 .1 .0
-    out = settle bytes (a .ensured) (b .ensured) (λ e f. e .2 ∙ sym (f .2))
+    same-out : w .1 .1 .1 .1 .1 .1 .0 ≡ v .1 .1 .1 .1 .1 .1 .0
+    same-out = settle bytes (a .ensured) (b .ensured) (λ e f. e .2 ∙ sym (f .2))
 
 pub meets-callbridge-cb-show : Meets cb_show.ended (λ M. cb_show.clauses {M = M}) cb-show-symbol.routine
 meets-callbridge-cb-show M = cb-show-met.met
 
 pub tight-callbridge-cb-show : Tight cb_show.ended (λ M. cb_show.clauses {M = M})
-tight-callbridge-cb-show c r q w v a b = (settle (result cb_show.ended c) (a .ensured) (b .ensured) (λ e f. e .0 ∙ sym (f .0)), λ i. (tt, (tt, (tt, (tt, (tt, (tt, (part i, tt))))))))
+tight-callbridge-cb-show c r q w v a b = (settle (result cb_show.ended c) (a .ensured) (b .ensured) (λ e f. e .0 ∙ sym (f .0)), λ i. (tt, (tt, (tt, (tt, (tt, (tt, (same-part i, tt))))))))
   where
-    part : w .1 .1 .1 .1 .1 .1 .0 ≡ v .1 .1 .1 .1 .1 .1 .0
-    part = settle (Part.the-row .coded) (a .ensured) (b .ensured) (λ e f. e .1 ∙ sym (f .1))
+    same-part : w .1 .1 .1 .1 .1 .1 .0 ≡ v .1 .1 .1 .1 .1 .1 .0
+    same-part = settle (flat-Part.the-row .coded) (a .ensured) (b .ensured) (λ e f. e .1 ∙ sym (f .1))

@@ -1,4 +1,4 @@
--- Each public function of `classes` meets its contract, and the contract is tight. Assumes nothing.
+-- Written by tools/tightness: each public function of `classes` meets its contract, and the contract is tight. Assumes nothing.
 use mathlib.Core.Path.{refl}
 use Rattle.tightness.specs.Tight.{Meets, Tight}
 use Rattle.tightness.proofs.Laws.{equal, result}
@@ -8,12 +8,12 @@ use Rattle.classes.proofs.code_of.Symbol as code-of-symbol
 use Rattle.classes.proofs.is_same
 use Rattle.classes.proofs.is_same.Met as is-same-met
 use Rattle.classes.proofs.is_same.Symbol as is-same-symbol
-use Rattle.classes.proofs.clean_up
-use Rattle.classes.proofs.clean_up.Met as clean-up-met
-use Rattle.classes.proofs.clean_up.Symbol as clean-up-symbol
 use Rattle.classes.proofs.merge_both
 use Rattle.classes.proofs.merge_both.Met as merge-both-met
 use Rattle.classes.proofs.merge_both.Symbol as merge-both-symbol
+use Rattle.classes.proofs.clean_up
+use Rattle.classes.proofs.clean_up.Met as clean-up-met
+use Rattle.classes.proofs.clean_up.Symbol as clean-up-symbol
 
 pub meets-classes-code-of : Meets code_of.ended (λ M. code_of.clauses {M = M}) code-of-symbol.routine
 meets-classes-code-of M = code-of-met.met

@@ -1,31 +1,31 @@
--- Each public function of `description` meets its contract, and the contract is tight. Assumes nothing.
+-- Written by tools/tightness: each public function of `description` meets its contract, and the contract is tight. Assumes nothing.
 use mathlib.Core.Path.{refl, sym, _∙_}
 use Rattle.tightness.specs.Tight.{Meets, Tight}
 use Rattle.tightness.proofs.Laws.{equal, result, settle}
 use Rattle.description.proofs.byte_at
 use Rattle.description.proofs.byte_at.Met as byte-at-met
 use Rattle.description.proofs.byte_at.Symbol as byte-at-symbol
-use Rattle.description.proofs.header_of
-use Rattle.description.proofs.header_of.Met as header-of-met
-use Rattle.description.proofs.header_of.Symbol as header-of-symbol
 use Rattle.description.proofs.word_at
 use Rattle.description.proofs.word_at.Met as word-at-met
 use Rattle.description.proofs.word_at.Symbol as word-at-symbol
-use Rattle.description.proofs.a_at
-use Rattle.description.proofs.a_at.Met as a-at-met
-use Rattle.description.proofs.a_at.Symbol as a-at-symbol
-use Rattle.description.proofs.argument_at
-use Rattle.description.proofs.argument_at.Met as argument-at-met
-use Rattle.description.proofs.argument_at.Symbol as argument-at-symbol
-use Rattle.description.proofs.count_at
-use Rattle.description.proofs.count_at.Met as count-at-met
-use Rattle.description.proofs.count_at.Symbol as count-at-symbol
+use Rattle.description.proofs.header_of
+use Rattle.description.proofs.header_of.Met as header-of-met
+use Rattle.description.proofs.header_of.Symbol as header-of-symbol
 use Rattle.description.proofs.kind_at
 use Rattle.description.proofs.kind_at.Met as kind-at-met
 use Rattle.description.proofs.kind_at.Symbol as kind-at-symbol
+use Rattle.description.proofs.a_at
+use Rattle.description.proofs.a_at.Met as a-at-met
+use Rattle.description.proofs.a_at.Symbol as a-at-symbol
+use Rattle.description.proofs.count_at
+use Rattle.description.proofs.count_at.Met as count-at-met
+use Rattle.description.proofs.count_at.Symbol as count-at-symbol
 use Rattle.description.proofs.member_at
 use Rattle.description.proofs.member_at.Met as member-at-met
 use Rattle.description.proofs.member_at.Symbol as member-at-symbol
+use Rattle.description.proofs.argument_at
+use Rattle.description.proofs.argument_at.Met as argument-at-met
+use Rattle.description.proofs.argument_at.Symbol as argument-at-symbol
 
 pub meets-description-byte-at : Meets byte_at.ended (λ M. byte_at.clauses {M = M}) byte-at-symbol.routine
 meets-description-byte-at M = byte-at-met.met

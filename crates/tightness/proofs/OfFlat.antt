@@ -1,4 +1,4 @@
--- Each public function of `flat` meets its contract, and the contract is tight. Assumes nothing.
+-- Written by tools/tightness: each public function of `flat` meets its contract, and the contract is tight. Assumes nothing.
 use mathlib.Core.Path.{refl}
 use Rattle.tightness.specs.Tight.{Meets, Tight}
 use Rattle.tightness.proofs.Laws.{equal, result}

@@ -1,42 +1,36 @@
--- Each public function of `layout` meets its contract, and the contract is tight. Assumes nothing.
-use mathlib.Core.Path.{refl, sym, _∙_, _≡_}
+-- Written by tools/tightness: each public function of `layout` meets its contract, and the contract is tight. Assumes nothing.
+use mathlib.Core.Path.{_≡_, refl, sym, _∙_}
+use base.Stored.{codedList}
 use Rattle.tightness.specs.Tight.{Meets, Tight}
-use Rattle.tightness.proofs.Laws.{equal, result, settle, bytes}
-use Rattle.layout.proofs.place_argument
-use Rattle.layout.proofs.place_argument.Met as place-argument-met
-use Rattle.layout.proofs.place_argument.Symbol as place-argument-symbol
+use Rattle.tightness.proofs.Laws.{bytes, equal, result, settle}
+use Rattle.layout.proofs.placements.Placement as layout-Placement
 use Rattle.layout.proofs.used_after
 use Rattle.layout.proofs.used_after.Met as used-after-met
 use Rattle.layout.proofs.used_after.Symbol as used-after-symbol
 use Rattle.layout.proofs.refusal_in
 use Rattle.layout.proofs.refusal_in.Met as refusal-in-met
 use Rattle.layout.proofs.refusal_in.Symbol as refusal-in-symbol
-use Rattle.layout.proofs.layout_of
-use Rattle.layout.proofs.layout_of.Met as layout-of-met
-use Rattle.layout.proofs.layout_of.Symbol as layout-of-symbol
 use Rattle.layout.proofs.layout_with
 use Rattle.layout.proofs.layout_with.Met as layout-with-met
 use Rattle.layout.proofs.layout_with.Symbol as layout-with-symbol
+use Rattle.layout.proofs.layout_of
+use Rattle.layout.proofs.layout_of.Met as layout-of-met
+use Rattle.layout.proofs.layout_of.Symbol as layout-of-symbol
 use Rattle.layout.proofs.check
 use Rattle.layout.proofs.check.Met as check-met
 use Rattle.layout.proofs.check.Symbol as check-symbol
 use Rattle.layout.proofs.begin_with
 use Rattle.layout.proofs.begin_with.Met as begin-with-met
 use Rattle.layout.proofs.begin_with.Symbol as begin-with-symbol
-use Rattle.layout.proofs.placements.Placement
-use base.Stored.{codedList}
 use Rattle.layout.proofs.begin
 use Rattle.layout.proofs.begin.Met as begin-met
 use Rattle.layout.proofs.begin.Symbol as begin-symbol
 use Rattle.layout.proofs.lay_out
 use Rattle.layout.proofs.lay_out.Met as lay-out-met
 use Rattle.layout.proofs.lay_out.Symbol as lay-out-symbol
-
-pub meets-layout-place-argument : Meets place_argument.ended (λ M. place_argument.clauses {M = M}) place-argument-symbol.routine
-meets-layout-place-argument M = place-argument-met.met
-
-pub tight-layout-place-argument : Tight place_argument.ended (λ M. place_argument.clauses {M = M})
-tight-layout-place-argument c r q w v a b = (equal (result place_argument.ended c) (a .ensured) (b .ensured), refl)
+use Rattle.layout.proofs.place_argument
+use Rattle.layout.proofs.place_argument.Met as place-argument-met
+use Rattle.layout.proofs.place_argument.Symbol as place-argument-symbol
 
 pub meets-layout-used-after : Meets used_after.ended (λ M. used_after.clauses {M = M}) used-after-symbol.routine
 meets-layout-used-after M = used-after-met.met
@@ -54,10 +48,10 @@ pub meets-layout-layout-with : Meets layout_with.ended (λ M. layout_with.clause
 meets-layout-layout-with M = layout-with-met.met
 
 pub tight-layout-layout-with : Tight layout_with.ended (λ M. layout_with.clauses {M = M})
-tight-layout-layout-with c r q w v a b = (settle (result layout_with.ended c) (a .ensured) (b .ensured) (λ e f. e .0 ∙ sym (f .0)), λ i. (tt, (table i, tt)))
+tight-layout-layout-with c r q w v a b = (settle (result layout_with.ended c) (a .ensured) (b .ensured) (λ e f. e .0 ∙ sym (f .0)), λ i. (tt, (same-table i, tt)))
   where
-    table : w .1 .0 ≡ v .1 .0
-    table = settle bytes (a .ensured) (b .ensured) (λ e f. e .1 ∙ sym (f .1))
+    same-table : w .1 .0 ≡ v .1 .0
+    same-table = settle bytes (a .ensured) (b .ensured) (λ e f. e .1 ∙ sym (f .1))
 
 pub meets-layout-layout-of : Meets layout_of.ended (λ M. layout_of.clauses {M = M}) layout-of-symbol.routine
 meets-layout-layout-of M = layout-of-met.met
@@ -75,10 +69,10 @@ pub meets-layout-begin-with : Meets begin_with.ended (λ M. begin_with.clauses {
 meets-layout-begin-with M = begin-with-met.met
 
 pub tight-layout-begin-with : Tight begin_with.ended (λ M. begin_with.clauses {M = M})
-tight-layout-begin-with c r q w v a b = (settle (result begin_with.ended c) (a .ensured) (b .ensured) (λ e f. e .0 ∙ sym (f .0)), λ i. (tt, (tt, (table i, tt))))
+tight-layout-begin-with c r q w v a b = (settle (result begin_with.ended c) (a .ensured) (b .ensured) (λ e f. e .0 ∙ sym (f .0)), λ i. (tt, (tt, (same-table i, tt))))
   where
-    table : w .1 .1 .0 ≡ v .1 .1 .0
-    table = settle bytes (a .ensured) (b .ensured) (λ e f. e .2 ∙ sym (f .2))
+    same-table : w .1 .1 .0 ≡ v .1 .1 .0
+    same-table = settle bytes (a .ensured) (b .ensured) (λ e f. e .2 ∙ sym (f .2))
 
 pub meets-layout-begin : Meets begin.ended (λ M. begin.clauses {M = M}) begin-symbol.routine
 meets-layout-begin M = begin-met.met
@@ -90,7 +84,13 @@ pub meets-layout-lay-out : Meets lay_out.ended (λ M. lay_out.clauses {M = M}) l
 meets-layout-lay-out M = lay-out-met.met
 
 pub tight-layout-lay-out : Tight lay_out.ended (λ M. lay_out.clauses {M = M})
-tight-layout-lay-out c r q w v a b = (settle (result lay_out.ended c) (a .ensured) (b .ensured) (λ e f. e .0 ∙ sym (f .0)), λ i. (tt, (list i, tt)))
+tight-layout-lay-out c r q w v a b = (settle (result lay_out.ended c) (a .ensured) (b .ensured) (λ e f. e .0 ∙ sym (f .0)), λ i. (tt, (same-list i, tt)))
   where
-    list : w .1 .0 ≡ v .1 .0
-    list = settle (codedList (Placement.the-row .coded)) (a .ensured) (b .ensured) (λ e f. e .1 ∙ sym (f .1))
+    same-list : w .1 .0 ≡ v .1 .0
+    same-list = settle (codedList (layout-Placement.the-row .coded)) (a .ensured) (b .ensured) (λ e f. e .1 ∙ sym (f .1))
+
+pub meets-layout-place-argument : Meets place_argument.ended (λ M. place_argument.clauses {M = M}) place-argument-symbol.routine
+meets-layout-place-argument M = place-argument-met.met
+
+pub tight-layout-place-argument : Tight place_argument.ended (λ M. place_argument.clauses {M = M})
+tight-layout-place-argument c r q w v a b = (equal (result place_argument.ended c) (a .ensured) (b .ensured), refl)

@@ -1,53 +1,41 @@
--- Each public function of `places` meets its contract, and the contract is tight. Assumes nothing.
+-- Written by tools/tightness: each public function of `places` meets its contract, and the contract is tight. Assumes nothing.
 use mathlib.Core.Path.{refl, sym, _∙_}
 use Rattle.tightness.specs.Tight.{Meets, Tight}
-use Rattle.tightness.proofs.Laws.{result, settle, equal}
+use Rattle.tightness.proofs.Laws.{equal, result, settle}
 use Rattle.places.proofs.Records.{asked-same, placed-same}
-use Rattle.places.proofs.shape_in
-use Rattle.places.proofs.shape_in.Met as shape-in-met
-use Rattle.places.proofs.shape_in.Symbol as shape-in-symbol
 use Rattle.places.proofs.place_shape
 use Rattle.places.proofs.place_shape.Met as place-shape-met
 use Rattle.places.proofs.place_shape.Symbol as place-shape-symbol
 use Rattle.places.proofs.use_type
 use Rattle.places.proofs.use_type.Met as use-type-met
 use Rattle.places.proofs.use_type.Symbol as use-type-symbol
-use Rattle.places.proofs.place_type
-use Rattle.places.proofs.place_type.Met as place-type-met
-use Rattle.places.proofs.place_type.Symbol as place-type-symbol
 use Rattle.places.proofs.fresh
 use Rattle.places.proofs.fresh.Met as fresh-met
 use Rattle.places.proofs.fresh.Symbol as fresh-symbol
-use Rattle.places.proofs.hidden_for
-use Rattle.places.proofs.hidden_for.Met as hidden-for-met
-use Rattle.places.proofs.hidden_for.Symbol as hidden-for-symbol
 use Rattle.places.proofs.return_place
 use Rattle.places.proofs.return_place.Met as return-place-met
 use Rattle.places.proofs.return_place.Symbol as return-place-symbol
-
-pub meets-places-shape-in : Meets shape_in.ended (λ M. shape_in.clauses {M = M}) shape-in-symbol.routine
-meets-places-shape-in M = shape-in-met.met
-
-pub tight-places-shape-in : Tight shape_in.ended (λ M. shape_in.clauses {M = M})
-tight-places-shape-in c r q w v a b = (settle (result shape_in.ended c) (a .ensured) (b .ensured) (λ e f. asked-same r q (e ∙ sym f)), refl)
+use Rattle.places.proofs.hidden_for
+use Rattle.places.proofs.hidden_for.Met as hidden-for-met
+use Rattle.places.proofs.hidden_for.Symbol as hidden-for-symbol
+use Rattle.places.proofs.shape_in
+use Rattle.places.proofs.shape_in.Met as shape-in-met
+use Rattle.places.proofs.shape_in.Symbol as shape-in-symbol
+use Rattle.places.proofs.place_type
+use Rattle.places.proofs.place_type.Met as place-type-met
+use Rattle.places.proofs.place_type.Symbol as place-type-symbol
 
 pub meets-places-place-shape : Meets place_shape.ended (λ M. place_shape.clauses {M = M}) place-shape-symbol.routine
 meets-places-place-shape M = place-shape-met.met
 
 pub tight-places-place-shape : Tight place_shape.ended (λ M. place_shape.clauses {M = M})
-tight-places-place-shape c r q w v a b = (settle (result place_shape.ended c) (a .ensured) (b .ensured) (placed-same _ _ r q), refl)
+tight-places-place-shape c r q w v a b = (settle (result place_shape.ended c) (a .ensured) (b .ensured) (λ e f. placed-same _ _ r q e f), refl)
 
 pub meets-places-use-type : Meets use_type.ended (λ M. use_type.clauses {M = M}) use-type-symbol.routine
 meets-places-use-type M = use-type-met.met
 
 pub tight-places-use-type : Tight use_type.ended (λ M. use_type.clauses {M = M})
 tight-places-use-type c r q w v a b = (equal (result use_type.ended c) (a .ensured) (b .ensured), refl)
-
-pub meets-places-place-type : Meets place_type.ended (λ M. place_type.clauses {M = M}) place-type-symbol.routine
-meets-places-place-type M = place-type-met.met
-
-pub tight-places-place-type : Tight place_type.ended (λ M. place_type.clauses {M = M})
-tight-places-place-type c r q w v a b = (settle (result place_type.ended c) (a .ensured) (b .ensured) (placed-same _ _ r q), refl)
 
 pub meets-places-fresh : Meets fresh.ended (λ M. fresh.clauses {M = M}) fresh-symbol.routine
 meets-places-fresh M = fresh-met.met
@@ -66,3 +54,15 @@ meets-places-hidden-for M = hidden-for-met.met
 
 pub tight-places-hidden-for : Tight hidden_for.ended (λ M. hidden_for.clauses {M = M})
 tight-places-hidden-for c r q w v a b = (equal (result hidden_for.ended c) (a .ensured) (b .ensured), refl)
+
+pub meets-places-shape-in : Meets shape_in.ended (λ M. shape_in.clauses {M = M}) shape-in-symbol.routine
+meets-places-shape-in M = shape-in-met.met
+
+pub tight-places-shape-in : Tight shape_in.ended (λ M. shape_in.clauses {M = M})
+tight-places-shape-in c r q w v a b = (settle (result shape_in.ended c) (a .ensured) (b .ensured) (λ e f. asked-same r q (e ∙ sym f)), refl)
+
+pub meets-places-place-type : Meets place_type.ended (λ M. place_type.clauses {M = M}) place-type-symbol.routine
+meets-places-place-type M = place-type-met.met
+
+pub tight-places-place-type : Tight place_type.ended (λ M. place_type.clauses {M = M})
+tight-places-place-type c r q w v a b = (settle (result place_type.ended c) (a .ensured) (b .ensured) (λ e f. placed-same _ _ r q e f), refl)

@@ -1,10 +1,11 @@
--- Each public function of `questions` meets its contract, and the contract is tight. Assumes nothing.
+-- Written by tools/tightness: each public function of `questions` meets its contract, and the contract is tight. Assumes nothing.
 use mathlib.Core.Path.{refl, sym, _∙_}
+use denote.Ref.{now}
 use Rattle.tightness.specs.Tight.{Meets, Tight, TightPart}
 use Rattle.tightness.proofs.Laws.{bytes, equal, result, settle}
-use Rattle.questions.proofs.question_refusal
-use Rattle.questions.proofs.question_refusal.Met as question-refusal-met
-use Rattle.questions.proofs.question_refusal.Symbol as question-refusal-symbol
+use Rattle.questions.proofs.type_classes
+use Rattle.questions.proofs.type_classes.Met as type-classes-met
+use Rattle.questions.proofs.type_classes.Symbol as type-classes-symbol
 use Rattle.questions.proofs.type_extent
 use Rattle.questions.proofs.type_extent.Met as type-extent-met
 use Rattle.questions.proofs.type_extent.Symbol as type-extent-symbol
@@ -14,22 +15,21 @@ use Rattle.questions.proofs.type_size.Symbol as type-size-symbol
 use Rattle.questions.proofs.type_align
 use Rattle.questions.proofs.type_align.Met as type-align-met
 use Rattle.questions.proofs.type_align.Symbol as type-align-symbol
-use Rattle.questions.proofs.type_classes
-use Rattle.questions.proofs.type_classes.Met as type-classes-met
-use Rattle.questions.proofs.type_classes.Symbol as type-classes-symbol
-use denote.Ref.{now}
-use Rattle.questions.proofs.member_run
-use Rattle.questions.proofs.member_run.Met as member-run-met
-use Rattle.questions.proofs.member_run.Symbol as member-run-symbol
 use Rattle.questions.proofs.run_at
 use Rattle.questions.proofs.run_at.Met as run-at-met
 use Rattle.questions.proofs.run_at.Symbol as run-at-symbol
+use Rattle.questions.proofs.member_run
+use Rattle.questions.proofs.member_run.Met as member-run-met
+use Rattle.questions.proofs.member_run.Symbol as member-run-symbol
+use Rattle.questions.proofs.question_refusal
+use Rattle.questions.proofs.question_refusal.Met as question-refusal-met
+use Rattle.questions.proofs.question_refusal.Symbol as question-refusal-symbol
 
-pub meets-questions-question-refusal : Meets question_refusal.ended (λ M. question_refusal.clauses {M = M}) question-refusal-symbol.routine
-meets-questions-question-refusal M = question-refusal-met.met
+pub meets-questions-type-classes : Meets type_classes.ended (λ M. type_classes.clauses {M = M}) type-classes-symbol.routine
+meets-questions-type-classes M = type-classes-met.met
 
-pub tight-questions-question-refusal : Tight question_refusal.ended (λ M. question_refusal.clauses {M = M})
-tight-questions-question-refusal c r q w v a b = (equal (result question_refusal.ended c) (a .ensured) (b .ensured), refl)
+pub tight-questions-type-classes : Tight type_classes.ended (λ M. type_classes.clauses {M = M})
+tight-questions-type-classes c r q w v a b = (equal (result type_classes.ended c) (a .ensured) (b .ensured), refl)
 
 pub meets-questions-type-extent : Meets type_extent.ended (λ M. type_extent.clauses {M = M}) type-extent-symbol.routine
 meets-questions-type-extent M = type-extent-met.met
@@ -49,12 +49,6 @@ meets-questions-type-align M = type-align-met.met
 pub tight-questions-type-align : Tight type_align.ended (λ M. type_align.clauses {M = M})
 tight-questions-type-align c r q w v a b = (equal (result type_align.ended c) (a .ensured) (b .ensured), refl)
 
-pub meets-questions-type-classes : Meets type_classes.ended (λ M. type_classes.clauses {M = M}) type-classes-symbol.routine
-meets-questions-type-classes M = type-classes-met.met
-
-pub tight-questions-type-classes : Tight type_classes.ended (λ M. type_classes.clauses {M = M})
-tight-questions-type-classes c r q w v a b = (equal (result type_classes.ended c) (a .ensured) (b .ensured), refl)
-
 pub meets-questions-run-at : Meets run_at.ended (λ M. run_at.clauses {M = M}) run-at-symbol.routine
 meets-questions-run-at M = run-at-met.met
 
@@ -66,3 +60,9 @@ meets-questions-member-run M = member-run-met.met
 
 pub tight-questions-member-run : TightPart member_run.ended (λ c r. now r) (λ M. member_run.clauses {M = M})
 tight-questions-member-run c r q w v a b = (equal bytes (a .ensured) (b .ensured), refl)
+
+pub meets-questions-question-refusal : Meets question_refusal.ended (λ M. question_refusal.clauses {M = M}) question-refusal-symbol.routine
+meets-questions-question-refusal M = question-refusal-met.met
+
+pub tight-questions-question-refusal : Tight question_refusal.ended (λ M. question_refusal.clauses {M = M})
+tight-questions-question-refusal c r q w v a b = (equal (result question_refusal.ended c) (a .ensured) (b .ensured), refl)

@@ -1,7 +1,7 @@
--- Each public function of `returning` meets its contract, and the contract is tight. Assumes nothing.
-use mathlib.Core.Path.{sym, _∙_, _≡_}
+-- Written by tools/tightness: each public function of `returning` meets its contract, and the contract is tight. Assumes nothing.
+use mathlib.Core.Path.{_≡_, sym, _∙_}
 use Rattle.tightness.specs.Tight.{Meets, Tight}
-use Rattle.tightness.proofs.Laws.{result, settle, bytes}
+use Rattle.tightness.proofs.Laws.{bytes, result, settle}
 use Rattle.returning.proofs.put_returned
 use Rattle.returning.proofs.put_returned.Met as put-returned-met
 use Rattle.returning.proofs.put_returned.Symbol as put-returned-symbol
@@ -13,16 +13,16 @@ pub meets-returning-put-returned : Meets put_returned.ended (λ M. put_returned.
 meets-returning-put-returned M = put-returned-met.met
 
 pub tight-returning-put-returned : Tight put_returned.ended (λ M. put_returned.clauses {M = M})
-tight-returning-put-returned c r q w v a b = (settle (result put_returned.ended c) (a .ensured) (b .ensured) (λ e f. e .0 ∙ sym (f .0)), λ i. (tt, (tt, (tt, (image i, tt)))))
+tight-returning-put-returned c r q w v a b = (settle (result put_returned.ended c) (a .ensured) (b .ensured) (λ e f. e .0 ∙ sym (f .0)), λ i. (tt, (tt, (tt, (same-image i, tt)))))
   where
-    image : w .1 .1 .1 .0 ≡ v .1 .1 .1 .0
-    image = settle bytes (a .ensured) (b .ensured) (λ e f. e .1 ∙ sym (f .1))
+    same-image : w .1 .1 .1 .0 ≡ v .1 .1 .1 .0
+    same-image = settle bytes (a .ensured) (b .ensured) (λ e f. e .1 ∙ sym (f .1))
 
 pub meets-returning-take-returned : Meets take_returned.ended (λ M. take_returned.clauses {M = M}) take-returned-symbol.routine
 meets-returning-take-returned M = take-returned-met.met
 
 pub tight-returning-take-returned : Tight take_returned.ended (λ M. take_returned.clauses {M = M})
-tight-returning-take-returned c r q w v a b = (settle (result take_returned.ended c) (a .ensured) (b .ensured) (λ e f. e .0 ∙ sym (f .0)), λ i. (tt, (tt, (value i, tt))))
+tight-returning-take-returned c r q w v a b = (settle (result take_returned.ended c) (a .ensured) (b .ensured) (λ e f. e .0 ∙ sym (f .0)), λ i. (tt, (tt, (same-value i, tt))))
   where
-    value : w .1 .1 .0 ≡ v .1 .1 .0
-    value = settle bytes (a .ensured) (b .ensured) (λ e f. e .1 ∙ sym (f .1))
+    same-value : w .1 .1 .0 ≡ v .1 .1 .0
+    same-value = settle bytes (a .ensured) (b .ensured) (λ e f. e .1 ∙ sym (f .1))

@@ -1,52 +1,52 @@
--- Each public function of `units` meets its contract, and the contract is tight. Assumes nothing.
+-- Written by tools/tightness: each public function of `units` meets its contract, and the contract is tight. Assumes nothing.
 use mathlib.Core.Path.{refl, sym, _∙_}
 use Rattle.tightness.specs.Tight.{Meets, Tight}
 use Rattle.tightness.proofs.Laws.{equal, result, settle}
-use Rattle.units.proofs.at_most
-use Rattle.units.proofs.at_most.Met as at-most-met
-use Rattle.units.proofs.at_most.Symbol as at-most-symbol
-use Rattle.units.proofs.before_last
-use Rattle.units.proofs.before_last.Met as before-last-met
-use Rattle.units.proofs.before_last.Symbol as before-last-symbol
-use Rattle.units.proofs.eightbyte_of
-use Rattle.units.proofs.eightbyte_of.Met as eightbyte-of-met
-use Rattle.units.proofs.eightbyte_of.Symbol as eightbyte-of-symbol
+use Rattle.units.proofs.raise_to
+use Rattle.units.proofs.raise_to.Met as raise-to-met
+use Rattle.units.proofs.raise_to.Symbol as raise-to-symbol
 use Rattle.units.proofs.eightbytes_in
 use Rattle.units.proofs.eightbytes_in.Met as eightbytes-in-met
 use Rattle.units.proofs.eightbytes_in.Symbol as eightbytes-in-symbol
 use Rattle.units.proofs.general_bytes
 use Rattle.units.proofs.general_bytes.Met as general-bytes-met
 use Rattle.units.proofs.general_bytes.Symbol as general-bytes-symbol
-use Rattle.units.proofs.larger
-use Rattle.units.proofs.larger.Met as larger-met
-use Rattle.units.proofs.larger.Symbol as larger-symbol
-use Rattle.units.proofs.minus
-use Rattle.units.proofs.minus.Met as minus-met
-use Rattle.units.proofs.minus.Symbol as minus-symbol
-use Rattle.units.proofs.one_more
-use Rattle.units.proofs.one_more.Met as one-more-met
-use Rattle.units.proofs.one_more.Symbol as one-more-symbol
-use Rattle.units.proofs.over
-use Rattle.units.proofs.over.Met as over-met
-use Rattle.units.proofs.over.Symbol as over-symbol
-use Rattle.units.proofs.plus
-use Rattle.units.proofs.plus.Met as plus-met
-use Rattle.units.proofs.plus.Symbol as plus-symbol
-use Rattle.units.proofs.raise_to
-use Rattle.units.proofs.raise_to.Met as raise-to-met
-use Rattle.units.proofs.raise_to.Symbol as raise-to-symbol
-use Rattle.units.proofs.same
-use Rattle.units.proofs.same.Met as same-met
-use Rattle.units.proofs.same.Symbol as same-symbol
-use Rattle.units.proofs.times
-use Rattle.units.proofs.times.Met as times-met
-use Rattle.units.proofs.times.Symbol as times-symbol
 use Rattle.units.proofs.vector_bytes
 use Rattle.units.proofs.vector_bytes.Met as vector-bytes-met
 use Rattle.units.proofs.vector_bytes.Symbol as vector-bytes-symbol
+use Rattle.units.proofs.larger
+use Rattle.units.proofs.larger.Met as larger-met
+use Rattle.units.proofs.larger.Symbol as larger-symbol
+use Rattle.units.proofs.plus
+use Rattle.units.proofs.plus.Met as plus-met
+use Rattle.units.proofs.plus.Symbol as plus-symbol
+use Rattle.units.proofs.times
+use Rattle.units.proofs.times.Met as times-met
+use Rattle.units.proofs.times.Symbol as times-symbol
+use Rattle.units.proofs.over
+use Rattle.units.proofs.over.Met as over-met
+use Rattle.units.proofs.over.Symbol as over-symbol
+use Rattle.units.proofs.eightbyte_of
+use Rattle.units.proofs.eightbyte_of.Met as eightbyte-of-met
+use Rattle.units.proofs.eightbyte_of.Symbol as eightbyte-of-symbol
+use Rattle.units.proofs.one_more
+use Rattle.units.proofs.one_more.Met as one-more-met
+use Rattle.units.proofs.one_more.Symbol as one-more-symbol
 use Rattle.units.proofs.with_more
 use Rattle.units.proofs.with_more.Met as with-more-met
 use Rattle.units.proofs.with_more.Symbol as with-more-symbol
+use Rattle.units.proofs.before_last
+use Rattle.units.proofs.before_last.Met as before-last-met
+use Rattle.units.proofs.before_last.Symbol as before-last-symbol
+use Rattle.units.proofs.at_most
+use Rattle.units.proofs.at_most.Met as at-most-met
+use Rattle.units.proofs.at_most.Symbol as at-most-symbol
+use Rattle.units.proofs.minus
+use Rattle.units.proofs.minus.Met as minus-met
+use Rattle.units.proofs.minus.Symbol as minus-symbol
+use Rattle.units.proofs.same
+use Rattle.units.proofs.same.Met as same-met
+use Rattle.units.proofs.same.Symbol as same-symbol
 
 pub meets-units-raise-to : Meets raise_to.ended (λ M. raise_to.clauses {M = M}) raise-to-symbol.routine
 meets-units-raise-to M = raise-to-met.met
@@ -108,6 +108,12 @@ meets-units-one-more M = one-more-met.met
 pub tight-units-one-more : Tight one_more.ended (λ M. one_more.clauses {M = M})
 tight-units-one-more c r q w v a b = (settle (result one_more.ended c) (a .ensured) (b .ensured) (λ e f i. record { 0 = (e ∙ sym f) i }), refl)
 
+pub meets-units-with-more : Meets with_more.ended (λ M. with_more.clauses {M = M}) with-more-symbol.routine
+meets-units-with-more M = with-more-met.met
+
+pub tight-units-with-more : Tight with_more.ended (λ M. with_more.clauses {M = M})
+tight-units-with-more c r q w v a b = (settle (result with_more.ended c) (a .ensured) (b .ensured) (λ e f i. record { 0 = (e ∙ sym f) i }), refl)
+
 pub meets-units-before-last : Meets before_last.ended (λ M. before_last.clauses {M = M}) before-last-symbol.routine
 meets-units-before-last M = before-last-met.met
 
@@ -131,9 +137,3 @@ meets-units-same M = same-met.met
 
 pub tight-units-same : Tight same.ended (λ M. same.clauses {M = M})
 tight-units-same c r q w v a b = (equal (result same.ended c) (a .ensured) (b .ensured), refl)
-
-pub meets-units-with-more : Meets with_more.ended (λ M. with_more.clauses {M = M}) with-more-symbol.routine
-meets-units-with-more M = with-more-met.met
-
-pub tight-units-with-more : Tight with_more.ended (λ M. with_more.clauses {M = M})
-tight-units-with-more c r q w v a b = (settle (result with_more.ended c) (a .ensured) (b .ensured) (λ e f i. record { 0 = (e ∙ sym f) i }), refl)
