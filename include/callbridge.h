@@ -3,9 +3,10 @@
    The library reads a description (KCB) of one call of a module's function, says which register or stack slot holds each argument,
    moves the argument bytes into a register image and a stack image and out again, and walks the unnamed arguments as va_arg does.
 
-   Every call that can be refused answers a cb_refusal. Its number is 0 (CB_ACCEPTED) where the call did its work; otherwise nothing
-   was written: each struct and each buffer that was lent holds what it held before. Any bytes may be given as a description, and any
-   numbers in a station or a walk: a wrong one is refused, never followed.
+   Every call that can be refused answers a cb_refusal. Its number is 0 (CB_ACCEPTED) where the call did its work; otherwise each
+   struct and each buffer that was lent holds what it held before (a refused call may store those same bytes again). A cb_part alone is
+   an answer and not lent: a refused call makes it the empty part. Any bytes may be given as a description, and any numbers in a
+   station or a walk: a wrong one is refused, never followed.
 
        cb_layout layout;
        cb_placement list[CB_MAX_ARGUMENTS];
@@ -18,13 +19,15 @@
    What a host must keep to:
    - a buffer is a pointer and its own length in bytes (for a list: in records), and no two that are lent to one call overlap, where
      one of them is written to;
-   - no pointer is NULL, also where the length is 0;
-   - each pointer to a struct is aligned for it; what a struct held that a call fills does not matter;
-   - the field `attached` of a station is 0 or 1.
+   - a buffer of length 0 may be NULL, and no other pointer is;
+   - each pointer to a struct is aligned for it; what a struct held that a call fills does not matter.
+
+   No struct has padding: its reserved bytes are written as zero wherever the struct is written, and never looked at, so that structs
+   can be compared and hashed as bytes.
 
    The library allocates nothing and has no state of its own, neither global nor per thread: all that it knows lies in what it is
    lent. Every function may be called from any thread and from a signal handler, as long as nobody else has what is lent to it.
-   Of other libraries it needs memset alone. examples/host.c is a host that uses every part of it. */
+   Of other libraries it needs memcpy and memset alone. examples/host.c is a host that uses every part of it. */
 #ifndef CALLBRIDGE_H
 #define CALLBRIDGE_H
 
@@ -36,8 +39,8 @@ extern "C" {
 #endif
 
 /* The version of this interface. It counts up where a program must be built anew; compare it with cb_version(). In version 1 a
-   cb_refusal had no type. */
-#define CB_VERSION 2
+   cb_refusal had no type; in version 2 structs had padding, `attached` had to be 0 or 1, and a refused call left a cb_part as it was. */
+#define CB_VERSION 3
 
 /* Sizes that the description's rules fix. */
 #define CB_MAX_ARGUMENTS 64      /* arguments of one call: a list of so many placements is always long enough */
@@ -124,6 +127,7 @@ typedef struct cb_part {
     size_t offset;
     size_t length;
     uint8_t image;
+    uint8_t reserved[7];
 } cb_part;
 
 /* ---- layout */
@@ -168,6 +172,7 @@ typedef struct cb_placement {
     uint8_t type;
     uint8_t first;
     uint8_t second;
+    uint8_t reserved[5];
 } cb_placement;
 
 /* A call as a whole.
@@ -187,6 +192,7 @@ typedef struct cb_layout {
     uint8_t return_first;
     uint8_t return_second;
     uint8_t hidden;                  /* 1 where a hidden address is passed, else 0 */
+    uint8_t reserved[5];
 } cb_layout;
 
 /* ---- moving */
@@ -205,18 +211,20 @@ typedef struct cb_gathered {
 
 /* What the host keeps of a seat. A new one comes from cb_new_station; after that cb_attach and cb_detach alone change it. */
 typedef struct cb_station {
-    uint8_t attached;   /* 0 or 1 */
     size_t length;      /* bytes of the description in the seat */
     uint32_t number;    /* of the last attachment */
+    uint8_t attached;   /* 0 where nothing is attached; the library writes 1 where something is, and takes any other number as 1 */
+    uint8_t reserved[3];
 } cb_station;
 
 /* Where a walk over unnamed arguments stands. It comes from cb_open_walk; after that cb_step alone changes it. */
 typedef struct cb_walk {
-    uint32_t number;    /* of the attachment that it was opened under */
     size_t position;    /* the next argument */
     size_t general;     /* gp_offset, 0 to 48 */
     size_t vector;      /* fp_offset, 48 to 176 */
     size_t overflow;    /* offset in the stack image */
+    uint32_t number;    /* of the attachment that it was opened under */
+    uint8_t reserved[4];
 } cb_walk;
 
 /* ---- calls: the description */
@@ -233,8 +241,8 @@ cb_refusal cb_type_extent(const uint8_t *description, size_t description_length,
 /* The classes of the type's eightbytes. Refused 1 to 8, as cb_type_extent. */
 cb_refusal cb_type_classes(const uint8_t *description, size_t description_length, uint8_t type, cb_classes *classes);
 
-/* The part of the description that holds the type numbers of a struct's or union's members; CB_NOWHERE for another kind of type.
-   Refused 1 to 8, as cb_type_extent. */
+/* The part of the description that holds the type numbers of a struct's or union's members; CB_NOWHERE for another kind of type, and
+   for a refusal. Refused 1 to 8, as cb_type_extent. */
 cb_refusal cb_member_run(const uint8_t *description, size_t description_length, uint8_t type, cb_part *run);
 
 /* The layout of the call. Refused 1 to 10. */
@@ -302,7 +310,7 @@ cb_refusal cb_step(const cb_station *station, const uint8_t *seat, size_t seat_l
                    const uint8_t *stack, size_t stack_length, uint8_t type, uint8_t *out, size_t out_length);
 
 /* Shows where that argument lies, and moves no walk: a part of the register image or of the stack image, or CB_NOWHERE where it lies
-   in two vector registers, or in a general and a vector one. Refused as cb_step, but for the out buffer. */
+   in two vector registers, or in a general and a vector one, and for a refusal. Refused as cb_step, but for the out buffer. */
 cb_refusal cb_show(const cb_station *station, const uint8_t *seat, size_t seat_length, const cb_walk *walk,
                    const uint8_t *registers, size_t registers_length,
                    const uint8_t *stack, size_t stack_length, uint8_t type, cb_part *part);

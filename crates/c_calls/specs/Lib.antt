@@ -3,4 +3,5 @@ pub mod TypeCalls
 pub mod LayoutCalls
 pub mod MovingCalls
 pub mod ReturningCalls
+pub mod StationCalls
 pub mod WalkCalls

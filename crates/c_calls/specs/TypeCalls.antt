@@ -1,4 +1,6 @@
 -- What the questions and the layout of the C interface give, by the library's answer: include/callbridge.h. Assumes nothing: these are definitions.
+use Rattle.form.specs.declared.Refusal.{Refusal}
+use Rattle.form.specs.Reading.{refusalOf}
 use Rattle.types.specs.declared.Extent.{Extent}
 use Rattle.classes.specs.Classes.{codeOf}
 use Rattle.questions.specs.declared.ExtentAnswer.{ExtentAnswer}
@@ -22,8 +24,13 @@ abbrev pub classesGiven : ClassesAnswer → Outcome Classes
 classesGiven (Both a b) = gives (record { first = codeOf a; second = codeOf b })
 classesGiven (NoClasses r) = refuses r
 
--- cb_member_run: one byte for each member
-abbrev pub runGiven : RunAnswer → Outcome Part
-runGiven (Run o n) = gives (ofDescription o (record { 0 = n }))
-runGiven NoRun = gives nowhere
-runGiven (NotAsked r) = refuses r
+-- cb_member_run, one byte for each member: a part is an answer, and "the empty part for a refusal or another kind"
+abbrev pub runPart : RunAnswer → Part
+runPart (Run o n) = ofDescription o (record { 0 = n })
+runPart NoRun = nowhere
+runPart (NotAsked r) = nowhere
+
+abbrev pub runRefusal : RunAnswer → Refusal
+runRefusal (Run o n) = refusalOf 0
+runRefusal NoRun = refusalOf 0
+runRefusal (NotAsked r) = r

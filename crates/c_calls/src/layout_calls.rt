@@ -30,15 +30,15 @@ fn arguments_of(d: &[u8]) -> usize
 fn layout_given(answer: LayoutAnswer, arguments: usize, before: Layout) -> GivenLayout
     ensures { λ r. ⌜ (r .refusal ≡ refusalIn (layoutGiven arguments answer)) × (r .layout ≡ leftIn (layoutGiven arguments answer) before) ⌝ }
 {
-    match answer {
-        LayoutAnswer::Laid(whole) => GivenLayout {
-            layout: flat::layout_of(whole, arguments),
-            refusal: form::refusal_of(0),
-        },
-        LayoutAnswer::Refused(refusal) => GivenLayout {
+    let LayoutAnswer::Laid(whole) = answer else {
+        return GivenLayout {
             layout: before,
-            refusal: refusal,
-        },
+            refusal: layout::refusal_in(answer),
+        };
+    };
+    GivenLayout {
+        layout: flat::layout_of(whole, arguments),
+        refusal: form::refusal_of(0),
     }
 }
 

@@ -1,6 +1,6 @@
 // What each C call answers and leaves, by value: the call is asked of the library, and of its answer is made the refusal, number 0 for
 // none, and the lent record at exit, which a refusal leaves as it was (document 01, "A refusal returns its number only and writes
-// nothing"). `callbridge` lends the record and stores it.
+// nothing"). A part is an answer and no lent record: a refusal gives the empty one. `callbridge` lends the record and stores it.
 pub use layout_calls::begin_list;
 pub use layout_calls::layout_of;
 pub use layout_calls::place_flat;
@@ -8,17 +8,21 @@ pub use moving_calls::gather_values;
 pub use moving_calls::place_values;
 pub use returning_calls::put_returned;
 pub use returning_calls::take_returned;
+pub use station_calls::attach;
+pub use station_calls::detach;
 pub use type_calls::member_run;
 pub use type_calls::type_classes;
 pub use type_calls::type_extent;
 pub use walk_calls::open_walk;
 pub use walk_calls::show;
+pub use walk_calls::step;
 
 mod type_calls; // cb_type_extent, cb_type_classes, cb_member_run
 mod layout_calls; // cb_layout_of, cb_lay_out
 mod moving_calls; // cb_place_values, cb_gather_values
 mod returning_calls; // cb_put_returned, cb_take_returned
-mod walk_calls; // cb_open_walk, cb_show
+mod station_calls; // cb_attach, cb_detach
+mod walk_calls; // cb_open_walk, cb_step, cb_show
 
 use flat::Classes;
 use flat::Gathered;
@@ -26,10 +30,11 @@ use flat::Layout;
 use flat::Part;
 use flat::Placed;
 use flat::Placement;
+use flat::Station;
+use flat::Walk;
 use form::Refusal;
 use places::Used;
 use types::Extent;
-use walk::Walk;
 
 // Of each call the lent record at exit, and the refusal.
 
@@ -60,6 +65,11 @@ pub struct GivenPlaced {
 
 pub struct GivenGathered {
     pub gathered: Gathered,
+    pub refusal: Refusal,
+}
+
+pub struct GivenStation {
+    pub station: Station,
     pub refusal: Refusal,
 }
 

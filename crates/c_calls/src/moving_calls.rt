@@ -11,39 +11,7 @@ ghost use Rattle.moving.specs.Answers.{placeAnswer, registersAfter, stackAfter,
 ghost use Rattle.c_calls.specs.Outcome.{refusalIn, leftIn};
 ghost use Rattle.c_calls.specs.MovingCalls.{placedGiven, gatheredGiven};
 
-// What placing gives: the vector count.
-fn placed_given(answer: PlaceAnswer, before: Placed) -> GivenPlaced
-    ensures { λ r. ⌜ (r .refusal ≡ refusalIn (placedGiven answer)) × (r .placed ≡ leftIn (placedGiven answer) before) ⌝ }
-{
-    match answer {
-        PlaceAnswer::Placed(vector) => GivenPlaced {
-            placed: Placed { vector: vector },
-            refusal: form::refusal_of(0),
-        },
-        PlaceAnswer::Refused(refusal) => GivenPlaced {
-            placed: before,
-            refusal: refusal,
-        },
-    }
-}
-
-// What gathering gives: the hidden address.
-fn gathered_given(answer: GatherAnswer, before: Gathered) -> GivenGathered
-    ensures { λ r. ⌜ (r .refusal ≡ refusalIn (gatheredGiven answer)) × (r .gathered ≡ leftIn (gatheredGiven answer) before) ⌝ }
-{
-    match answer {
-        GatherAnswer::Gathered(hidden) => GivenGathered {
-            gathered: Gathered { hidden: hidden },
-            refusal: form::refusal_of(0),
-        },
-        GatherAnswer::Refused(refusal) => GivenGathered {
-            gathered: before,
-            refusal: refusal,
-        },
-    }
-}
-
-// Placing, with the images at exit.
+// Placing, with the images at exit: the vector count.
 pub fn place_values(
     d: &[u8],
     hidden: u64,
@@ -58,10 +26,19 @@ pub fn place_values(
         × (now (stack .exit) ≡ stackAfter (now (d .entry)) hidden (now (values .entry)) (now (registers .entry)) (now (stack .entry))))) ⌝ }
 {
     let answer = moving::place_values(d, hidden, values, registers, stack);
-    placed_given(answer, before)
+    match answer {
+        PlaceAnswer::Placed(vector) => GivenPlaced {
+            placed: Placed { vector: vector },
+            refusal: form::refusal_of(0),
+        },
+        PlaceAnswer::Refused(refusal) => GivenPlaced {
+            placed: before,
+            refusal: refusal,
+        },
+    }
 }
 
-// Gathering, with the values at exit.
+// Gathering, with the values at exit: the hidden address.
 pub fn gather_values(
     d: &[u8],
     registers: &[u8],
@@ -74,5 +51,14 @@ pub fn gather_values(
         × (now (values .exit) ≡ valuesAfter (now (d .entry)) (now (registers .entry)) (now (stack .entry)) (now (values .entry)))) ⌝ }
 {
     let answer = moving::gather_values(d, registers, stack, values);
-    gathered_given(answer, before)
+    match answer {
+        GatherAnswer::Gathered(hidden) => GivenGathered {
+            gathered: Gathered { hidden: hidden },
+            refusal: form::refusal_of(0),
+        },
+        GatherAnswer::Refused(refusal) => GivenGathered {
+            gathered: before,
+            refusal: refusal,
+        },
+    }
 }

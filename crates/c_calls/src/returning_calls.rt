@@ -10,47 +10,33 @@ ghost use Rattle.returning.specs.Answers.{putAnswer, imageAfter, takeAnswer, va
 ghost use Rattle.c_calls.specs.Outcome.{refusalIn, leftIn};
 ghost use Rattle.c_calls.specs.ReturningCalls.{putGiven, takenGiven};
 
-// What putting gives: no record.
-fn put_given(answer: PutAnswer) -> Refusal
-    ensures { λ r. ⌜ r ≡ putGiven answer ⌝ }
+// Putting a returned value, with the return image at exit: no record.
+pub fn put_returned(d: &[u8], hidden: u64, value: &[u8], image: &mut [u8]) -> Refusal
+    ensures { λ r. ⌜ (r ≡ putGiven (putAnswer (now (d .entry)) (now (value .entry)) (length (now (image .entry)))))
+        × (now (image .exit) ≡ imageAfter (now (d .entry)) hidden (now (value .entry)) (now (image .entry))) ⌝ }
 {
+    let answer = returning::put_returned(d, hidden, value, image);
     match answer {
         PutAnswer::Put => form::refusal_of(0),
         PutAnswer::Refused(refusal) => refusal,
     }
 }
 
-// What taking gives: the hidden address.
-fn taken_given(answer: TakeAnswer, held: Gathered) -> GivenGathered
-    ensures { λ r. ⌜ (r .refusal ≡ refusalIn (takenGiven answer)) × (r .gathered ≡ leftIn (takenGiven answer) held) ⌝ }
+// Taking a returned value, with its bytes at exit: the hidden address.
+pub fn take_returned(d: &[u8], image: &[u8], value: &mut [u8], before: Gathered) -> GivenGathered
+    ensures { λ r. ⌜ (r .refusal ≡ refusalIn (takenGiven (takeAnswer (now (d .entry)) (now (image .entry)) (length (now (value .entry))))))
+        × ((r .gathered ≡ leftIn (takenGiven (takeAnswer (now (d .entry)) (now (image .entry)) (length (now (value .entry))))) before)
+        × (now (value .exit) ≡ valueAfter (now (d .entry)) (now (image .entry)) (now (value .entry)))) ⌝ }
 {
+    let answer = returning::take_returned(d, image, value);
     match answer {
         TakeAnswer::Taken(address) => GivenGathered {
             gathered: Gathered { hidden: address },
             refusal: form::refusal_of(0),
         },
         TakeAnswer::Refused(refusal) => GivenGathered {
-            gathered: held,
+            gathered: before,
             refusal: refusal,
         },
     }
-}
-
-// Putting a returned value, with the return image at exit.
-pub fn put_returned(d: &[u8], hidden: u64, value: &[u8], image: &mut [u8]) -> Refusal
-    ensures { λ r. ⌜ (r ≡ putGiven (putAnswer (now (d .entry)) (now (value .entry)) (length (now (image .entry)))))
-        × (now (image .exit) ≡ imageAfter (now (d .entry)) hidden (now (value .entry)) (now (image .entry))) ⌝ }
-{
-    let answer = returning::put_returned(d, hidden, value, image);
-    put_given(answer)
-}
-
-// Taking a returned value, with its bytes at exit.
-pub fn take_returned(d: &[u8], image: &[u8], value: &mut [u8], held: Gathered) -> GivenGathered
-    ensures { λ r. ⌜ (r .refusal ≡ refusalIn (takenGiven (takeAnswer (now (d .entry)) (now (image .entry)) (length (now (value .entry))))))
-        × ((r .gathered ≡ leftIn (takenGiven (takeAnswer (now (d .entry)) (now (image .entry)) (length (now (value .entry))))) held)
-        × (now (value .exit) ≡ valueAfter (now (d .entry)) (now (image .entry)) (now (value .entry)))) ⌝ }
-{
-    let answer = returning::take_returned(d, image, value);
-    taken_given(answer, held)
 }

@@ -1,28 +1,29 @@
-// cb_open_walk and cb_show, by value (document 01, "Station and walk").
+// cb_open_walk, cb_step and cb_show, by value, and the out buffer at exit (document 01, "Station and walk").
 use crate::GivenPart;
 use crate::GivenWalk;
-use flat::Part;
-use station::Station;
-use units::Bytes;
+use flat::Station;
+use flat::Walk;
 use walk::OpenAnswer;
 use walk::ShownAnswer;
-use walk::Walk;
 ghost use mathlib.Core.Path.{_≡_};
 ghost use mathlib.Core.List.{[]};
 ghost use Rattle.station.specs.Paper.{kcb};
 ghost use Rattle.walk.specs.Orders.{asking};
-ghost use Rattle.walk.specs.Steps.{openAnswer};
+ghost use Rattle.walk.specs.Steps.{openAnswer, stepOut};
 ghost use Rattle.walk.specs.Show.{shownAnswer};
+ghost use Rattle.flat.specs.Stations.{stationMeant, walkMeant};
 ghost use Rattle.c_calls.specs.Outcome.{refusalIn, leftIn};
-ghost use Rattle.c_calls.specs.WalkCalls.{openGiven, shownGiven};
+ghost use Rattle.c_calls.specs.WalkCalls.{openGiven, stepGiven, shownPart, shownRefusal};
 
 // A walk before the first unnamed argument.
-fn walk_given(answer: OpenAnswer, before: Walk) -> GivenWalk
-    ensures { λ r. ⌜ (r .refusal ≡ refusalIn (openGiven answer)) × (r .walk ≡ leftIn (openGiven answer) before) ⌝ }
+pub fn open_walk(station: Station, seat: &[u8], before: Walk) -> GivenWalk
+    ensures { λ r. ⌜ (r .refusal ≡ refusalIn (openGiven (openAnswer kcb (stationMeant station) (now (seat .entry)))))
+        × (r .walk ≡ leftIn (openGiven (openAnswer kcb (stationMeant station) (now (seat .entry)))) before) ⌝ }
 {
+    let answer = walk::open_walk(flat::station_of(station), seat);
     match answer {
         OpenAnswer::Opened(opened) => GivenWalk {
-            walk: opened,
+            walk: flat::flat_walk(opened),
             refusal: form::refusal_of(0),
         },
         OpenAnswer::Refused(refusal) => GivenWalk {
@@ -32,60 +33,43 @@ fn walk_given(answer: OpenAnswer, before: Walk) -> GivenWalk
     }
 }
 
-// Where an argument lies; no part where it lies in more than one.
-fn shown_given(answer: ShownAnswer, before: Part) -> GivenPart
-    ensures { λ r. ⌜ (r .refusal ≡ refusalIn (shownGiven answer)) × (r .part ≡ leftIn (shownGiven answer) before) ⌝ }
+// The next argument's bytes, and the walk behind it.
+pub fn step(
+    station: Station,
+    seat: &[u8],
+    before: Walk,
+    registers: &[u8],
+    stack: &[u8],
+    asked: u8,
+    out: &mut [u8],
+) -> GivenWalk
+    ensures { λ r. ⌜ (r .refusal ≡ refusalIn (stepGiven station (now (seat .entry)) before (asking (now (registers .entry)) (now (stack .entry)) asked (now (out .entry)))))
+        × ((r .walk ≡ leftIn (stepGiven station (now (seat .entry)) before (asking (now (registers .entry)) (now (stack .entry)) asked (now (out .entry)))) before)
+        × (now (out .exit) ≡ stepOut kcb (stationMeant station) (now (seat .entry)) (walkMeant before) (asking (now (registers .entry)) (now (stack .entry)) asked (now (out .entry))))) ⌝ }
 {
-    match answer {
-        ShownAnswer::Registers(part) => {
-            let offset = part.offset;
-            let length = part.length;
-            GivenPart {
-                part: Part {
-                    offset: offset,
-                    length: length,
-                    image: 2,
-                },
-                refusal: form::refusal_of(0),
-            }
-        }
-        ShownAnswer::Stack(part) => {
-            let offset = part.offset;
-            let length = part.length;
-            GivenPart {
-                part: Part {
-                    offset: offset,
-                    length: length,
-                    image: 3,
-                },
-                refusal: form::refusal_of(0),
-            }
-        }
-        ShownAnswer::Apart => GivenPart {
-            part: Part {
-                offset: Bytes(0),
-                length: Bytes(0),
-                image: 0,
-            },
-            refusal: form::refusal_of(0),
-        },
-        ShownAnswer::Refused(refusal) => GivenPart {
-            part: before,
+    let after = walk::step_by_value(
+        flat::station_of(station),
+        seat,
+        flat::walk_of(before),
+        registers,
+        stack,
+        asked,
+        out,
+    );
+    let refusal = after.refusal;
+    if refusal.number != 0 {
+        return GivenWalk {
+            walk: before,
             refusal: refusal,
-        },
+        };
+    }
+    GivenWalk {
+        walk: flat::flat_walk(after.walk),
+        refusal: refusal,
     }
 }
 
-// A walk before the first unnamed argument.
-pub fn open_walk(station: Station, seat: &[u8], before: Walk) -> GivenWalk
-    ensures { λ r. ⌜ (r .refusal ≡ refusalIn (openGiven (openAnswer kcb station (now (seat .entry)))))
-        × (r .walk ≡ leftIn (openGiven (openAnswer kcb station (now (seat .entry)))) before) ⌝ }
-{
-    let answer = walk::open_walk(station, seat);
-    walk_given(answer, before)
-}
-
-// Where the argument lies that a walk stands before; no part where it lies in more than one.
+// Where the argument lies that a walk stands before; the empty part for a refusal, and where it lies in more than one.
 pub fn show(
     station: Station,
     seat: &[u8],
@@ -93,11 +77,34 @@ pub fn show(
     registers: &[u8],
     stack: &[u8],
     asked: u8,
-    before: Part,
 ) -> GivenPart
-    ensures { λ r. ⌜ (r .refusal ≡ refusalIn (shownGiven (shownAnswer kcb station (now (seat .entry)) walk (asking (now (registers .entry)) (now (stack .entry)) asked []))))
-        × (r .part ≡ leftIn (shownGiven (shownAnswer kcb station (now (seat .entry)) walk (asking (now (registers .entry)) (now (stack .entry)) asked []))) before) ⌝ }
+    ensures { λ r. ⌜ (r .refusal ≡ shownRefusal (shownAnswer kcb (stationMeant station) (now (seat .entry)) (walkMeant walk) (asking (now (registers .entry)) (now (stack .entry)) asked [])))
+        × (r .part ≡ shownPart (shownAnswer kcb (stationMeant station) (now (seat .entry)) (walkMeant walk) (asking (now (registers .entry)) (now (stack .entry)) asked []))) ⌝ }
 {
-    let answer = walk::shown_at(station, seat, walk, registers, stack, asked);
-    shown_given(answer, before)
+    let answer = walk::shown_at(
+        flat::station_of(station),
+        seat,
+        flat::walk_of(walk),
+        registers,
+        stack,
+        asked,
+    );
+    match answer {
+        ShownAnswer::Registers(part) => GivenPart {
+            part: flat::part_of(2, part.offset, part.length),
+            refusal: form::refusal_of(0),
+        },
+        ShownAnswer::Stack(part) => GivenPart {
+            part: flat::part_of(3, part.offset, part.length),
+            refusal: form::refusal_of(0),
+        },
+        ShownAnswer::Apart => GivenPart {
+            part: flat::nowhere(),
+            refusal: form::refusal_of(0),
+        },
+        ShownAnswer::Refused(refusal) => GivenPart {
+            part: flat::nowhere(),
+            refusal: refusal,
+        },
+    }
 }

@@ -3,11 +3,13 @@ use mathlib.Core.Path.{_≡_, refl, sym, ap, ap₂, _∙_}
 use mathlib.Core.Bool.{Bool, true, false, cond}
 use mathlib.Core.List.{List}
 use Prim.Native.Nat.{ℕ, zero, suc, _+_}
-use borrow.Author.Tests.{eqb-true, eqb-false}
+use native.Mathlib.Omega.{arith}
+use borrow.Author.Tests.{ne-eqb, eqb-true, eqb-false}
 use lib.Dec.{ltb, eqb}
 use lib.ListN.{length}
 use Rattle.description.specs.Description.{argumentsIn, kindAt, aAt, countAt, memberStart}
 use Rattle.form.specs.declared.Refusal.{Refusal}
+use Rattle.form.specs.Reading.{refusalOf}
 use Rattle.types.specs.Wrong.{refusalFor}
 use Rattle.types.proofs.Wrong.{no-type}
 use Rattle.questions.specs.declared.RunAnswer.the-variants.{Run, NoRun}
@@ -18,23 +20,31 @@ use Rattle.layout.specs.Layout.{layoutAnswer}
 use Rattle.layout.specs.Lists.{listRefusal, listAnswer}
 use Rattle.moving.specs.Orders.{placeRefusal, gatherRefusal}
 use Rattle.moving.specs.Answers.{placeAnswer, gatherAnswer}
+use Rattle.returning.specs.Orders.{putRefusal, takeRefusal}
+use Rattle.returning.specs.Answers.{putAnswer, takeAnswer}
 use Rattle.station.specs.Paper.{kcb}
-use Rattle.station.specs.Attachment.{described}
+use Rattle.station.specs.Outcome.{leaves}
+use Rattle.station.specs.Attachment.{described, attachRefusal, attachStation, detachRefusal, detachStation}
 use Rattle.station.proofs.Kcb.{kcb-refusal}
-use Rattle.walk.specs.Orders.{offsetsOf, openRefusal, showRefusal}
-use Rattle.walk.specs.Steps.{openedIf, openWalk, openAnswer}
+use Rattle.walk.specs.Orders.{offsetsOf, openRefusal, stepRefusal, showRefusal}
+use Rattle.walk.specs.Steps.{openedIf, openWalk, openAnswer, stepWalk}
 use Rattle.walk.specs.declared.showing.ShownAnswer.the-variants.{Registers, Apart}
 use Rattle.places.specs.Shapes.{Shape}
 use Rattle.station.specs.Paper.{shapeAt}
 use Rattle.walk.specs.Offsets.{Source, fromRegisters, fromStack, readAt}
 use Rattle.walk.specs.Show.{onePiece, headOf, partIn, shownIn, shownAnswer}
 use Rattle.flat.specs.declared.Part.{Part}
-use Rattle.c_calls.specs.Outcome.{Outcome, gives, refuses}
-use Rattle.c_calls.specs.TypeCalls.{extentGiven, classesGiven, runGiven}
+use Rattle.flat.specs.declared.Station.{Station}
+use Rattle.flat.specs.Parts.{nowhere}
+use Rattle.flat.specs.Stations.{stationMeant, flatStation, walkMeant, flatWalk}
+use Rattle.c_calls.specs.Outcome.{Outcome, gives, refuses, refusalIn, leftIn}
+use Rattle.c_calls.specs.TypeCalls.{extentGiven, classesGiven, runPart, runRefusal}
 use Rattle.c_calls.specs.LayoutCalls.{layoutGiven, listGiven}
 use Rattle.c_calls.specs.MovingCalls.{placedGiven, gatheredGiven}
-use Rattle.c_calls.specs.WalkCalls.{openGiven, shownGiven}
-use Rattle.callbridge.specs.Interface.{Tells, ExtentTold, ClassesTold, runOf, RunTold, LayoutTold, ListTold, PlacedTold, GatheredTold, OpenTold, partOf, ShownTold}
+use Rattle.c_calls.specs.ReturningCalls.{putGiven, takenGiven}
+use Rattle.c_calls.specs.StationCalls.{attachGiven, detachGiven}
+use Rattle.c_calls.specs.WalkCalls.{openGiven, stepGiven, shownPart, shownRefusal}
+use Rattle.callbridge.specs.Interface.{Tells, TellsPart, ExtentTold, ClassesTold, runOf, RunTold, LayoutTold, ListTold, PlacedTold, GatheredTold, PutTold, TakenTold, AttachTold, DetachTold, OpenTold, StepTold, ShownTold}
 
 -- an outcome that is told by a number
 abbrev by-number : {A : Type 0} → List ℕ → ℕ → A → Outcome A
@@ -68,18 +78,34 @@ pub classes-told : ClassesTold
 unfolding classesAnswer
 classes-told d t = told _ d (questionRefusal d t) _ (through classesGiven (eqb (questionRefusal d t) 0) _ _)
 
-run-given : (d : List ℕ) (t : ℕ) (b : Bool) → ltb (kindAt d t) 2 ≡ b
-    → runGiven (cond b NoRun (Run (record { 0 = memberStart d + aAt d t }) (countAt d t))) ≡ gives (runOf d t)
+-- a choice by the number 0
+by-zero : {A : Type 0} (n : ℕ) (new old : A) → cond (eqb n 0) new old ≡ leaves n new old
+by-zero zero new old = refl
+by-zero (suc n) new old = rw (ne-eqb (suc n) 0 (λ e. omega (arith, e))) refl
+
+refusal-zero : (d : List ℕ) (n : ℕ) → cond (eqb n 0) (refusalOf 0) (refusalFor d n) ≡ refusalFor d n
+refusal-zero d zero = sym (no-type d 0 refl refl)
+refusal-zero d (suc n) = rw (ne-eqb (suc n) 0 (λ e. omega (arith, e))) refl
+
+-- a part is an answer: it is told by the same number
+told-part : (part : Part) (r : Refusal) (d : List ℕ) (n : ℕ) (new : Part) → part ≡ cond (eqb n 0) new nowhere → r ≡ cond (eqb n 0) (refusalOf 0) (refusalFor d n) → TellsPart part r d n new
+told-part part r d n new e f = record { refusal = f ∙ refusal-zero d n; shown = e ∙ by-zero n new nowhere }
+
+run-part : (d : List ℕ) (t : ℕ) (b : Bool) → ltb (kindAt d t) 2 ≡ b
+    → (runPart (cond b NoRun (Run (record { 0 = memberStart d + aAt d t }) (countAt d t))) ≡ runOf d t)
+    × (runRefusal (cond b NoRun (Run (record { 0 = memberStart d + aAt d t }) (countAt d t))) ≡ refusalOf 0)
 unfolding runOf
-run-given d t true e = rw e
-run-given d t false e = rw e
+run-part d t true e = rw e (refl, refl)
+run-part d t false e = rw e (refl, refl)
 
 pub run-told : RunTold
 unfolding runAnswer
 run-told d t =
-    told _ d (questionRefusal d t) (runOf d t)
-    (through runGiven (eqb (questionRefusal d t) 0) _ _
-    ∙ ap (λ (o : Outcome Part). cond (eqb (questionRefusal d t) 0) o (refuses (refusalFor d (questionRefusal d t)))) (run-given d t (ltb (kindAt d t) 2) refl))
+    let n = questionRefusal d t in
+    let p = run-part d t (ltb (kindAt d t) 2) refl in
+    told-part _ _ d n (runOf d t)
+    (through runPart (eqb n 0) _ _ ∙ ap (λ (x : Part). cond (eqb n 0) x nowhere) (p .0))
+    (through runRefusal (eqb n 0) _ _ ∙ ap (λ (x : Refusal). cond (eqb n 0) x (refusalFor d n)) (p .1))
 
 pub layout-told : LayoutTold
 unfolding layoutAnswer
@@ -102,24 +128,58 @@ unfolding openAnswer openedIf
 open-told s seat =
     told _ (described s seat) (openRefusal kcb s seat) _
     (through openGiven (eqb (openRefusal kcb s seat) 0) _ _
-    ∙ ap (λ (r : Refusal). cond (eqb (openRefusal kcb s seat) 0) (gives (openWalk kcb s seat)) (refuses r)) (kcb-refusal (described s seat) (openRefusal kcb s seat)))
+    ∙ ap (λ (r : Refusal). cond (eqb (openRefusal kcb s seat) 0) (gives (flatWalk (openWalk kcb s seat))) (refuses r)) (kcb-refusal (described s seat) (openRefusal kcb s seat)))
 
 -- what is shown is a part, or none
-part-given : (o : Source) (s : Shape) → shownGiven (partIn o s) ≡ gives (partOf (partIn o s))
-part-given (fromRegisters os) s = by (onePiece (s .kinds))
+shown-none : (o : Source) (s : Shape) → shownRefusal (partIn o s) ≡ refusalOf 0
+shown-none (fromRegisters os) s = by (onePiece (s .kinds))
   where
-    by : (b : Bool) → shownGiven (cond b (Registers (record { offset = record { 0 = headOf os }; length = record { 0 = s .size } })) Apart)
-        ≡ gives (partOf (cond b (Registers (record { offset = record { 0 = headOf os }; length = record { 0 = s .size } })) Apart))
+    by : (b : Bool) → shownRefusal (cond b (Registers (record { offset = record { 0 = headOf os }; length = record { 0 = s .size } })) Apart) ≡ refusalOf 0
     by true = refl
     by false = refl
-part-given (fromStack o) s = refl
+shown-none (fromStack o) s = refl
 
 pub shown-told : ShownTold
 unfolding shownAnswer shownIn
 shown-told s seat w a =
     let d = described s seat in
-    told _ d (showRefusal kcb s seat w a) _
-    (through shownGiven (eqb (showRefusal kcb s seat w a) 0) _ _
-    ∙ ap₂ (λ (o : Outcome Part) (r : Refusal). cond (eqb (showRefusal kcb s seat w a) 0) o (refuses r))
-    (part-given (readAt (kcb .slot) (offsetsOf w) (shapeAt kcb d (w .position))) (shapeAt kcb d (w .position)))
-    (kcb-refusal d (showRefusal kcb s seat w a)))
+    let n = showRefusal kcb s seat w a in
+    told-part _ _ d n _
+    (through shownPart (eqb n 0) _ _)
+    (through shownRefusal (eqb n 0) _ _
+    ∙ ap₂ (λ (x y : Refusal). cond (eqb n 0) x y) (shown-none (readAt (kcb .slot) (offsetsOf w) (shapeAt kcb d (w .position))) (shapeAt kcb d (w .position))) (kcb-refusal d n))
+
+-- ---- returned values, attach and detach, a step
+
+pub put-told : PutTold
+unfolding putAnswer
+put-told d v n = through putGiven (eqb (putRefusal d v n) 0) _ _ ∙ refusal-zero d (putRefusal d v n)
+
+pub taken-told : TakenTold
+unfolding takeAnswer
+taken-told d i n = told _ d (takeRefusal d i n) _ (through takenGiven (eqb (takeRefusal d i n) 0) _ _)
+
+pub attach-told : AttachTold
+unfolding attachGiven
+attach-told s seat d =
+    let n = attachRefusal kcb (stationMeant s) seat d in
+    told _ d n _ (ap (λ (r : Refusal). cond (eqb n 0) (gives (flatStation (attachStation kcb (stationMeant s) seat d))) (refuses r)) (kcb-refusal d n))
+
+pub detach-told : DetachTold
+unfolding detachGiven
+detach-told s seat =
+    let n = detachRefusal (stationMeant s) seat in (
+      through refusalIn (eqb n 0) _ _ ∙ zero-of n,
+      λ old. through (λ (o : Outcome Station). leftIn o old) (eqb n 0) _ _ ∙ by-zero n _ old,
+    )
+  where
+    zero-of : (n : ℕ) → cond (eqb n 0) (refusalOf 0) (refusalOf n) ≡ refusalOf n
+    zero-of zero = refl
+    zero-of (suc n) = rw (ne-eqb (suc n) 0 (λ e. omega (arith, e))) refl
+
+pub step-told : StepTold
+unfolding stepGiven
+step-told s seat w a =
+    let d = described (stationMeant s) seat in
+    let n = stepRefusal kcb (stationMeant s) seat (walkMeant w) a in
+    told _ d n _ (ap (λ (r : Refusal). cond (eqb n 0) (gives (flatWalk (stepWalk kcb (stationMeant s) seat (walkMeant w) a))) (refuses r)) (kcb-refusal d n))

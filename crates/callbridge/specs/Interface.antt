@@ -7,6 +7,8 @@ use Prim.Native.Nat.{ℕ, _+_, _<_}
 use lib.Dec.{ltb}
 use lib.ListN.{length, getD}
 use Rattle.description.specs.Description.{argumentsIn, kindAt, aAt, countAt, memberStart}
+use Rattle.form.specs.declared.Refusal.{Refusal}
+use Rattle.form.specs.Reading.{refusalOf}
 use Rattle.types.specs.Wrong.{refusalFor}
 use Rattle.types.specs.Decode.{tyAt}
 use Rattle.classes.specs.declared.Class.the-variants.{NoClass}
@@ -14,7 +16,7 @@ use Rattle.classes.specs.Classes.{codeOf}
 use Rattle.classify.specs.Classify.{classesOf}
 use Rattle.questions.specs.Questions.{questionRefusal, extentOf, extentAnswer}
 use Rattle.questions.specs.Runs.{classesAnswer, runAnswer}
-use Rattle.layout.specs.Arguments.{usedAt}
+use Rattle.layout.specs.Arguments.{usedAt, returnPlace}
 use Rattle.layout.specs.Verdict.{verdict}
 use Rattle.layout.specs.Layout.{layoutOf as wholeOf, layoutAnswer}
 use Rattle.layout.specs.Placements.{placementAt}
@@ -22,27 +24,33 @@ use Rattle.layout.specs.Lists.{listRefusal, listCount, filled}
 use Rattle.moving.specs.Images.{hiddenIn}
 use Rattle.moving.specs.Orders.{placeRefusal, gatherRefusal}
 use Rattle.moving.specs.Answers.{placeAnswer, gatherAnswer}
-use Rattle.station.specs.declared.Station.{Station}
+use Rattle.returning.specs.Image.{returnedAddress}
+use Rattle.returning.specs.Orders.{putRefusal, takeRefusal}
+use Rattle.returning.specs.Answers.{putAnswer, takeAnswer}
+use Rattle.station.specs.declared.Station.{Station as Attached}
 use Rattle.station.specs.Outcome.{leaves}
 use Rattle.station.specs.Paper.{kcb}
-use Rattle.station.specs.Attachment.{described}
-use Rattle.walk.specs.declared.Walk.{Walk}
-use Rattle.walk.specs.Orders.{Ask, openRefusal, showRefusal}
-use Rattle.walk.specs.Steps.{openWalk, openAnswer}
-use Rattle.walk.specs.declared.showing.ShownAnswer.{ShownAnswer}
-use Rattle.walk.specs.declared.showing.ShownAnswer.the-variants.{Registers, Stack, Apart, Refused}
+use Rattle.station.specs.Attachment.{described, attachRefusal, attachStation, detachRefusal, detachStation}
+use Rattle.walk.specs.declared.Walk.{Walk as Standing}
+use Rattle.walk.specs.Orders.{Ask, openRefusal, stepRefusal, showRefusal}
+use Rattle.walk.specs.Steps.{openWalk, openAnswer, stepWalk}
 use Rattle.walk.specs.Show.{shownIn, shownAnswer}
 use Rattle.flat.specs.declared.Part.{Part}
 use Rattle.flat.specs.declared.Placement.{Placement}
 use Rattle.flat.specs.declared.Layout.{Layout}
+use Rattle.flat.specs.declared.Station.{Station}
+use Rattle.flat.specs.declared.Walk.{Walk}
 use Rattle.flat.specs.Records.{layoutOf}
-use Rattle.flat.specs.Parts.{nowhere, ofDescription, ofRegisters, ofStack}
+use Rattle.flat.specs.Parts.{nowhere, ofDescription}
+use Rattle.flat.specs.Stations.{stationMeant, flatStation, walkMeant, flatWalk}
 use Rattle.flat.specs.Meanings.{placementMeant, layoutMeant}
 use Rattle.c_calls.specs.Outcome.{Outcome, refusalIn, leftIn}
-use Rattle.c_calls.specs.TypeCalls.{extentGiven, classesGiven, runGiven}
+use Rattle.c_calls.specs.TypeCalls.{extentGiven, classesGiven, runPart, runRefusal}
 use Rattle.c_calls.specs.LayoutCalls.{layoutGiven, flatAt, listGiven}
 use Rattle.c_calls.specs.MovingCalls.{placedGiven, gatheredGiven}
-use Rattle.c_calls.specs.WalkCalls.{openGiven, shownGiven}
+use Rattle.c_calls.specs.ReturningCalls.{putGiven, takenGiven}
+use Rattle.c_calls.specs.StationCalls.{attachGiven, detachGiven}
+use Rattle.c_calls.specs.WalkCalls.{openGiven, stepGiven, shownPart, shownRefusal}
 
 -- a call about the description d answers the number n, with the type that it names; it leaves the new record where n is 0, and where it is not the record that was lent
 pub record Tells {A : Type 0} (o : Outcome A) (d : List ℕ) (n : ℕ) (new : A) : Type 0 where
@@ -62,8 +70,13 @@ ClassesTold = (d : List ℕ) (t : ℕ)
 unfoldable pub runOf : List ℕ → ℕ → Part
 runOf d t = cond (ltb (kindAt d t) 2) nowhere (ofDescription (record { 0 = memberStart d + aAt d t }) (record { 0 = countAt d t }))
 
+-- a part is an answer: the empty part where the number is not 0
+pub record TellsPart (part : Part) (r : Refusal) (d : List ℕ) (n : ℕ) (new : Part) : Type 0 where
+  pub refusal : r ≡ refusalFor d n
+  pub shown : part ≡ leaves n new nowhere
+
 abbrev pub RunTold : Type 0
-RunTold = (d : List ℕ) (t : ℕ) → Tells (runGiven (runAnswer d t)) d (questionRefusal d t) (runOf d t)
+RunTold = (d : List ℕ) (t : ℕ) → TellsPart (runPart (runAnswer d t)) (runRefusal (runAnswer d t)) d (questionRefusal d t) (runOf d t)
 
 -- cb_layout_of, cb_lay_out
 abbrev pub LayoutTold : Type 0
@@ -81,20 +94,37 @@ abbrev pub GatheredTold : Type 0
 GatheredTold = (d r s : List ℕ) (valuesLength : ℕ)
     → Tells (gatheredGiven (gatherAnswer d r s valuesLength)) d (gatherRefusal d valuesLength (length r) (length s)) (record { hidden = hiddenIn d (r ++ s) })
 
--- cb_open_walk, cb_show
-abbrev pub OpenTold : Type 0
-OpenTold = (s : Station) (seat : List ℕ) → Tells (openGiven (openAnswer kcb s seat)) (described s seat) (openRefusal kcb s seat) (openWalk kcb s seat)
+-- cb_put_returned has no record, cb_take_returned the hidden address
+abbrev pub PutTold : Type 0
+PutTold = (d value : List ℕ) (imageLength : ℕ) → putGiven (putAnswer d value imageLength) ≡ refusalFor d (putRefusal d value imageLength)
 
--- the part that shows an argument
-abbrev pub partOf : ShownAnswer → Part
-partOf (Registers p) = ofRegisters (p .offset) (p .length)
-partOf (Stack p) = ofStack (p .offset) (p .length)
-partOf Apart = nowhere
-partOf (Refused r) = nowhere
+abbrev pub TakenTold : Type 0
+TakenTold = (d image : List ℕ) (valueLength : ℕ)
+    → Tells (takenGiven (takeAnswer d image valueLength)) d (takeRefusal d image valueLength) (record { hidden = returnedAddress (returnPlace d) image })
+
+-- cb_attach, cb_detach: of what the station means
+abbrev pub AttachTold : Type 0
+AttachTold = (s : Station) (seat d : List ℕ)
+    → Tells (attachGiven s seat d) d (attachRefusal kcb (stationMeant s) seat d) (flatStation (attachStation kcb (stationMeant s) seat d))
+
+abbrev pub DetachTold : Type 0
+DetachTold = (s : Station) (seat : List ℕ)
+    → (refusalIn (detachGiven s seat) ≡ refusalOf (detachRefusal (stationMeant s) seat))
+    × ((old : Station) → leftIn (detachGiven s seat) old ≡ leaves (detachRefusal (stationMeant s) seat) (flatStation (detachStation (stationMeant s) seat)) old)
+
+-- cb_open_walk, cb_step, cb_show
+abbrev pub OpenTold : Type 0
+OpenTold = (s : Attached) (seat : List ℕ) → Tells (openGiven (openAnswer kcb s seat)) (described s seat) (openRefusal kcb s seat) (flatWalk (openWalk kcb s seat))
+
+abbrev pub StepTold : Type 0
+StepTold = (s : Station) (seat : List ℕ) (w : Walk) (a : Ask)
+    → Tells (stepGiven s seat w a) (described (stationMeant s) seat) (stepRefusal kcb (stationMeant s) seat (walkMeant w) a)
+    (flatWalk (stepWalk kcb (stationMeant s) seat (walkMeant w) a))
 
 abbrev pub ShownTold : Type 0
-ShownTold = (s : Station) (seat : List ℕ) (w : Walk) (a : Ask)
-    → Tells (shownGiven (shownAnswer kcb s seat w a)) (described s seat) (showRefusal kcb s seat w a) (partOf (shownIn kcb (described s seat) w))
+ShownTold = (s : Attached) (seat : List ℕ) (w : Standing) (a : Ask)
+    → TellsPart (shownPart (shownAnswer kcb s seat w a)) (shownRefusal (shownAnswer kcb s seat w a)) (described s seat) (showRefusal kcb s seat w a)
+    (shownPart (shownIn kcb (described s seat) w))
 
 -- the entries of an accepted list mean the layout's placements, and the summary means the layout
 abbrev pub ListMeans : Type 0

@@ -1,21 +1,20 @@
-// The C interface (include/callbridge.h): every call of a host, thin over the by-value functions of the crates below. A slice is a
-// pointer and a count, `&mut S` and `&S` are pointers to a struct.
+// The C interface (include/callbridge.h): every call of a host, thin over what `c_calls` works out by value. A slice is a pointer and a
+// count, `&mut S` and `&S` are pointers to a struct. specs/Interface says what each call tells.
 use flat::Classes;
 use flat::Gathered;
 use flat::Layout;
 use flat::Part;
 use flat::Placed;
 use flat::Placement;
+use flat::Station;
+use flat::Walk;
 use form::Refusal;
-use station::Station;
 use types::Extent;
-use walk::Walk;
 ghost use mathlib.Core.Path.{_≡_};
 ghost use mathlib.Core.List.{[], _++_};
 ghost use Prim.Native.Nat.{_≤_};
 ghost use lib.ListN.{length, drop};
 ghost use Rattle.description.specs.Description.{argumentsIn};
-ghost use Rattle.form.specs.Reading.{refusalOf};
 ghost use Rattle.types.specs.Wrong.{refusalFor};
 ghost use Rattle.questions.specs.Questions.{extentAnswer};
 ghost use Rattle.questions.specs.Runs.{classesAnswer, runAnswer};
@@ -24,23 +23,25 @@ ghost use Rattle.layout.specs.Lists.{listCount, filled};
 ghost use Rattle.layout.specs.Verdict.{verdict};
 ghost use Rattle.moving.specs.Answers.{placeAnswer, registersAfter, stackAfter, gatherAnswer, valuesAfter};
 ghost use Rattle.returning.specs.Answers.{putAnswer, imageAfter, takeAnswer, valueAfter};
-ghost use Rattle.station.specs.Paper.{kcb, refusalUnder};
-ghost use Rattle.station.specs.Attachment.{newStation, described, attachRefusal, attachStation, attachSeat, detachRefusal, detachStation, detachSeat};
-ghost use Rattle.walk.specs.Orders.{asking, stepRefusal};
-ghost use Rattle.walk.specs.Steps.{openAnswer, stepWalk, stepOut};
+ghost use Rattle.station.specs.Paper.{kcb};
+ghost use Rattle.station.specs.Attachment.{newStation, attachSeat, detachSeat};
+ghost use Rattle.walk.specs.Orders.{asking};
+ghost use Rattle.walk.specs.Steps.{openAnswer, stepOut};
 ghost use Rattle.walk.specs.Show.{shownAnswer};
 ghost use Rattle.listing.specs.Listing.{listing};
+ghost use Rattle.flat.specs.Stations.{stationMeant, flatStation, walkMeant};
 ghost use Rattle.c_calls.specs.Outcome.{refusalIn, leftIn};
-ghost use Rattle.c_calls.specs.TypeCalls.{extentGiven, classesGiven, runGiven};
+ghost use Rattle.c_calls.specs.TypeCalls.{extentGiven, classesGiven, runPart, runRefusal};
 ghost use Rattle.c_calls.specs.LayoutCalls.{layoutGiven, listGiven, flatAt};
 ghost use Rattle.c_calls.specs.MovingCalls.{placedGiven, gatheredGiven};
 ghost use Rattle.c_calls.specs.ReturningCalls.{putGiven, takenGiven};
-ghost use Rattle.c_calls.specs.WalkCalls.{openGiven, shownGiven};
+ghost use Rattle.c_calls.specs.StationCalls.{attachGiven, detachGiven};
+ghost use Rattle.c_calls.specs.WalkCalls.{openGiven, stepGiven, shownPart, shownRefusal};
 
 // CB_VERSION.
 #[no_mangle]
 pub extern "C" fn cb_version() -> u32
-    ensures { λ r. ⌜ r ≡ 2 ⌝ }
+    ensures { λ r. ⌜ r ≡ 3 ⌝ }
 {
     flat::version()
 }
@@ -75,13 +76,12 @@ pub extern "C" fn cb_type_classes(d: &[u8], asked: u8, classes: &mut Classes) ->
     given.refusal
 }
 
-// The members of a type, as a part of the description.
+// The members of a type, as a part of the description; the empty part for a refusal.
 #[no_mangle]
 pub extern "C" fn cb_member_run(d: &[u8], asked: u8, part: &mut Part) -> Refusal
-    ensures { λ r. ⌜ (r ≡ refusalIn (runGiven (runAnswer (now (d .entry)) asked)))
-        × (now (part .exit) ≡ leftIn (runGiven (runAnswer (now (d .entry)) asked)) (now (part .entry))) ⌝ }
+    ensures { λ r. ⌜ (r ≡ runRefusal (runAnswer (now (d .entry)) asked)) × (now (part .exit) ≡ runPart (runAnswer (now (d .entry)) asked)) ⌝ }
 {
-    let given = c_calls::member_run(d, asked, *part);
+    let given = c_calls::member_run(d, asked);
     *part = given.part;
     given.refusal
 }
@@ -194,40 +194,40 @@ pub extern "C" fn cb_take_returned(
 // A station that nothing was ever attached to.
 #[no_mangle]
 pub extern "C" fn cb_new_station() -> Station
-    ensures { λ r. ⌜ r ≡ newStation ⌝ }
+    ensures { λ r. ⌜ r ≡ flatStation newStation ⌝ }
 {
-    station::new_station()
+    flat::flat_station(station::new_station())
 }
 
 // The description into the seat.
 #[no_mangle]
 pub extern "C" fn cb_attach(station: &mut Station, seat: &mut [u8], d: &[u8]) -> Refusal
-    ensures { λ r. ⌜ (r ≡ refusalUnder kcb (now (d .entry)) (attachRefusal kcb (now (station .entry)) (now (seat .entry)) (now (d .entry))))
-        × (now (station .exit) ≡ attachStation kcb (now (station .entry)) (now (seat .entry)) (now (d .entry)))
-        × (now (seat .exit) ≡ attachSeat kcb (now (station .entry)) (now (seat .entry)) (now (d .entry))) ⌝ }
+    ensures { λ r. ⌜ (r ≡ refusalIn (attachGiven (now (station .entry)) (now (seat .entry)) (now (d .entry))))
+        × ((now (station .exit) ≡ leftIn (attachGiven (now (station .entry)) (now (seat .entry)) (now (d .entry))) (now (station .entry)))
+        × (now (seat .exit) ≡ attachSeat kcb (stationMeant (now (station .entry))) (now (seat .entry)) (now (d .entry)))) ⌝ }
 {
-    let after = station::attach_by_value(*station, seat, d);
-    *station = after.station;
-    after.refusal
+    let given = c_calls::attach(*station, seat, d);
+    *station = given.station;
+    given.refusal
 }
 
 // The seat emptied.
 #[no_mangle]
 pub extern "C" fn cb_detach(station: &mut Station, seat: &mut [u8]) -> Refusal
-    ensures { λ r. ⌜ (r ≡ refusalOf (detachRefusal (now (station .entry)) (now (seat .entry))))
-        × (now (station .exit) ≡ detachStation (now (station .entry)) (now (seat .entry)))
-        × (now (seat .exit) ≡ detachSeat (now (station .entry)) (now (seat .entry))) ⌝ }
+    ensures { λ r. ⌜ (r ≡ refusalIn (detachGiven (now (station .entry)) (now (seat .entry))))
+        × ((now (station .exit) ≡ leftIn (detachGiven (now (station .entry)) (now (seat .entry))) (now (station .entry)))
+        × (now (seat .exit) ≡ detachSeat (stationMeant (now (station .entry))) (now (seat .entry)))) ⌝ }
 {
-    let after = station::detach_by_value(*station, seat);
-    *station = after.station;
-    after.refusal
+    let given = c_calls::detach(*station, seat);
+    *station = given.station;
+    given.refusal
 }
 
 // A walk before the first unnamed argument.
 #[no_mangle]
 pub extern "C" fn cb_open_walk(station: &Station, seat: &[u8], walk: &mut Walk) -> Refusal
-    ensures { λ r. ⌜ (r ≡ refusalIn (openGiven (openAnswer kcb (now (station .entry)) (now (seat .entry)))))
-        × (now (walk .exit) ≡ leftIn (openGiven (openAnswer kcb (now (station .entry)) (now (seat .entry)))) (now (walk .entry))) ⌝ }
+    ensures { λ r. ⌜ (r ≡ refusalIn (openGiven (openAnswer kcb (stationMeant (now (station .entry))) (now (seat .entry)))))
+        × (now (walk .exit) ≡ leftIn (openGiven (openAnswer kcb (stationMeant (now (station .entry))) (now (seat .entry)))) (now (walk .entry))) ⌝ }
 {
     let given = c_calls::open_walk(*station, seat, *walk);
     *walk = given.walk;
@@ -245,16 +245,16 @@ pub extern "C" fn cb_step(
     asked: u8,
     out: &mut [u8],
 ) -> Refusal
-    ensures { λ r. ⌜ (r ≡ refusalUnder kcb (described (now (station .entry)) (now (seat .entry))) (stepRefusal kcb (now (station .entry)) (now (seat .entry)) (now (walk .entry)) (asking (now (registers .entry)) (now (stack .entry)) asked (now (out .entry)))))
-        × (now (walk .exit) ≡ stepWalk kcb (now (station .entry)) (now (seat .entry)) (now (walk .entry)) (asking (now (registers .entry)) (now (stack .entry)) asked (now (out .entry))))
-        × (now (out .exit) ≡ stepOut kcb (now (station .entry)) (now (seat .entry)) (now (walk .entry)) (asking (now (registers .entry)) (now (stack .entry)) asked (now (out .entry)))) ⌝ }
+    ensures { λ r. ⌜ (r ≡ refusalIn (stepGiven (now (station .entry)) (now (seat .entry)) (now (walk .entry)) (asking (now (registers .entry)) (now (stack .entry)) asked (now (out .entry)))))
+        × ((now (walk .exit) ≡ leftIn (stepGiven (now (station .entry)) (now (seat .entry)) (now (walk .entry)) (asking (now (registers .entry)) (now (stack .entry)) asked (now (out .entry)))) (now (walk .entry)))
+        × (now (out .exit) ≡ stepOut kcb (stationMeant (now (station .entry))) (now (seat .entry)) (walkMeant (now (walk .entry))) (asking (now (registers .entry)) (now (stack .entry)) asked (now (out .entry))))) ⌝ }
 {
-    let after = walk::step_by_value(*station, seat, *walk, registers, stack, asked, out);
-    *walk = after.walk;
-    after.refusal
+    let given = c_calls::step(*station, seat, *walk, registers, stack, asked, out);
+    *walk = given.walk;
+    given.refusal
 }
 
-// Where the next argument lies.
+// Where the next argument lies; the empty part for a refusal.
 #[no_mangle]
 pub extern "C" fn cb_show(
     station: &Station,
@@ -265,10 +265,10 @@ pub extern "C" fn cb_show(
     asked: u8,
     part: &mut Part,
 ) -> Refusal
-    ensures { λ r. ⌜ (r ≡ refusalIn (shownGiven (shownAnswer kcb (now (station .entry)) (now (seat .entry)) (now (walk .entry)) (asking (now (registers .entry)) (now (stack .entry)) asked []))))
-        × (now (part .exit) ≡ leftIn (shownGiven (shownAnswer kcb (now (station .entry)) (now (seat .entry)) (now (walk .entry)) (asking (now (registers .entry)) (now (stack .entry)) asked []))) (now (part .entry))) ⌝ }
+    ensures { λ r. ⌜ (r ≡ shownRefusal (shownAnswer kcb (stationMeant (now (station .entry))) (now (seat .entry)) (walkMeant (now (walk .entry))) (asking (now (registers .entry)) (now (stack .entry)) asked [])))
+        × (now (part .exit) ≡ shownPart (shownAnswer kcb (stationMeant (now (station .entry))) (now (seat .entry)) (walkMeant (now (walk .entry))) (asking (now (registers .entry)) (now (stack .entry)) asked []))) ⌝ }
 {
-    let given = c_calls::show(*station, seat, *walk, registers, stack, asked, *part);
+    let given = c_calls::show(*station, seat, *walk, registers, stack, asked);
     *part = given.part;
     given.refusal
 }

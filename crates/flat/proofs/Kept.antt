@@ -35,14 +35,29 @@ use Rattle.layout.proofs.Verdict.{accepted-uses}
 use Rattle.layout.proofs.Bounds.{argument-shaped}
 use Rattle.flat.specs.declared.Layout.{Layout}
 use Rattle.flat.specs.Numbers.{registerNumber, returnNumber}
+use Rattle.flat.specs.Stations.{stationMeant, flatStation, StationMeans, walkMeant, flatWalk, WalkMeans}
 use Rattle.flat.specs.Records.{slotOf, placementOf, pairOf, layoutOf}
 use Rattle.flat.specs.Meanings.{placeMeant, placementMeant, returnPlaceMeant, layoutMeant, PlacementsMean, LayoutMeans}
 use Rattle.flat.proofs.Meant.{Back, register-meant, register-low, return-meant, return-not, return-low}
 
+-- ---- the station and the walk
+
+pub station-means : StationMeans
+unfolding stationMeant flatStation
+station-means s = by (s .attached)
+  where
+    by : (b : Bool) → stationMeant (flatStation (record { attached = b; length = s .length; number = s .number })) ≡ record { attached = b; length = s .length; number = s .number }
+    by true = refl
+    by false = refl
+
+pub walk-means : WalkMeans
+unfolding walkMeant flatWalk
+walk-means w = refl
+
 -- ---- one argument
 
 place-meant : (size align : Bytes) (ty n : ℕ) (p : Place) → Inside p (size .0) n
-    → placeMeant (record { size = size; align = align; offset = slotOf p .offset; ty = ty; first = slotOf p .first; second = slotOf p .second }) ≡ p
+    → placeMeant (record { size = size; align = align; offset = slotOf p .offset; ty = ty; first = slotOf p .first; second = slotOf p .second; «reserved_1» = 0; «reserved_4» = 0 }) ≡ p
 unfolding placeMeant Inside
 place-meant size align ty n (One a) h = rw (ne-eqb (registerNumber a) 255 (λ e. omega (arith, register-low a (h .0)))) (ap One (register-meant a (h .0)))
 place-meant size align ty n (Two a b) h =
@@ -151,6 +166,8 @@ module _ (l : Whole) (n : ℕ) where
     first = pairOf p .first;
     second = pairOf p .second;
     hidden = cond b 1 0;
+    «reserved_1» = 0;
+    «reserved_4» = 0;
   }
 
   return-place-meant : (p : ReturnPlace) (b : Bool) → Sound p b → returnPlaceMeant (with p b) ≡ p

@@ -2,3 +2,4 @@ pub mod Numbers
 pub mod Records
 pub mod Meanings
 pub mod Parts
+pub mod Stations

@@ -29,6 +29,8 @@ placementOf p = record {
   ty = p .ty;
   first = slotOf (p .place) .first;
   second = slotOf (p .place) .second;
+  «reserved_1» = 0;
+  «reserved_4» = 0;
 }
 
 -- "CB_ST0 for a long double, CB_ST0 and CB_ST1 for a complex one. Both are CB_NONE for void .. and for a value in memory"
@@ -51,4 +53,6 @@ layoutOf l arguments = record {
   first = pairOf (l .returns) .first;
   second = pairOf (l .returns) .second;
   hidden = cond (l .hidden) 1 0;
+  «reserved_1» = 0;
+  «reserved_4» = 0;
 }

@@ -1,14 +1,20 @@
 // The records of the C interface (include/callbridge.h): plain numbers for what the library answers by enums, and what each number means
-// (specs/Numbers, specs/Meanings).
+// (specs/Numbers, specs/Meanings). No record has a byte that is no field: the reserved ones are written as zero and never looked at.
 pub use records::layout_of;
 pub use records::placement_of;
+pub use stations::flat_station;
+pub use stations::flat_walk;
+pub use stations::station_of;
+pub use stations::walk_of;
 
 mod records; // the flat record of one argument, and of a call as a whole
+mod stations; // the station and the walk as flat records, and back
 
 use places::Used;
 use units::Bytes;
 use units::Registers;
 ghost use mathlib.Core.Path.{_≡_};
+ghost use Rattle.flat.specs.Parts.{partOf, nowhere};
 
 // cb_classes: a number of enum cb_class for each eightbyte.
 #[repr(C)]
@@ -23,6 +29,9 @@ pub struct Part {
     pub offset: Bytes,
     pub length: Bytes,
     pub image: u8,
+    pub reserved_1: u8,
+    pub reserved_2: u16,
+    pub reserved_4: u32,
 }
 
 // cb_placement: one argument; its registers by enum cb_register, or its stack offset.
@@ -34,6 +43,8 @@ pub struct Placement {
     pub ty: u8,
     pub first: u8,
     pub second: u8,
+    pub reserved_1: u8,
+    pub reserved_4: u32,
 }
 
 // cb_layout: a call as a whole.
@@ -47,6 +58,8 @@ pub struct Layout {
     pub first: u8,
     pub second: u8,
     pub hidden: u8,
+    pub reserved_1: u8,
+    pub reserved_4: u32,
 }
 
 // cb_placed: the vector count, for al.
@@ -59,6 +72,27 @@ pub struct Placed {
 #[repr(C)]
 pub struct Gathered {
     pub hidden: u64,
+}
+
+// cb_station: 0 in `attached` is not attached, any other number is attached.
+#[repr(C)]
+pub struct Station {
+    pub length: Bytes,
+    pub number: u32,
+    pub attached: u8,
+    pub reserved_1: u8,
+    pub reserved_2: u16,
+}
+
+// cb_walk: where a walk stands.
+#[repr(C)]
+pub struct Walk {
+    pub position: usize,
+    pub general: Bytes,
+    pub vector: Bytes,
+    pub overflow: Bytes,
+    pub number: u32,
+    pub reserved_4: u32,
 }
 
 // A place in numbers.
@@ -74,9 +108,30 @@ pub struct Pair {
     pub second: u8,
 }
 
+// So many bytes from an offset on, of the description or of the image with this number.
+pub fn part_of(image: u8, offset: Bytes, length: Bytes) -> Part
+    ensures { λ r. ⌜ r ≡ partOf image offset length ⌝ }
+{
+    Part {
+        offset: offset,
+        length: length,
+        image: image,
+        reserved_1: 0,
+        reserved_2: 0,
+        reserved_4: 0,
+    }
+}
+
+// CB_NOWHERE: no part.
+pub fn nowhere() -> Part
+    ensures { λ r. ⌜ r ≡ nowhere ⌝ }
+{
+    part_of(0, Bytes(0), Bytes(0))
+}
+
 // CB_VERSION: the version of the header that has these records.
 pub fn version() -> u32
-    ensures { λ r. ⌜ r ≡ 2 ⌝ }
+    ensures { λ r. ⌜ r ≡ 3 ⌝ }
 {
-    2
+    3
 }

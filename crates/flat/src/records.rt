@@ -82,6 +82,8 @@ pub fn placement_of(argument: layout::Placement) -> Placement
         ty: argument.ty,
         first: slot.first,
         second: slot.second,
+        reserved_1: 0,
+        reserved_4: 0,
     }
 }
 
@@ -162,5 +164,7 @@ pub fn layout_of(whole: layout::Layout, arguments: usize) -> Layout
         first: pair.first,
         second: pair.second,
         hidden: hidden,
+        reserved_1: 0,
+        reserved_4: 0,
     }
 }

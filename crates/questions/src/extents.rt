@@ -8,7 +8,7 @@ ghost use mathlib.Core.Path.{_≡_};
 ghost use Rattle.questions.specs.Questions.{sizeAnswer, alignAnswer, refusalIn, extentAnswer};
 
 // The refusal that an answer carries, for a caller that passes it on.
-fn refusal_in(answer: ExtentAnswer) -> Refusal
+pub fn refusal_in(answer: ExtentAnswer) -> Refusal
     ensures { λ r. ⌜ r ≡ refusalIn answer ⌝ }
 {
     match answer {

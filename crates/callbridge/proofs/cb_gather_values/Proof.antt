@@ -1,5 +1,5 @@
--- tools/thin_walks writes this file: change the function or the tool, then run it.
--- `callbridge::cb_gather_values` meets its contract: a walk of its MIR. Each struct that is lent is copied out whole; they and the rest go on to `gather_values`, which is covered; the record that comes back is stored whole, and the borrow is closed at it.
+-- tools/thin_walks writes this file: change the function or the tool, and run it.
+-- `callbridge::cb_gather_values` meets its contract: a walk of its MIR. Each struct that is lent is copied out whole; they and the rest go on to `gather_values`; what comes back is stored whole, and the borrow is closed at it.
 -- All that the proof knows of `gather_values` is that it meets its contract. The walk reads nothing of the definitions.
 -- Assumes nothing.
 use mathlib.Core.Path.{_≡_, refl, ap}
@@ -62,6 +62,7 @@ use Rattle.callbridge.proofs.cb_gather_values as f
 use Rattle.callbridge.proofs.cb_gather_values.Statement as stated
 use Rattle.callbridge.proofs.cb_gather_values.Code as code
 
+-- what the function has of each parameter at exit
 abbrev stayed : Stays (f.ended .signature .params) (f.ended .kept)
 stayed = (stay-none-slice (0 ∷ []) tt (plain (λ _. u8)) yes, (stay-none-slice (1 ∷ []) tt (plain (λ _. u8)) yes, (stay-none-slice (2 ∷ []) tt (plain (λ _. u8)) yes, (gave-slice (3 ∷ []) tt (plain (λ _. u8)), (stay-ref (4 ∷ []) tt (plain (λ _. T-Gathered.the-row)), tt)))))
 
@@ -75,7 +76,9 @@ mach-Refusal = LL.vals T-Refusal.the-type T′-Refusal.the-laws
 abbrev Callee : {M : Type 1} (𝓤 : URA M) (H : Heap 𝓤) (A : Atoms 𝓤) (at-mem : Memory → SProp 𝓤) (run : Routine → Fun 𝓤) → Contract 𝓤
 Callee 𝓤 H A at-mem run = tripleOf 𝓤 H A g.signature (g.spec 𝓤 H A at-mem run)
 
-module _ {M : Type 1} (𝓤 : URA M) (H : Heap 𝓤) (A : Atoms 𝓤) (W : Given 𝓤 H A) (at-mem : Memory → SProp 𝓤) (run : Routine → Fun 𝓤) (κ₀ κ₁ κ₂ κ₃ κ₄ : Lft) (q₀ q₁ q₂ q₃ q₄ : Share) (d : RefT (List ℕ)) (registers : RefT (List ℕ)) (stack : RefT (List ℕ)) (values : RefT (List ℕ)) (b4 o4 : ℕ) (γ4 : GName) (gathered : Gathered) where
+module _ {M : Type 1} (𝓤 : URA M) (H : Heap 𝓤) (A : Atoms 𝓤) (W : Given 𝓤 H A) (at-mem : Memory → SProp 𝓤) (run : Routine → Fun 𝓤)
+    (κ₀ κ₁ κ₂ κ₃ κ₄ : Lft) (q₀ q₁ q₂ q₃ q₄ : Share)
+    (d : RefT (List ℕ)) (registers : RefT (List ℕ)) (stack : RefT (List ℕ)) (values : RefT (List ℕ)) (b4 o4 : ℕ) (γ4 : GName) (gathered : Gathered) where
   abbrev v0 : Val
   v0 = sliceVal (d .ptr) (length (d .now))
 
@@ -100,10 +103,10 @@ module _ {M : Type 1} (𝓤 : URA M) (H : Heap 𝓤) (A : Atoms 𝓤) (W : Given
   abbrev Post : Val → SProp 𝓤
   Post = walkOf 𝓤 H A f.ended stayed (f.clauses 𝓤 H A at-mem run) .post (((κ₀, (κ₁, (κ₂, (κ₃, (κ₄, tt))))), (q₀, (q₁, (q₂, (q₃, (q₄, tt))))), tt, a, vals), tt)
 
+  -- what the callee's triple binds outside, and that the caller has what it asks
   abbrev toks : Item 𝓤
   toks = ‵ (flft κ₀ q₀) ⊛ ‵ (flft κ₁ q₁) ⊛ ‵ (flft κ₂ q₂) ⊛ ‵ (flft κ₃ q₃) ⊛ ‵ ftrue
 
-  -- what the callee's triple binds outside, and that the caller has what it asks
   abbrev passed : List Val × (List Val × (List Val × (List Val × (List Val × Unit {0}))))
   passed = (v0 ∷ [], (v1 ∷ [], (v2 ∷ [], (v3 ∷ [], (mach-Gathered gathered, tt)))))
 
@@ -118,7 +121,10 @@ module _ {M : Type 1} (𝓤 : URA M) (H : Heap 𝓤) (A : Atoms 𝓤) (W : Given
 
   -- what the callee ensures, of its result and the last lists
   abbrev Said : GivenGathered → List ℕ → Type 0
-  Said r values′ = (r .refusal ≡ refusalIn (gatheredGiven (gatherAnswer (d .now) (registers .now) (stack .now) (length (values .now))))) × ((r .gathered ≡ leftIn (gatheredGiven (gatherAnswer (d .now) (registers .now) (stack .now) (length (values .now)))) gathered) × (values′ ≡ valuesAfter (d .now) (registers .now) (stack .now) (values .now)))
+  Said r values′ =
+      (r .refusal ≡ refusalIn (gatheredGiven (gatherAnswer (d .now) (registers .now) (stack .now) (length (values .now)))))
+      × ((r .gathered ≡ leftIn (gatheredGiven (gatherAnswer (d .now) (registers .now) (stack .now) (length (values .now)))) gathered)
+      × (values′ ≡ valuesAfter (d .now) (registers .now) (stack .now) (values .now)))
 
   abbrev Own0 : Fml
   Own0 = ShrSlice (named 0) κ₀ u8 .own d (v0 ∷ [])
@@ -129,10 +135,16 @@ module _ {M : Type 1} (𝓤 : URA M) (H : Heap 𝓤) (A : Atoms 𝓤) (W : Given
   abbrev Own2 : Fml
   Own2 = ShrSlice (named 2) κ₂ u8 .own stack (v2 ∷ [])
 
-  exits : (r : GivenGathered) (values′ : List ℕ) → Said r values′ → length values′ ≡ length (values .now) → Is T-Refusal.the-row (r .refusal) (mach-Refusal (r .refusal)) → ent 𝓤 (⋆ 𝓤 H A (‵ Own0 ∷ ‵ Own1 ∷ ‵ Own2 ∷ ‵ (finally u8 (values .name) values′) ∷ ‵ (fobs γ4 (T-Gathered.the-row .coded .code (r .gathered))) ∷ ‵ (fbor κ₄ (Body (mem T-Gathered.the-row) b4 o4 γ4)) ∷ ‵ (flft κ₀ q₀) ∷ ‵ (flft κ₁ q₁) ∷ ‵ (flft κ₂ q₂) ∷ ‵ (flft κ₃ q₃) ∷ ‵ (flft κ₄ q₄) ∷ [])) (Post (only (mach-Refusal (r .refusal))))
+  -- what the walk holds at exit
+  abbrev Left : GivenGathered → List ℕ → List (Item 𝓤)
+  Left r values′ = ‵ Own0 ∷ ‵ Own1 ∷ ‵ Own2 ∷ ‵ (finally u8 (values .name) values′) ∷ ‵ (fobs γ4 (T-Gathered.the-row .coded .code (r .gathered))) ∷ ‵ (fbor κ₄ (Body (mem T-Gathered.the-row) b4 o4 γ4)) ∷ ‵ (flft κ₀ q₀) ∷ ‵ (flft κ₁ q₁) ∷ ‵ (flft κ₂ q₂) ∷ ‵ (flft κ₃ q₃) ∷ ‵ (flft κ₄ q₄) ∷ []
+
+  exits : (r : GivenGathered) (values′ : List ℕ) → Said r values′ → length values′ ≡ length (values .now) → Is T-Refusal.the-row (r .refusal) (mach-Refusal (r .refusal))
+      → ent 𝓤 (⋆ 𝓤 H A (Left r values′)) (Post (only (mach-Refusal (r .refusal))))
   exits r values′ e l3 fits =
-      qed W (‵ Own0 ∷ ‵ Own1 ∷ ‵ Own2 ∷ ‵ (finally u8 (values .name) values′) ∷ ‵ (fobs γ4 (T-Gathered.the-row .coded .code (r .gathered))) ∷ ‵ (fbor κ₄ (Body (mem T-Gathered.the-row) b4 o4 γ4)) ∷ ‵ (flft κ₀ q₀) ∷ ‵ (flft κ₁ q₁) ∷ ‵ (flft κ₂ q₂) ∷ ‵ (flft κ₃ q₃) ∷ ‵ (flft κ₄ q₄) ∷ []) ∵
-      suffices ! _ (ends-at 𝓤 H A f.ended stayed (f.clauses 𝓤 H A at-mem run) W (((κ₀, (κ₁, (κ₂, (κ₃, (κ₄, tt))))), (q₀, (q₁, (q₂, (q₃, (q₄, tt))))), tt, a, vals), tt) (only (mach-Refusal (r .refusal))) (r .refusal) (tt, (tt, (tt, (values′, (r .gathered, tt))))) (tt, (tt, (tt, (l3, (tt, tt)))))) $ says ! e $
+      qed W (Left r values′) ∵
+      suffices ! _ (ends-at 𝓤 H A f.ended stayed (f.clauses 𝓤 H A at-mem run) W (((κ₀, (κ₁, (κ₂, (κ₃, (κ₄, tt))))), (q₀, (q₁, (q₂, (q₃, (q₄, tt))))), tt, a, vals), tt) (only (mach-Refusal (r .refusal))) (r .refusal) (tt, (tt, (tt, (values′, (r .gathered, tt))))) (tt, (tt, (tt, (l3, (tt, tt)))))) $
+      says ! e $
       -- the tokens
       nothing ! $ move ! (11 ∷ 0 ∷ []) $ join ! $ move ! (10 ∷ 0 ∷ []) $ join ! $ move ! (9 ∷ 0 ∷ []) $ join ! $ move ! (8 ∷ 0 ∷ []) $ join ! $ move ! (7 ∷ 0 ∷ []) $ join ! $
       frame ! $
@@ -144,24 +156,25 @@ module _ {M : Type 1} (𝓤 : URA M) (H : Heap 𝓤) (A : Atoms 𝓤) (W : Given
   module _ (C : Calls 𝓤 H) (Λ : Loops 𝓤 H) (fm : FmC 𝓤 H (W .laws) C) (known : Triple 𝓤 (C #c-calls·gather-values) (Callee 𝓤 H A at-mem run)) where
     goes-through : Room u8 (length (d .now)) → Room u8 (length (registers .now)) → Room u8 (length (stack .now)) → Room u8 (length (values .now)) → ent 𝓤 (onEntry 𝓤 H A f.signature (κ₀, (κ₁, (κ₂, (κ₃, (κ₄, tt))))) (q₀, (q₁, (q₂, (q₃, (q₄, tt))))) a vals) (WpFn 𝓤 H C Λ code.function (v0 ∷ v1 ∷ v2 ∷ v3 ∷ vptr b4 o4 ∷ []) Post)
     goes-through room0 room1 room2 room3 =
-        -- at entry: the tokens, and what the parameters own; then a cell for each local, and the arguments into theirs
+        -- at entry: the tokens, and what the parameters own
         qed W ((‵ (flft κ₀ q₀) ⊛ ‵ (flft κ₁ q₁) ⊛ ‵ (flft κ₂ q₂) ⊛ ‵ (flft κ₃ q₃) ⊛ ‵ (flft κ₄ q₄) ⊛ ‵ ftrue) ∷ ‵ (owns (ShrSlice (named 0) κ₀ u8 ∷ ShrSlice (named 1) κ₁ u8 ∷ ShrSlice (named 2) κ₂ u8 ∷ MutSlice (named 3) κ₃ u8 ∷ MutRef (named 4) κ₄ T-Gathered.the-row ∷ []) a vals) ∷ []) ∵ enter ! C Λ code.function (v0 ∷ v1 ∷ v2 ∷ v3 ∷ vptr b4 o4 ∷ []) _ $
-        alloc1 ! (λ l₀. alloc1 ! (λ l₁. alloc1 ! (λ l₂. alloc1 ! (λ l₃. alloc1 ! (λ l₄. alloc1 ! (λ l₅. alloc1 ! (λ l₆. alloc1 ! (λ l₇. alloc1 ! (λ l₈. alloc1 ! (λ l₉.
-        alloc0 ! $ params1 ! $
+        -- a cell for each local, and the arguments into theirs
+        alloc1 ! (λ l₀. alloc1 ! (λ l₁. alloc1 ! (λ l₂. alloc1 ! (λ l₃. alloc1 ! (λ l₄. alloc1 ! (λ l₅. alloc1 ! (λ l₆. alloc1 ! (λ l₇. alloc1 ! (λ l₈. alloc1 ! (λ l₉. alloc0 ! $
+        params1 ! $
         pass1 ! (init ! 16 refl (tt, (tt, (record { fits = room0 .0 }, tt)))) $ pass1 ! (init ! 14 refl (tt, (tt, (record { fits = room1 .0 }, tt)))) $
         pass1 ! (init ! 12 refl (tt, (tt, (record { fits = room2 .0 }, tt)))) $ pass1 ! (init ! 10 refl (tt, (tt, (record { fits = room3 .0 }, tt)))) $
         pass1 ! (init ! 8 refl (tt, tt)) $ pass0 ! $
         -- each token, and what each parameter owns
         move ! (20 ∷ []) $ split ! $ move ! (1 ∷ []) $ split ! $ move ! (1 ∷ []) $ split ! $ move ! (1 ∷ []) $ split ! $ move ! (1 ∷ []) $ split ! $ move ! (1 ∷ []) $
         move ! (26 ∷ []) $ fsplit ! $ move ! (1 ∷ []) $ fsplit ! $ move ! (1 ∷ []) $ fsplit ! $ move ! (1 ∷ []) $ fsplit ! $ move ! (1 ∷ []) $ fsplit ! $ move ! (1 ∷ []) $
-        -- `gathered` is opened, and looked into
+        -- `gathered` is opened and looked into
         move ! (1 ∷ []) $ fsplit3 ! $ drop ! $ move ! (0 ∷ 1 ∷ 8 ∷ []) $ opens ! tt T-Gathered.the-row {h = gathered} b4 o4 (λ vs.
         spelt ! T-Gathered.the-row (Is T-Gathered.the-row) (shows 𝓤 H A T-Gathered.the-row) mach-Gathered (LL.tells T-Gathered.the-type T′-Gathered.the-laws) fullShare gathered vs b4 o4 $
         move ! (1 ∷ []) $ peeks ! T-Gathered.the-row (Is T-Gathered.the-row) (shows 𝓤 H A T-Gathered.the-row) gathered (mach-Gathered gathered) (λ was4.
-        -- `values` is copied to be passed on
+        -- `values` is copied, to be passed on
         assigns ! (addr ! (from ! (fld ! refl (hop ! (look-in ! 25 (sub ! 0 refl (whole !))) (stop !))))) (from ! (stop !)) (init ! 19 refl (tt, tt)) $
         assigns ! (agg ! (and-then ! (load ! (from ! (stop !)) (look ! 19 refl)) (and-then ! (load ! (from ! (fld ! refl (stop !))) (look-in ! 25 (sub ! 1 refl (whole !)))) (no-more !)))) (from ! (stop !)) (init ! 17 refl (tt, (tt, (record { fits = room3 .0 }, tt)))) $
-        -- `gathered` is copied to be passed on
+        -- `gathered` is copied, to be passed on
         assigns ! (of-opd ! (load ! (from ! (hop ! (look ! 23 refl) (stop !))) (look-raw ! 1 refl))) (from ! (stop !)) (init ! 15 refl (LL.lawful T-Gathered.the-type T′-Gathered.the-laws 𝓤 H A W .typed gathered _ was4 .0)) $
         -- what the callee asks
         nothing ! $ owned ! T-Gathered.the-row (Is T-Gathered.the-row) (LL.makes T-Gathered.the-type T′-Gathered.the-plain 𝓤 H A) gathered (mach-Gathered gathered) was4 $ fjoin ! $
@@ -172,42 +185,50 @@ module _ {M : Type 1} (𝓤 : URA M) (H : Heap 𝓤) (A : Atoms 𝓤) (W : Given
         use2 W (raw (Callee 𝓤 H A at-mem run .pre to)) is-asked $
         -- the call
         calls-at ! fm (Callee 𝓤 H A at-mem run) known to (and-then ! (load ! (from ! (stop !)) (look ! 27 refl)) (and-then ! (load ! (from ! (stop !)) (look ! 25 refl)) (and-then ! (load ! (from ! (stop !)) (look ! 23 refl)) (and-then ! (load ! (from ! (stop !)) (look ! 13 refl)) (and-then ! (load ! (from ! (stop !)) (look ! 11 refl)) (no-more !)))))) (λ ret.
-        use1 W (later (some (λ (r : GivenGathered). (toks ⊛ ‵ (U.the-row .own r (ret ∷ []))) ⊛ raw (ensured 𝓤 H A g.ended (g.clauses 𝓤 H A at-mem run) (κ₀, (κ₁, (κ₂, (κ₃, tt)))) (d, (registers, (stack, (values, (gathered, tt))))) tt r)))) (id⊢ 𝓤 _) $ await ! tt $
-        pick ! (λ r. split ! $ move ! (1 ∷ []) $
+        use1 W (later (some (λ (r : GivenGathered). (toks ⊛ ‵ (U.the-row .own r (ret ∷ []))) ⊛ raw (ensured 𝓤 H A g.ended (g.clauses 𝓤 H A at-mem run) (κ₀, (κ₁, (κ₂, (κ₃, tt)))) (d, (registers, (stack, (values, (gathered, tt))))) tt r)))) (id⊢ 𝓤 _) $
+        await ! tt $ pick ! (λ r. split ! $ move ! (1 ∷ []) $
+        -- what the callee ensures
         use1 W (some (λ (zs : Unit {0} × (Unit {0} × (Unit {0} × (List ℕ × (Unit {0} × Unit {0}))))). ‵ (lasts g.ended (κ₀, (κ₁, (κ₂, (κ₃, tt)))) (d, (registers, (stack, (values, (gathered, tt))))) zs) ⊛ raw (fact 𝓤 (Said r (zs .1 .1 .1 .0))))) (id⊢ 𝓤 _) $
         pick ! (λ zs. split ! $ move ! (1 ∷ []) $ heard ! (Said r (zs .1 .1 .1 .0)) (λ e. fsplit ! $ move ! (1 ∷ []) $ fsplit ! $ move ! (1 ∷ []) $ fsplit ! $ move ! (1 ∷ []) $
         fsplit ! $ fsplit ! $ move ! (1 ∷ []) $ feqL ! (λ l3.
+        -- the tokens back, and what is known of the result
         move ! (5 ∷ []) $ split ! $ split ! $ move ! (1 ∷ []) $ split ! $ move ! (1 ∷ []) $ split ! $ move ! (1 ∷ []) $ split ! $ move ! (1 ∷ []) $ move ! (5 ∷ []) $
         peeks ! U.the-row (Is U.the-row) (shows 𝓤 H A U.the-row) r (ret ∷ []) (λ is.
         -- the result lands
         land ! (from ! (stop !)) (init ! 27 refl (LL.lawful U.the-type U′.the-laws 𝓤 H A W .typed r _ is .0)) $
         rewrite ! 27 (λ (u : Val). ‵ (fat fullShare U′.mir l₆ 0 u)) (ap only (LL.tells U.the-type U′.the-laws r _ is)) refl $
-        -- `gathered` is stored in
+        -- `gathered` is stored
         assigns ! (of-opd ! (load ! (from ! (fld ! refl (stop !))) (look-in ! 27 (sub ! 0 refl (whole !))))) (from ! (hop ! (look ! 29 refl) (stop !))) (store-raw ! 15 refl (LL.lawful T-Gathered.the-type T′-Gathered.the-laws 𝓤 H A W .typed (r .gathered) (mach-Gathered (r .gathered)) (LL.owed U.the-type U′.the-laws r _ is .0) .0)) $
         -- the result
         assigns ! (of-opd ! (load ! (from ! (fld ! refl (stop !))) (look-in ! 27 (sub ! 1 refl (whole !))))) (from ! (stop !)) (init ! 39 refl (LL.lawful T-Refusal.the-type T′-Refusal.the-laws 𝓤 H A W .typed (r .refusal) (mach-Refusal (r .refusal)) (LL.owed U.the-type U′.the-laws r _ is .1 .0) .0)) $
-        -- `gathered` is closed at what was stored
+        -- `gathered` is closed at what is stored
         owned ! T-Gathered.the-row (Is T-Gathered.the-row) (LL.makes T-Gathered.the-type T′-Gathered.the-plain 𝓤 H A) (r .gathered) (mach-Gathered (r .gathered)) (LL.owed U.the-type U′.the-laws r _ is .0) $
         move ! (16 ∷ 0 ∷ 17 ∷ 18 ∷ 19 ∷ []) $ closes ! tt T-Gathered.the-row (r .gathered) (mach-Gathered (r .gathered)) b4 o4 $
-        -- the return: each local is forgotten and freed
+        -- the return: the locals are forgotten and freed
         returns ! (look ! 38 refl) $ forget ! 38 refl $ forget ! 36 refl $ forget ! 34 refl $ forget ! 32 refl $ forget ! 30 refl $ forget ! 28 refl $ forget ! 26 refl $
-        forget ! 24 refl $ forget ! 22 refl $ forget ! 20 refl $
-        move ! (38 ∷ 39 ∷ []) $ free1 ! $ move ! (36 ∷ 37 ∷ []) $ free1 ! $ move ! (34 ∷ 35 ∷ []) $ free1 ! $ move ! (32 ∷ 33 ∷ []) $ free1 ! $ move ! (30 ∷ 31 ∷ []) $ free1 ! $
-        move ! (28 ∷ 29 ∷ []) $ free1 ! $ move ! (26 ∷ 27 ∷ []) $ free1 ! $ move ! (24 ∷ 25 ∷ []) $ free1 ! $ move ! (22 ∷ 23 ∷ []) $ free1 ! $ move ! (20 ∷ 21 ∷ []) $ free1 ! $
-        free0 ! $
+        forget ! 24 refl $ forget ! 22 refl $ forget ! 20 refl $ move ! (38 ∷ 39 ∷ []) $ free1 ! $ move ! (36 ∷ 37 ∷ []) $ free1 ! $ move ! (34 ∷ 35 ∷ []) $ free1 ! $
+        move ! (32 ∷ 33 ∷ []) $ free1 ! $ move ! (30 ∷ 31 ∷ []) $ free1 ! $ move ! (28 ∷ 29 ∷ []) $ free1 ! $ move ! (26 ∷ 27 ∷ []) $ free1 ! $ move ! (24 ∷ 25 ∷ []) $ free1 ! $
+        move ! (22 ∷ 23 ∷ []) $ free1 ! $ move ! (20 ∷ 21 ∷ []) $ free1 ! $ free0 ! $
+        -- the exit
         keep ! (14 ∷ 15 ∷ 16 ∷ 9 ∷ 0 ∷ 1 ∷ 8 ∷ 7 ∷ 6 ∷ 5 ∷ 2 ∷ []) $ by ! (exits r (zs .1 .1 .1 .0) e l3 (LL.owed U.the-type U′.the-laws r _ is .1 .0))))))))))))))))))))
 
 module _ {M : Type 1} (𝓤 : URA M) (H : Heap 𝓤) (A : Atoms 𝓤) (W : Given 𝓤 H A) (at-mem : Memory → SProp 𝓤) (run : Routine → Fun 𝓤) where
-  cb-gather-values-walks : (C : Calls 𝓤 H) (Λ : Loops 𝓤 H) → FmC 𝓤 H (W .laws) C → Triple 𝓤 (C #c-calls·gather-values) (Callee 𝓤 H A at-mem run) → Walks 𝓤 H A f.ended stayed (WpFn 𝓤 H C Λ code.function) (f.clauses 𝓤 H A at-mem run)
-  cb-gather-values-walks C Λ fm known = walked 𝓤 H A f.ended stayed (f.clauses 𝓤 H A at-mem run) (WpFn 𝓤 H C Λ code.function) (λ κs. (slice-vals, (slice-vals, (slice-vals, (slice-vals, (ptr-vals, tt)))))) (λ κs. (shr-slice-tells (named 0) (κs .0) u8, (shr-slice-tells (named 1) (κs .1 .0) u8, (shr-slice-tells (named 2) (κs .1 .1 .0) u8, (mut-slice-tells (named 3) (κs .1 .1 .1 .0) u8, (mut-tells (named 4) (κs .1 .1 .1 .1 .0) T-Gathered.the-row, tt))))))
+  cb-gather-values-walks : (C : Calls 𝓤 H) (Λ : Loops 𝓤 H) → FmC 𝓤 H (W .laws) C → Triple 𝓤 (C #c-calls·gather-values) (Callee 𝓤 H A at-mem run)
+      → Walks 𝓤 H A f.ended stayed (WpFn 𝓤 H C Λ code.function) (f.clauses 𝓤 H A at-mem run)
+  cb-gather-values-walks C Λ fm known = walked 𝓤 H A f.ended stayed (f.clauses 𝓤 H A at-mem run) (WpFn 𝓤 H C Λ code.function)
+      (λ κs. (slice-vals, (slice-vals, (slice-vals, (slice-vals, (ptr-vals, tt))))))
+      (λ κs. (shr-slice-tells (named 0) (κs .0) u8, (shr-slice-tells (named 1) (κs .1 .0) u8, (shr-slice-tells (named 2) (κs .1 .1 .0) u8, (mut-slice-tells (named 3) (κs .1 .1 .1 .0) u8, (mut-tells (named 4) (κs .1 .1 .1 .1 .0) T-Gathered.the-row, tt))))))
       (λ κs qs bounds a _ are. via 𝓤 _ (fst∗ 𝓤 _ (emp 𝓤)) (goes-through 𝓤 H A W at-mem run (κs .0) (κs .1 .0) (κs .1 .1 .0) (κs .1 .1 .1 .0) (κs .1 .1 .1 .1 .0) (qs .0) (qs .1 .0) (qs .1 .1 .0) (qs .1 .1 .1 .0) (qs .1 .1 .1 .1 .0) (a .0) (a .1 .0) (a .1 .1 .0) (a .1 .1 .1 .0) (a .1 .1 .1 .1 .0 .ptr .0) (a .1 .1 .1 .1 .0 .ptr .1) (a .1 .1 .1 .1 .0 .name) (a .1 .1 .1 .1 .0 .now) C Λ fm known (are .0 .0 .1) (are .1 .0 .0 .1) (are .1 .1 .0 .0 .1) (are .1 .1 .1 .0 .0 .1)))
 
   goes : AllGo 𝓤 H A W 5 (f.signature .params) (f.ended .kept) stayed
   goes = (goes-none-slice 𝓤 H A W 5 (0 ∷ []) tt (plain (λ _. u8)) yes, (goes-none-slice 𝓤 H A W 5 (1 ∷ []) tt (plain (λ _. u8)) yes, (goes-none-slice 𝓤 H A W 5 (2 ∷ []) tt (plain (λ _. u8)) yes, (goes-gave-slice 𝓤 H A W 5 3 tt (plain (λ _. u8)), (goes-ref 𝓤 H A W 5 4 tt (plain (λ _. T-Gathered.the-row)), tt)))))
 
-cb-gather-values-meets : {M : Type 1} (𝓤 : URA M) (H : Heap 𝓤) (A : Atoms 𝓤) → Given 𝓤 H A → (at-mem : Memory → SProp 𝓤) (run : Routine → Fun 𝓤) (𝓣 : Tables 𝓤 H) → Triple 𝓤 (𝓣 .C #c-calls·gather-values) (Callee 𝓤 H A at-mem run)
+cb-gather-values-meets : {M : Type 1} (𝓤 : URA M) (H : Heap 𝓤) (A : Atoms 𝓤) → Given 𝓤 H A → (at-mem : Memory → SProp 𝓤) (run : Routine → Fun 𝓤) (𝓣 : Tables 𝓤 H)
+    → Triple 𝓤 (𝓣 .C #c-calls·gather-values) (Callee 𝓤 H A at-mem run)
     → Meets 𝓤 H A f.signature (WpFn 𝓤 H (𝓣 .C) (𝓣 .Λ) code.function) (f.spec 𝓤 H A at-mem run)
-cb-gather-values-meets 𝓤 H A W at-mem run 𝓣 known = walk-meets 𝓤 H A f.ended stayed W (goes 𝓤 H A W at-mem run) (f.clauses 𝓤 H A at-mem run) (WpFn 𝓤 H (𝓣 .C) (𝓣 .Λ) code.function) (WpFn-mono 𝓤 H (W .laws) 𝓣 code.function) (cb-gather-values-walks 𝓤 H A W at-mem run (𝓣 .C) (𝓣 .Λ) (fmOf 𝓤 H (W .laws) 𝓣) known)
+cb-gather-values-meets 𝓤 H A W at-mem run 𝓣 known =
+    walk-meets 𝓤 H A f.ended stayed W (goes 𝓤 H A W at-mem run) (f.clauses 𝓤 H A at-mem run) (WpFn 𝓤 H (𝓣 .C) (𝓣 .Λ) code.function)
+    (WpFn-mono 𝓤 H (W .laws) 𝓣 code.function) (cb-gather-values-walks 𝓤 H A W at-mem run (𝓣 .C) (𝓣 .Λ) (fmOf 𝓤 H (W .laws) 𝓣) known)
 
 pub cb-gather-values-spec : {M : Type 1} → stated.statement M
 unfolding code.routine tablesOf

@@ -116,7 +116,7 @@ machE = LL.vals E.the-type E′.the-laws
 
 -- what `getD` gives past the end
 abbrev none : Placement
-none = record { size = record { 0 = 0 }; align = record { 0 = 0 }; offset = record { 0 = 0 }; ty = 0; first = 0; second = 0 }
+none = record { size = record { 0 = 0 }; align = record { 0 = 0 }; offset = record { 0 = 0 }; ty = 0; first = 0; second = 0; «reserved_1» = 0; «reserved_4» = 0 }
 
 -- the types of the locals `list`, `layout` and `d`
 abbrev listTy : Ty

@@ -1,5 +1,5 @@
--- tools/thin_walks writes this file: change the function or the tool, then run it.
--- `callbridge::cb_layout_of` meets its contract: a walk of its MIR. Each struct that is lent is copied out whole; they and the rest go on to `layout_of`, which is covered; the record that comes back is stored whole, and the borrow is closed at it.
+-- tools/thin_walks writes this file: change the function or the tool, and run it.
+-- `callbridge::cb_layout_of` meets its contract: a walk of its MIR. Each struct that is lent is copied out whole; they and the rest go on to `layout_of`; what comes back is stored whole, and the borrow is closed at it.
 -- All that the proof knows of `layout_of` is that it meets its contract. The walk reads nothing of the definitions.
 -- Assumes nothing.
 use mathlib.Core.Path.{_≡_, refl, ap}
@@ -63,6 +63,7 @@ use Rattle.callbridge.proofs.cb_layout_of as f
 use Rattle.callbridge.proofs.cb_layout_of.Statement as stated
 use Rattle.callbridge.proofs.cb_layout_of.Code as code
 
+-- what the function has of each parameter at exit
 abbrev stayed : Stays (f.ended .signature .params) (f.ended .kept)
 stayed = (stay-none-slice (0 ∷ []) tt (plain (λ _. u8)) yes, (stay-ref (1 ∷ []) tt (plain (λ _. T-Layout.the-row)), tt))
 
@@ -76,7 +77,9 @@ mach-Refusal = LL.vals T-Refusal.the-type T′-Refusal.the-laws
 abbrev Callee : {M : Type 1} (𝓤 : URA M) (H : Heap 𝓤) (A : Atoms 𝓤) (at-mem : Memory → SProp 𝓤) (run : Routine → Fun 𝓤) → Contract 𝓤
 Callee 𝓤 H A at-mem run = tripleOf 𝓤 H A g.signature (g.spec 𝓤 H A at-mem run)
 
-module _ {M : Type 1} (𝓤 : URA M) (H : Heap 𝓤) (A : Atoms 𝓤) (W : Given 𝓤 H A) (at-mem : Memory → SProp 𝓤) (run : Routine → Fun 𝓤) (κ₀ κ₁ : Lft) (q₀ q₁ : Share) (d : RefT (List ℕ)) (b1 o1 : ℕ) (γ1 : GName) (layout : Layout) where
+module _ {M : Type 1} (𝓤 : URA M) (H : Heap 𝓤) (A : Atoms 𝓤) (W : Given 𝓤 H A) (at-mem : Memory → SProp 𝓤) (run : Routine → Fun 𝓤)
+    (κ₀ κ₁ : Lft) (q₀ q₁ : Share)
+    (d : RefT (List ℕ)) (b1 o1 : ℕ) (γ1 : GName) (layout : Layout) where
   abbrev v0 : Val
   v0 = sliceVal (d .ptr) (length (d .now))
 
@@ -92,10 +95,10 @@ module _ {M : Type 1} (𝓤 : URA M) (H : Heap 𝓤) (A : Atoms 𝓤) (W : Given
   abbrev Post : Val → SProp 𝓤
   Post = walkOf 𝓤 H A f.ended stayed (f.clauses 𝓤 H A at-mem run) .post (((κ₀, (κ₁, tt)), (q₀, (q₁, tt)), tt, a, vals), tt)
 
+  -- what the callee's triple binds outside, and that the caller has what it asks
   abbrev toks : Item 𝓤
   toks = ‵ (flft κ₀ q₀) ⊛ ‵ ftrue
 
-  -- what the callee's triple binds outside, and that the caller has what it asks
   abbrev passed : List Val × (List Val × Unit {0})
   passed = (v0 ∷ [], (mach-Layout layout, tt))
 
@@ -110,15 +113,23 @@ module _ {M : Type 1} (𝓤 : URA M) (H : Heap 𝓤) (A : Atoms 𝓤) (W : Given
 
   -- what the callee ensures, of its result and the last lists
   abbrev Said : GivenLayout → Type 0
-  Said r = (r .refusal ≡ refusalIn (layoutGiven (argumentsIn (d .now)) (layoutAnswer (d .now)))) × (r .layout ≡ leftIn (layoutGiven (argumentsIn (d .now)) (layoutAnswer (d .now))) layout)
+  Said r =
+      (r .refusal ≡ refusalIn (layoutGiven (argumentsIn (d .now)) (layoutAnswer (d .now))))
+      × (r .layout ≡ leftIn (layoutGiven (argumentsIn (d .now)) (layoutAnswer (d .now))) layout)
 
   abbrev Own0 : Fml
   Own0 = ShrSlice (named 0) κ₀ u8 .own d (v0 ∷ [])
 
-  exits : (r : GivenLayout) → Said r → Is T-Refusal.the-row (r .refusal) (mach-Refusal (r .refusal)) → ent 𝓤 (⋆ 𝓤 H A (‵ Own0 ∷ ‵ (fobs γ1 (T-Layout.the-row .coded .code (r .layout))) ∷ ‵ (fbor κ₁ (Body (mem T-Layout.the-row) b1 o1 γ1)) ∷ ‵ (flft κ₀ q₀) ∷ ‵ (flft κ₁ q₁) ∷ [])) (Post (only (mach-Refusal (r .refusal))))
+  -- what the walk holds at exit
+  abbrev Left : GivenLayout → List (Item 𝓤)
+  Left r = ‵ Own0 ∷ ‵ (fobs γ1 (T-Layout.the-row .coded .code (r .layout))) ∷ ‵ (fbor κ₁ (Body (mem T-Layout.the-row) b1 o1 γ1)) ∷ ‵ (flft κ₀ q₀) ∷ ‵ (flft κ₁ q₁) ∷ []
+
+  exits : (r : GivenLayout) → Said r → Is T-Refusal.the-row (r .refusal) (mach-Refusal (r .refusal))
+      → ent 𝓤 (⋆ 𝓤 H A (Left r)) (Post (only (mach-Refusal (r .refusal))))
   exits r e fits =
-      qed W (‵ Own0 ∷ ‵ (fobs γ1 (T-Layout.the-row .coded .code (r .layout))) ∷ ‵ (fbor κ₁ (Body (mem T-Layout.the-row) b1 o1 γ1)) ∷ ‵ (flft κ₀ q₀) ∷ ‵ (flft κ₁ q₁) ∷ []) ∵
-      suffices ! _ (ends-at 𝓤 H A f.ended stayed (f.clauses 𝓤 H A at-mem run) W (((κ₀, (κ₁, tt)), (q₀, (q₁, tt)), tt, a, vals), tt) (only (mach-Refusal (r .refusal))) (r .refusal) (tt, (r .layout, tt)) (tt, (tt, tt))) $ says ! e $
+      qed W (Left r) ∵
+      suffices ! _ (ends-at 𝓤 H A f.ended stayed (f.clauses 𝓤 H A at-mem run) W (((κ₀, (κ₁, tt)), (q₀, (q₁, tt)), tt, a, vals), tt) (only (mach-Refusal (r .refusal))) (r .refusal) (tt, (r .layout, tt)) (tt, (tt, tt))) $
+      says ! e $
       -- the tokens
       nothing ! $ move ! (5 ∷ 0 ∷ []) $ join ! $ move ! (4 ∷ 0 ∷ []) $ join ! $ frame ! $
       -- what is left of the parameters, and the result
@@ -128,17 +139,18 @@ module _ {M : Type 1} (𝓤 : URA M) (H : Heap 𝓤) (A : Atoms 𝓤) (W : Given
   module _ (C : Calls 𝓤 H) (Λ : Loops 𝓤 H) (fm : FmC 𝓤 H (W .laws) C) (known : Triple 𝓤 (C #c-calls·layout-of) (Callee 𝓤 H A at-mem run)) where
     goes-through : Room u8 (length (d .now)) → ent 𝓤 (onEntry 𝓤 H A f.signature (κ₀, (κ₁, tt)) (q₀, (q₁, tt)) a vals) (WpFn 𝓤 H C Λ code.function (v0 ∷ vptr b1 o1 ∷ []) Post)
     goes-through room0 =
-        -- at entry: the tokens, and what the parameters own; then a cell for each local, and the arguments into theirs
+        -- at entry: the tokens, and what the parameters own
         qed W ((‵ (flft κ₀ q₀) ⊛ ‵ (flft κ₁ q₁) ⊛ ‵ ftrue) ∷ ‵ (owns (ShrSlice (named 0) κ₀ u8 ∷ MutRef (named 1) κ₁ T-Layout.the-row ∷ []) a vals) ∷ []) ∵ enter ! C Λ code.function (v0 ∷ vptr b1 o1 ∷ []) _ $
+        -- a cell for each local, and the arguments into theirs
         alloc1 ! (λ l₀. alloc1 ! (λ l₁. alloc1 ! (λ l₂. alloc1 ! (λ l₃. alloc1 ! (λ l₄. alloc0 ! $ params1 ! $
         pass1 ! (init ! 6 refl (tt, (tt, (record { fits = room0 .0 }, tt)))) $ pass1 ! (init ! 4 refl (tt, tt)) $ pass0 ! $
         -- each token, and what each parameter owns
         move ! (10 ∷ []) $ split ! $ move ! (1 ∷ []) $ split ! $ move ! (1 ∷ []) $ move ! (13 ∷ []) $ fsplit ! $ move ! (1 ∷ []) $ fsplit ! $ move ! (1 ∷ []) $
-        -- `layout` is opened, and looked into
+        -- `layout` is opened and looked into
         move ! (1 ∷ []) $ fsplit3 ! $ drop ! $ move ! (0 ∷ 1 ∷ 5 ∷ []) $ opens ! tt T-Layout.the-row {h = layout} b1 o1 (λ vs.
         spelt ! T-Layout.the-row (Is T-Layout.the-row) (shows 𝓤 H A T-Layout.the-row) mach-Layout (LL.tells T-Layout.the-type T′-Layout.the-laws) fullShare layout vs b1 o1 $
         move ! (1 ∷ []) $ peeks ! T-Layout.the-row (Is T-Layout.the-row) (shows 𝓤 H A T-Layout.the-row) layout (mach-Layout layout) (λ was1.
-        -- `layout` is copied to be passed on
+        -- `layout` is copied, to be passed on
         assigns ! (of-opd ! (load ! (from ! (hop ! (look ! 13 refl) (stop !))) (look-raw ! 1 refl))) (from ! (stop !)) (init ! 9 refl (LL.lawful T-Layout.the-type T′-Layout.the-laws 𝓤 H A W .typed layout _ was1 .0)) $
         -- what the callee asks
         nothing ! $ owned ! T-Layout.the-row (Is T-Layout.the-row) (LL.makes T-Layout.the-type T′-Layout.the-plain 𝓤 H A) layout (mach-Layout layout) was1 $ fjoin ! $
@@ -146,38 +158,46 @@ module _ {M : Type 1} (𝓤 : URA M) (H : Heap 𝓤) (A : Atoms 𝓤) (W : Given
         move ! (10 ∷ 0 ∷ []) $ join ! $ use2 W (raw (Callee 𝓤 H A at-mem run .pre to)) is-asked $
         -- the call
         calls-at ! fm (Callee 𝓤 H A at-mem run) known to (and-then ! (load ! (from ! (stop !)) (look ! 15 refl)) (and-then ! (load ! (from ! (stop !)) (look ! 9 refl)) (no-more !))) (λ ret.
-        use1 W (later (some (λ (r : GivenLayout). (toks ⊛ ‵ (U.the-row .own r (ret ∷ []))) ⊛ raw (ensured 𝓤 H A g.ended (g.clauses 𝓤 H A at-mem run) (κ₀, tt) (d, (layout, tt)) tt r)))) (id⊢ 𝓤 _) $ await ! tt $
-        pick ! (λ r. split ! $ move ! (1 ∷ []) $
+        use1 W (later (some (λ (r : GivenLayout). (toks ⊛ ‵ (U.the-row .own r (ret ∷ []))) ⊛ raw (ensured 𝓤 H A g.ended (g.clauses 𝓤 H A at-mem run) (κ₀, tt) (d, (layout, tt)) tt r)))) (id⊢ 𝓤 _) $
+        await ! tt $ pick ! (λ r. split ! $ move ! (1 ∷ []) $
+        -- what the callee ensures
         use1 W (some (λ (zs : Unit {0} × (Unit {0} × Unit {0})). ‵ (lasts g.ended (κ₀, tt) (d, (layout, tt)) zs) ⊛ raw (fact 𝓤 (Said r)))) (id⊢ 𝓤 _) $ pick ! (λ zs. split ! $
         move ! (1 ∷ []) $ heard ! (Said r) (λ e.
+        -- the tokens back, and what is known of the result
         move ! (1 ∷ []) $ split ! $ split ! $ move ! (1 ∷ []) $ move ! (2 ∷ []) $ peeks ! U.the-row (Is U.the-row) (shows 𝓤 H A U.the-row) r (ret ∷ []) (λ is.
         -- the result lands
         land ! (from ! (stop !)) (init ! 14 refl (LL.lawful U.the-type U′.the-laws 𝓤 H A W .typed r _ is .0)) $
         rewrite ! 14 (λ (u : Val). ‵ (fat fullShare U′.mir l₃ 0 u)) (ap only (LL.tells U.the-type U′.the-laws r _ is)) refl $
-        -- `layout` is stored in
+        -- `layout` is stored
         assigns ! (of-opd ! (load ! (from ! (fld ! refl (stop !))) (look-in ! 14 (sub ! 0 refl (whole !))))) (from ! (hop ! (look ! 16 refl) (stop !))) (store-raw ! 6 refl (LL.lawful T-Layout.the-type T′-Layout.the-laws 𝓤 H A W .typed (r .layout) (mach-Layout (r .layout)) (LL.owed U.the-type U′.the-laws r _ is .0) .0)) $
         -- the result
         assigns ! (of-opd ! (load ! (from ! (fld ! refl (stop !))) (look-in ! 14 (sub ! 1 refl (whole !))))) (from ! (stop !)) (init ! 20 refl (LL.lawful T-Refusal.the-type T′-Refusal.the-laws 𝓤 H A W .typed (r .refusal) (mach-Refusal (r .refusal)) (LL.owed U.the-type U′.the-laws r _ is .1 .0) .0)) $
-        -- `layout` is closed at what was stored
+        -- `layout` is closed at what is stored
         owned ! T-Layout.the-row (Is T-Layout.the-row) (LL.makes T-Layout.the-type T′-Layout.the-plain 𝓤 H A) (r .layout) (mach-Layout (r .layout)) (LL.owed U.the-type U′.the-laws r _ is .0) $
         move ! (7 ∷ 0 ∷ 8 ∷ 9 ∷ 10 ∷ []) $ closes ! tt T-Layout.the-row (r .layout) (mach-Layout (r .layout)) b1 o1 $
-        -- the return: each local is forgotten and freed
-        returns ! (look ! 19 refl) $ forget ! 19 refl $ forget ! 17 refl $ forget ! 15 refl $ forget ! 13 refl $ forget ! 11 refl $
-        move ! (19 ∷ 20 ∷ []) $ free1 ! $ move ! (17 ∷ 18 ∷ []) $ free1 ! $ move ! (15 ∷ 16 ∷ []) $ free1 ! $ move ! (13 ∷ 14 ∷ []) $ free1 ! $ move ! (11 ∷ 12 ∷ []) $ free1 ! $
-        free0 ! $
+        -- the return: the locals are forgotten and freed
+        returns ! (look ! 19 refl) $ forget ! 19 refl $ forget ! 17 refl $ forget ! 15 refl $ forget ! 13 refl $ forget ! 11 refl $ move ! (19 ∷ 20 ∷ []) $ free1 ! $
+        move ! (17 ∷ 18 ∷ []) $ free1 ! $ move ! (15 ∷ 16 ∷ []) $ free1 ! $ move ! (13 ∷ 14 ∷ []) $ free1 ! $ move ! (11 ∷ 12 ∷ []) $ free1 ! $ free0 ! $
+        -- the exit
         keep ! (7 ∷ 0 ∷ 1 ∷ 5 ∷ 2 ∷ []) $ by ! (exits r e (LL.owed U.the-type U′.the-laws r _ is .1 .0))))))))))))))
 
 module _ {M : Type 1} (𝓤 : URA M) (H : Heap 𝓤) (A : Atoms 𝓤) (W : Given 𝓤 H A) (at-mem : Memory → SProp 𝓤) (run : Routine → Fun 𝓤) where
-  cb-layout-of-walks : (C : Calls 𝓤 H) (Λ : Loops 𝓤 H) → FmC 𝓤 H (W .laws) C → Triple 𝓤 (C #c-calls·layout-of) (Callee 𝓤 H A at-mem run) → Walks 𝓤 H A f.ended stayed (WpFn 𝓤 H C Λ code.function) (f.clauses 𝓤 H A at-mem run)
-  cb-layout-of-walks C Λ fm known = walked 𝓤 H A f.ended stayed (f.clauses 𝓤 H A at-mem run) (WpFn 𝓤 H C Λ code.function) (λ κs. (slice-vals, (ptr-vals, tt))) (λ κs. (shr-slice-tells (named 0) (κs .0) u8, (mut-tells (named 1) (κs .1 .0) T-Layout.the-row, tt)))
+  cb-layout-of-walks : (C : Calls 𝓤 H) (Λ : Loops 𝓤 H) → FmC 𝓤 H (W .laws) C → Triple 𝓤 (C #c-calls·layout-of) (Callee 𝓤 H A at-mem run)
+      → Walks 𝓤 H A f.ended stayed (WpFn 𝓤 H C Λ code.function) (f.clauses 𝓤 H A at-mem run)
+  cb-layout-of-walks C Λ fm known = walked 𝓤 H A f.ended stayed (f.clauses 𝓤 H A at-mem run) (WpFn 𝓤 H C Λ code.function)
+      (λ κs. (slice-vals, (ptr-vals, tt)))
+      (λ κs. (shr-slice-tells (named 0) (κs .0) u8, (mut-tells (named 1) (κs .1 .0) T-Layout.the-row, tt)))
       (λ κs qs bounds a _ are. via 𝓤 _ (fst∗ 𝓤 _ (emp 𝓤)) (goes-through 𝓤 H A W at-mem run (κs .0) (κs .1 .0) (qs .0) (qs .1 .0) (a .0) (a .1 .0 .ptr .0) (a .1 .0 .ptr .1) (a .1 .0 .name) (a .1 .0 .now) C Λ fm known (are .0 .0 .1)))
 
   goes : AllGo 𝓤 H A W 2 (f.signature .params) (f.ended .kept) stayed
   goes = (goes-none-slice 𝓤 H A W 2 (0 ∷ []) tt (plain (λ _. u8)) yes, (goes-ref 𝓤 H A W 2 1 tt (plain (λ _. T-Layout.the-row)), tt))
 
-cb-layout-of-meets : {M : Type 1} (𝓤 : URA M) (H : Heap 𝓤) (A : Atoms 𝓤) → Given 𝓤 H A → (at-mem : Memory → SProp 𝓤) (run : Routine → Fun 𝓤) (𝓣 : Tables 𝓤 H) → Triple 𝓤 (𝓣 .C #c-calls·layout-of) (Callee 𝓤 H A at-mem run)
+cb-layout-of-meets : {M : Type 1} (𝓤 : URA M) (H : Heap 𝓤) (A : Atoms 𝓤) → Given 𝓤 H A → (at-mem : Memory → SProp 𝓤) (run : Routine → Fun 𝓤) (𝓣 : Tables 𝓤 H)
+    → Triple 𝓤 (𝓣 .C #c-calls·layout-of) (Callee 𝓤 H A at-mem run)
     → Meets 𝓤 H A f.signature (WpFn 𝓤 H (𝓣 .C) (𝓣 .Λ) code.function) (f.spec 𝓤 H A at-mem run)
-cb-layout-of-meets 𝓤 H A W at-mem run 𝓣 known = walk-meets 𝓤 H A f.ended stayed W (goes 𝓤 H A W at-mem run) (f.clauses 𝓤 H A at-mem run) (WpFn 𝓤 H (𝓣 .C) (𝓣 .Λ) code.function) (WpFn-mono 𝓤 H (W .laws) 𝓣 code.function) (cb-layout-of-walks 𝓤 H A W at-mem run (𝓣 .C) (𝓣 .Λ) (fmOf 𝓤 H (W .laws) 𝓣) known)
+cb-layout-of-meets 𝓤 H A W at-mem run 𝓣 known =
+    walk-meets 𝓤 H A f.ended stayed W (goes 𝓤 H A W at-mem run) (f.clauses 𝓤 H A at-mem run) (WpFn 𝓤 H (𝓣 .C) (𝓣 .Λ) code.function)
+    (WpFn-mono 𝓤 H (W .laws) 𝓣 code.function) (cb-layout-of-walks 𝓤 H A W at-mem run (𝓣 .C) (𝓣 .Λ) (fmOf 𝓤 H (W .laws) 𝓣) known)
 
 pub cb-layout-of-spec : {M : Type 1} → stated.statement M
 unfolding code.routine tablesOf

@@ -1,5 +1,5 @@
--- tools/thin_walks writes this file: change the function or the tool, then run it.
--- `callbridge::cb_open_walk` meets its contract: a walk of its MIR. Each struct that is lent is copied out whole; they and the rest go on to `open_walk`, which is covered; the record that comes back is stored whole, and the borrow is closed at it.
+-- tools/thin_walks writes this file: change the function or the tool, and run it.
+-- `callbridge::cb_open_walk` meets its contract: a walk of its MIR. Each struct that is lent is copied out whole; they and the rest go on to `open_walk`; what comes back is stored whole, and the borrow is closed at it.
 -- All that the proof knows of `open_walk` is that it meets its contract. The walk reads nothing of the definitions.
 -- Assumes nothing.
 use mathlib.Core.Path.{_≡_, refl, ap}
@@ -43,16 +43,17 @@ use denote.Triple.Walked.{says, Stays, stay-ref, stay-none-ref, stay-none-slice,
 use denote.Exit.{yes}
 use Rattle.station.specs.Paper.{kcb}
 use Rattle.walk.specs.Steps.{openAnswer}
+use Rattle.flat.specs.Stations.{stationMeant}
 use Rattle.c_calls.specs.Outcome.{refusalIn, leftIn}
 use Rattle.c_calls.specs.WalkCalls.{openGiven}
-use Rattle.station.specs.declared.Station.{Station}
-use Rattle.walk.specs.declared.Walk.{Walk}
+use Rattle.flat.specs.declared.Station.{Station}
+use Rattle.flat.specs.declared.Walk.{Walk}
 use Rattle.form.specs.declared.Refusal.{Refusal}
 use Rattle.c_calls.specs.declared.GivenWalk.{GivenWalk}
-use Rattle.station.proofs.Station as T-Station
-use Rattle.station.proofs.Station.Laws as T′-Station
-use Rattle.walk.proofs.Walk as T-Walk
-use Rattle.walk.proofs.Walk.Laws as T′-Walk
+use Rattle.flat.proofs.Station as T-Station
+use Rattle.flat.proofs.Station.Laws as T′-Station
+use Rattle.flat.proofs.Walk as T-Walk
+use Rattle.flat.proofs.Walk.Laws as T′-Walk
 use Rattle.form.proofs.Refusal as T-Refusal
 use Rattle.form.proofs.Refusal.Laws as T′-Refusal
 use Rattle.c_calls.proofs.GivenWalk as U
@@ -66,6 +67,7 @@ use Rattle.callbridge.proofs.cb_open_walk as f
 use Rattle.callbridge.proofs.cb_open_walk.Statement as stated
 use Rattle.callbridge.proofs.cb_open_walk.Code as code
 
+-- what the function has of each parameter at exit
 abbrev stayed : Stays (f.ended .signature .params) (f.ended .kept)
 stayed = (stay-none-ref (0 ∷ []) tt (plain (λ _. T-Station.the-row)) yes, (stay-none-slice (1 ∷ []) tt (plain (λ _. u8)) yes, (stay-ref (2 ∷ []) tt (plain (λ _. T-Walk.the-row)), tt)))
 
@@ -82,7 +84,9 @@ mach-Refusal = LL.vals T-Refusal.the-type T′-Refusal.the-laws
 abbrev Callee : {M : Type 1} (𝓤 : URA M) (H : Heap 𝓤) (A : Atoms 𝓤) (at-mem : Memory → SProp 𝓤) (run : Routine → Fun 𝓤) → Contract 𝓤
 Callee 𝓤 H A at-mem run = tripleOf 𝓤 H A g.signature (g.spec 𝓤 H A at-mem run)
 
-module _ {M : Type 1} (𝓤 : URA M) (H : Heap 𝓤) (A : Atoms 𝓤) (W : Given 𝓤 H A) (at-mem : Memory → SProp 𝓤) (run : Routine → Fun 𝓤) (κ₀ κ₁ κ₂ : Lft) (q₀ q₁ q₂ : Share) (b0 o0 : ℕ) (γ0 : GName) (station : Station) (seat : RefT (List ℕ)) (b2 o2 : ℕ) (γ2 : GName) (walk : Walk) where
+module _ {M : Type 1} (𝓤 : URA M) (H : Heap 𝓤) (A : Atoms 𝓤) (W : Given 𝓤 H A) (at-mem : Memory → SProp 𝓤) (run : Routine → Fun 𝓤)
+    (κ₀ κ₁ κ₂ : Lft) (q₀ q₁ q₂ : Share)
+    (b0 o0 : ℕ) (γ0 : GName) (station : Station) (seat : RefT (List ℕ)) (b2 o2 : ℕ) (γ2 : GName) (walk : Walk) where
   abbrev v1 : Val
   v1 = sliceVal (seat .ptr) (length (seat .now))
 
@@ -98,10 +102,10 @@ module _ {M : Type 1} (𝓤 : URA M) (H : Heap 𝓤) (A : Atoms 𝓤) (W : Given
   abbrev Post : Val → SProp 𝓤
   Post = walkOf 𝓤 H A f.ended stayed (f.clauses 𝓤 H A at-mem run) .post (((κ₀, (κ₁, (κ₂, tt))), (q₀, (q₁, (q₂, tt))), tt, a, vals), tt)
 
+  -- what the callee's triple binds outside, and that the caller has what it asks
   abbrev toks : Item 𝓤
   toks = ‵ (flft κ₁ q₁) ⊛ ‵ ftrue
 
-  -- what the callee's triple binds outside, and that the caller has what it asks
   abbrev passed : List Val × (List Val × (List Val × Unit {0}))
   passed = (mach-Station station, (v1 ∷ [], (mach-Walk walk, tt)))
 
@@ -116,15 +120,23 @@ module _ {M : Type 1} (𝓤 : URA M) (H : Heap 𝓤) (A : Atoms 𝓤) (W : Given
 
   -- what the callee ensures, of its result and the last lists
   abbrev Said : GivenWalk → Type 0
-  Said r = (r .refusal ≡ refusalIn (openGiven (openAnswer kcb station (seat .now)))) × (r .walk ≡ leftIn (openGiven (openAnswer kcb station (seat .now))) walk)
+  Said r =
+      (r .refusal ≡ refusalIn (openGiven (openAnswer kcb (stationMeant station) (seat .now))))
+      × (r .walk ≡ leftIn (openGiven (openAnswer kcb (stationMeant station) (seat .now))) walk)
 
   abbrev Own1 : Fml
   Own1 = ShrSlice (named 1) κ₁ u8 .own seat (v1 ∷ [])
 
-  exits : (r : GivenWalk) → Said r → Is T-Refusal.the-row (r .refusal) (mach-Refusal (r .refusal)) → ent 𝓤 (⋆ 𝓤 H A (‵ (fres γ0 (T-Station.the-row .coded .code station)) ∷ ‵ (fshr-bor κ₀ (λ sh. partAt T-Station.the-row sh station b0 o0)) ∷ ‵ Own1 ∷ ‵ (fobs γ2 (T-Walk.the-row .coded .code (r .walk))) ∷ ‵ (fbor κ₂ (Body (mem T-Walk.the-row) b2 o2 γ2)) ∷ ‵ (flft κ₀ q₀) ∷ ‵ (flft κ₁ q₁) ∷ ‵ (flft κ₂ q₂) ∷ [])) (Post (only (mach-Refusal (r .refusal))))
+  -- what the walk holds at exit
+  abbrev Left : GivenWalk → List (Item 𝓤)
+  Left r = ‵ (fres γ0 (T-Station.the-row .coded .code station)) ∷ ‵ (fshr-bor κ₀ (λ sh. partAt T-Station.the-row sh station b0 o0)) ∷ ‵ Own1 ∷ ‵ (fobs γ2 (T-Walk.the-row .coded .code (r .walk))) ∷ ‵ (fbor κ₂ (Body (mem T-Walk.the-row) b2 o2 γ2)) ∷ ‵ (flft κ₀ q₀) ∷ ‵ (flft κ₁ q₁) ∷ ‵ (flft κ₂ q₂) ∷ []
+
+  exits : (r : GivenWalk) → Said r → Is T-Refusal.the-row (r .refusal) (mach-Refusal (r .refusal))
+      → ent 𝓤 (⋆ 𝓤 H A (Left r)) (Post (only (mach-Refusal (r .refusal))))
   exits r e fits =
-      qed W (‵ (fres γ0 (T-Station.the-row .coded .code station)) ∷ ‵ (fshr-bor κ₀ (λ sh. partAt T-Station.the-row sh station b0 o0)) ∷ ‵ Own1 ∷ ‵ (fobs γ2 (T-Walk.the-row .coded .code (r .walk))) ∷ ‵ (fbor κ₂ (Body (mem T-Walk.the-row) b2 o2 γ2)) ∷ ‵ (flft κ₀ q₀) ∷ ‵ (flft κ₁ q₁) ∷ ‵ (flft κ₂ q₂) ∷ []) ∵
-      suffices ! _ (ends-at 𝓤 H A f.ended stayed (f.clauses 𝓤 H A at-mem run) W (((κ₀, (κ₁, (κ₂, tt))), (q₀, (q₁, (q₂, tt))), tt, a, vals), tt) (only (mach-Refusal (r .refusal))) (r .refusal) (tt, (tt, (r .walk, tt))) (tt, (tt, (tt, tt)))) $ says ! e $
+      qed W (Left r) ∵
+      suffices ! _ (ends-at 𝓤 H A f.ended stayed (f.clauses 𝓤 H A at-mem run) W (((κ₀, (κ₁, (κ₂, tt))), (q₀, (q₁, (q₂, tt))), tt, a, vals), tt) (only (mach-Refusal (r .refusal))) (r .refusal) (tt, (tt, (r .walk, tt))) (tt, (tt, (tt, tt)))) $
+      says ! e $
       -- the tokens
       nothing ! $ move ! (8 ∷ 0 ∷ []) $ join ! $ move ! (7 ∷ 0 ∷ []) $ join ! $ move ! (6 ∷ 0 ∷ []) $ join ! $ frame ! $
       -- what is left of the parameters, and the result
@@ -135,26 +147,27 @@ module _ {M : Type 1} (𝓤 : URA M) (H : Heap 𝓤) (A : Atoms 𝓤) (W : Given
   module _ (C : Calls 𝓤 H) (Λ : Loops 𝓤 H) (fm : FmC 𝓤 H (W .laws) C) (known : Triple 𝓤 (C #c-calls·open-walk) (Callee 𝓤 H A at-mem run)) where
     goes-through : Room u8 (length (seat .now)) → ent 𝓤 (onEntry 𝓤 H A f.signature (κ₀, (κ₁, (κ₂, tt))) (q₀, (q₁, (q₂, tt))) a vals) (WpFn 𝓤 H C Λ code.function (vptr b0 o0 ∷ v1 ∷ vptr b2 o2 ∷ []) Post)
     goes-through room1 =
-        -- at entry: the tokens, and what the parameters own; then a cell for each local, and the arguments into theirs
+        -- at entry: the tokens, and what the parameters own
         qed W ((‵ (flft κ₀ q₀) ⊛ ‵ (flft κ₁ q₁) ⊛ ‵ (flft κ₂ q₂) ⊛ ‵ ftrue) ∷ ‵ (owns (ShrRef (named 0) κ₀ T-Station.the-row ∷ ShrSlice (named 1) κ₁ u8 ∷ MutRef (named 2) κ₂ T-Walk.the-row ∷ []) a vals) ∷ []) ∵ enter ! C Λ code.function (vptr b0 o0 ∷ v1 ∷ vptr b2 o2 ∷ []) _ $
+        -- a cell for each local, and the arguments into theirs
         alloc1 ! (λ l₀. alloc1 ! (λ l₁. alloc1 ! (λ l₂. alloc1 ! (λ l₃. alloc1 ! (λ l₄. alloc1 ! (λ l₅. alloc1 ! (λ l₆. alloc0 ! $ params1 ! $
         pass1 ! (init ! 10 refl (tt, tt)) $ pass1 ! (init ! 8 refl (tt, (tt, (record { fits = room1 .0 }, tt)))) $ pass1 ! (init ! 6 refl (tt, tt)) $ pass0 ! $
         -- each token, and what each parameter owns
         move ! (14 ∷ []) $ split ! $ move ! (1 ∷ []) $ split ! $ move ! (1 ∷ []) $ split ! $ move ! (1 ∷ []) $ move ! (18 ∷ []) $ fsplit ! $ move ! (1 ∷ []) $ fsplit ! $
         move ! (1 ∷ []) $ fsplit ! $ move ! (1 ∷ []) $
-        -- `station` is opened, and looked into
+        -- `station` is opened and looked into
         move ! (3 ∷ []) $ fsplit3 ! $ drop ! $ move ! (1 ∷ 8 ∷ []) $
         looks ! tt T-Station.the-row (Is T-Station.the-row) (shows 𝓤 H A T-Station.the-row) mach-Station (LL.tells T-Station.the-type T′-Station.the-laws) (LL.copy T-Station.the-type T′-Station.the-copy 𝓤 H A W) station b0 o0 (λ s0 vs.
         spelt ! T-Station.the-row (Is T-Station.the-row) (shows 𝓤 H A T-Station.the-row) mach-Station (LL.tells T-Station.the-type T′-Station.the-laws) s0 station vs b0 o0 $
         move ! (1 ∷ []) $ peeks ! T-Station.the-row (Is T-Station.the-row) (shows 𝓤 H A T-Station.the-row) station (mach-Station station) (λ was0.
-        -- `walk` is opened, and looked into
+        -- `walk` is opened and looked into
         move ! (6 ∷ []) $ fsplit3 ! $ drop ! $ move ! (0 ∷ 1 ∷ 10 ∷ []) $ opens ! tt T-Walk.the-row {h = walk} b2 o2 (λ vs.
         spelt ! T-Walk.the-row (Is T-Walk.the-row) (shows 𝓤 H A T-Walk.the-row) mach-Walk (LL.tells T-Walk.the-type T′-Walk.the-laws) fullShare walk vs b2 o2 $ move ! (1 ∷ []) $
         peeks ! T-Walk.the-row (Is T-Walk.the-row) (shows 𝓤 H A T-Walk.the-row) walk (mach-Walk walk) (λ was2.
-        -- `station` is copied to be passed on
+        -- `station` is copied, to be passed on
         assigns ! (of-opd ! (load ! (from ! (hop ! (look ! 24 refl) (stop !))) (look-raw ! 6 refl))) (from ! (stop !)) (init ! 16 refl (LL.lawful T-Station.the-type T′-Station.the-laws 𝓤 H A W .typed station _ was0 .0)) $
         move ! (6 ∷ 5 ∷ 7 ∷ []) $ shuts ! tt T-Station.the-row s0 station (mach-Station station) b0 o0 $
-        -- `walk` is copied to be passed on
+        -- `walk` is copied, to be passed on
         assigns ! (of-opd ! (load ! (from ! (hop ! (look ! 18 refl) (stop !))) (look-raw ! 2 refl))) (from ! (stop !)) (init ! 12 refl (LL.lawful T-Walk.the-type T′-Walk.the-laws 𝓤 H A W .typed walk _ was2 .0)) $
         -- what the callee asks
         nothing ! $ owned ! T-Walk.the-row (Is T-Walk.the-row) (LL.makes T-Walk.the-type T′-Walk.the-plain 𝓤 H A) walk (mach-Walk walk) was2 $ fjoin ! $ move ! (10 ∷ []) $
@@ -163,38 +176,47 @@ module _ {M : Type 1} (𝓤 : URA M) (H : Heap 𝓤) (A : Atoms 𝓤) (W : Given
         move ! (13 ∷ 0 ∷ []) $ join ! $ use2 W (raw (Callee 𝓤 H A at-mem run .pre to)) is-asked $
         -- the call
         calls-at ! fm (Callee 𝓤 H A at-mem run) known to (and-then ! (load ! (from ! (stop !)) (look ! 14 refl)) (and-then ! (load ! (from ! (stop !)) (look ! 20 refl)) (and-then ! (load ! (from ! (stop !)) (look ! 12 refl)) (no-more !)))) (λ ret.
-        use1 W (later (some (λ (r : GivenWalk). (toks ⊛ ‵ (U.the-row .own r (ret ∷ []))) ⊛ raw (ensured 𝓤 H A g.ended (g.clauses 𝓤 H A at-mem run) (κ₁, tt) (station, (seat, (walk, tt))) tt r)))) (id⊢ 𝓤 _) $ await ! tt $
-        pick ! (λ r. split ! $ move ! (1 ∷ []) $
+        use1 W (later (some (λ (r : GivenWalk). (toks ⊛ ‵ (U.the-row .own r (ret ∷ []))) ⊛ raw (ensured 𝓤 H A g.ended (g.clauses 𝓤 H A at-mem run) (κ₁, tt) (station, (seat, (walk, tt))) tt r)))) (id⊢ 𝓤 _) $
+        await ! tt $ pick ! (λ r. split ! $ move ! (1 ∷ []) $
+        -- what the callee ensures
         use1 W (some (λ (zs : Unit {0} × (Unit {0} × (Unit {0} × Unit {0}))). ‵ (lasts g.ended (κ₁, tt) (station, (seat, (walk, tt))) zs) ⊛ raw (fact 𝓤 (Said r)))) (id⊢ 𝓤 _) $
         pick ! (λ zs. split ! $ move ! (1 ∷ []) $ heard ! (Said r) (λ e.
+        -- the tokens back, and what is known of the result
         move ! (1 ∷ []) $ split ! $ split ! $ move ! (1 ∷ []) $ move ! (2 ∷ []) $ peeks ! U.the-row (Is U.the-row) (shows 𝓤 H A U.the-row) r (ret ∷ []) (λ is.
         -- the result lands
         land ! (from ! (stop !)) (init ! 19 refl (LL.lawful U.the-type U′.the-laws 𝓤 H A W .typed r _ is .0)) $
         rewrite ! 19 (λ (u : Val). ‵ (fat fullShare U′.mir l₄ 0 u)) (ap only (LL.tells U.the-type U′.the-laws r _ is)) refl $
-        -- `walk` is stored in
+        -- `walk` is stored
         assigns ! (of-opd ! (load ! (from ! (fld ! refl (stop !))) (look-in ! 19 (sub ! 0 refl (whole !))))) (from ! (hop ! (look ! 21 refl) (stop !))) (store-raw ! 7 refl (LL.lawful T-Walk.the-type T′-Walk.the-laws 𝓤 H A W .typed (r .walk) (mach-Walk (r .walk)) (LL.owed U.the-type U′.the-laws r _ is .0) .0)) $
         -- the result
         assigns ! (of-opd ! (load ! (from ! (fld ! refl (stop !))) (look-in ! 19 (sub ! 1 refl (whole !))))) (from ! (stop !)) (init ! 27 refl (LL.lawful T-Refusal.the-type T′-Refusal.the-laws 𝓤 H A W .typed (r .refusal) (mach-Refusal (r .refusal)) (LL.owed U.the-type U′.the-laws r _ is .1 .0) .0)) $
-        -- `walk` is closed at what was stored
+        -- `walk` is closed at what is stored
         owned ! T-Walk.the-row (Is T-Walk.the-row) (LL.makes T-Walk.the-type T′-Walk.the-plain 𝓤 H A) (r .walk) (mach-Walk (r .walk)) (LL.owed U.the-type U′.the-laws r _ is .0) $
         move ! (8 ∷ 0 ∷ 9 ∷ 10 ∷ 11 ∷ []) $ closes ! tt T-Walk.the-row (r .walk) (mach-Walk (r .walk)) b2 o2 $
-        -- the return: each local is forgotten and freed
+        -- the return: the locals are forgotten and freed
         returns ! (look ! 26 refl) $ forget ! 26 refl $ forget ! 24 refl $ forget ! 22 refl $ forget ! 20 refl $ forget ! 18 refl $ forget ! 16 refl $ forget ! 14 refl $
         move ! (26 ∷ 27 ∷ []) $ free1 ! $ move ! (24 ∷ 25 ∷ []) $ free1 ! $ move ! (22 ∷ 23 ∷ []) $ free1 ! $ move ! (20 ∷ 21 ∷ []) $ free1 ! $ move ! (18 ∷ 19 ∷ []) $ free1 ! $
         move ! (16 ∷ 17 ∷ []) $ free1 ! $ move ! (14 ∷ 15 ∷ []) $ free1 ! $ free0 ! $
+        -- the exit
         keep ! (11 ∷ 10 ∷ 7 ∷ 0 ∷ 1 ∷ 8 ∷ 5 ∷ 2 ∷ []) $ by ! (exits r e (LL.owed U.the-type U′.the-laws r _ is .1 .0))))))))))))))))))
 
 module _ {M : Type 1} (𝓤 : URA M) (H : Heap 𝓤) (A : Atoms 𝓤) (W : Given 𝓤 H A) (at-mem : Memory → SProp 𝓤) (run : Routine → Fun 𝓤) where
-  cb-open-walk-walks : (C : Calls 𝓤 H) (Λ : Loops 𝓤 H) → FmC 𝓤 H (W .laws) C → Triple 𝓤 (C #c-calls·open-walk) (Callee 𝓤 H A at-mem run) → Walks 𝓤 H A f.ended stayed (WpFn 𝓤 H C Λ code.function) (f.clauses 𝓤 H A at-mem run)
-  cb-open-walk-walks C Λ fm known = walked 𝓤 H A f.ended stayed (f.clauses 𝓤 H A at-mem run) (WpFn 𝓤 H C Λ code.function) (λ κs. (ptr-vals, (slice-vals, (ptr-vals, tt)))) (λ κs. (shr-tells (named 0) (κs .0) T-Station.the-row, (shr-slice-tells (named 1) (κs .1 .0) u8, (mut-tells (named 2) (κs .1 .1 .0) T-Walk.the-row, tt))))
+  cb-open-walk-walks : (C : Calls 𝓤 H) (Λ : Loops 𝓤 H) → FmC 𝓤 H (W .laws) C → Triple 𝓤 (C #c-calls·open-walk) (Callee 𝓤 H A at-mem run)
+      → Walks 𝓤 H A f.ended stayed (WpFn 𝓤 H C Λ code.function) (f.clauses 𝓤 H A at-mem run)
+  cb-open-walk-walks C Λ fm known = walked 𝓤 H A f.ended stayed (f.clauses 𝓤 H A at-mem run) (WpFn 𝓤 H C Λ code.function)
+      (λ κs. (ptr-vals, (slice-vals, (ptr-vals, tt))))
+      (λ κs. (shr-tells (named 0) (κs .0) T-Station.the-row, (shr-slice-tells (named 1) (κs .1 .0) u8, (mut-tells (named 2) (κs .1 .1 .0) T-Walk.the-row, tt))))
       (λ κs qs bounds a _ are. via 𝓤 _ (fst∗ 𝓤 _ (emp 𝓤)) (goes-through 𝓤 H A W at-mem run (κs .0) (κs .1 .0) (κs .1 .1 .0) (qs .0) (qs .1 .0) (qs .1 .1 .0) (a .0 .ptr .0) (a .0 .ptr .1) (a .0 .name) (a .0 .now) (a .1 .0) (a .1 .1 .0 .ptr .0) (a .1 .1 .0 .ptr .1) (a .1 .1 .0 .name) (a .1 .1 .0 .now) C Λ fm known (are .1 .0 .0 .1)))
 
   goes : AllGo 𝓤 H A W 3 (f.signature .params) (f.ended .kept) stayed
   goes = (goes-none-ref 𝓤 H A W 3 (0 ∷ []) tt (plain (λ _. T-Station.the-row)) yes, (goes-none-slice 𝓤 H A W 3 (1 ∷ []) tt (plain (λ _. u8)) yes, (goes-ref 𝓤 H A W 3 2 tt (plain (λ _. T-Walk.the-row)), tt)))
 
-cb-open-walk-meets : {M : Type 1} (𝓤 : URA M) (H : Heap 𝓤) (A : Atoms 𝓤) → Given 𝓤 H A → (at-mem : Memory → SProp 𝓤) (run : Routine → Fun 𝓤) (𝓣 : Tables 𝓤 H) → Triple 𝓤 (𝓣 .C #c-calls·open-walk) (Callee 𝓤 H A at-mem run)
+cb-open-walk-meets : {M : Type 1} (𝓤 : URA M) (H : Heap 𝓤) (A : Atoms 𝓤) → Given 𝓤 H A → (at-mem : Memory → SProp 𝓤) (run : Routine → Fun 𝓤) (𝓣 : Tables 𝓤 H)
+    → Triple 𝓤 (𝓣 .C #c-calls·open-walk) (Callee 𝓤 H A at-mem run)
     → Meets 𝓤 H A f.signature (WpFn 𝓤 H (𝓣 .C) (𝓣 .Λ) code.function) (f.spec 𝓤 H A at-mem run)
-cb-open-walk-meets 𝓤 H A W at-mem run 𝓣 known = walk-meets 𝓤 H A f.ended stayed W (goes 𝓤 H A W at-mem run) (f.clauses 𝓤 H A at-mem run) (WpFn 𝓤 H (𝓣 .C) (𝓣 .Λ) code.function) (WpFn-mono 𝓤 H (W .laws) 𝓣 code.function) (cb-open-walk-walks 𝓤 H A W at-mem run (𝓣 .C) (𝓣 .Λ) (fmOf 𝓤 H (W .laws) 𝓣) known)
+cb-open-walk-meets 𝓤 H A W at-mem run 𝓣 known =
+    walk-meets 𝓤 H A f.ended stayed W (goes 𝓤 H A W at-mem run) (f.clauses 𝓤 H A at-mem run) (WpFn 𝓤 H (𝓣 .C) (𝓣 .Λ) code.function)
+    (WpFn-mono 𝓤 H (W .laws) 𝓣 code.function) (cb-open-walk-walks 𝓤 H A W at-mem run (𝓣 .C) (𝓣 .Λ) (fmOf 𝓤 H (W .laws) 𝓣) known)
 
 pub cb-open-walk-spec : {M : Type 1} → stated.statement M
 unfolding code.routine tablesOf

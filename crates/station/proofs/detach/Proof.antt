@@ -1,5 +1,5 @@
--- tools/thin_walks writes this file: change the function or the tool, then run it.
--- `station::detach` meets its contract: a walk of its MIR. Each struct that is lent is copied out whole; they and the rest go on to `detach_by_value`, which is covered; the record that comes back is stored whole, and the borrow is closed at it.
+-- tools/thin_walks writes this file: change the function or the tool, and run it.
+-- `station::detach` meets its contract: a walk of its MIR. Each struct that is lent is copied out whole; they and the rest go on to `detach_by_value`; what comes back is stored whole, and the borrow is closed at it.
 -- All that the proof knows of `detach_by_value` is that it meets its contract. The walk reads nothing of the definitions.
 -- Assumes nothing.
 use mathlib.Core.Path.{_≡_, refl, ap}
@@ -60,6 +60,7 @@ use Rattle.station.proofs.detach as f
 use Rattle.station.proofs.detach.Statement as stated
 use Rattle.station.proofs.detach.Code as code
 
+-- what the function has of each parameter at exit
 abbrev stayed : Stays (f.ended .signature .params) (f.ended .kept)
 stayed = (stay-ref (0 ∷ []) tt (plain (λ _. T-Station.the-row)), (gave-slice (1 ∷ []) tt (plain (λ _. u8)), tt))
 
@@ -73,7 +74,9 @@ mach-Refusal = LL.vals T-Refusal.the-type T′-Refusal.the-laws
 abbrev Callee : {M : Type 1} (𝓤 : URA M) (H : Heap 𝓤) (A : Atoms 𝓤) (at-mem : Memory → SProp 𝓤) (run : Routine → Fun 𝓤) → Contract 𝓤
 Callee 𝓤 H A at-mem run = tripleOf 𝓤 H A g.signature (g.spec 𝓤 H A at-mem run)
 
-module _ {M : Type 1} (𝓤 : URA M) (H : Heap 𝓤) (A : Atoms 𝓤) (W : Given 𝓤 H A) (at-mem : Memory → SProp 𝓤) (run : Routine → Fun 𝓤) (κ₀ κ₁ : Lft) (q₀ q₁ : Share) (b0 o0 : ℕ) (γ0 : GName) (station : Station) (seat : RefT (List ℕ)) where
+module _ {M : Type 1} (𝓤 : URA M) (H : Heap 𝓤) (A : Atoms 𝓤) (W : Given 𝓤 H A) (at-mem : Memory → SProp 𝓤) (run : Routine → Fun 𝓤)
+    (κ₀ κ₁ : Lft) (q₀ q₁ : Share)
+    (b0 o0 : ℕ) (γ0 : GName) (station : Station) (seat : RefT (List ℕ)) where
   abbrev v1 : Val
   v1 = sliceVal (seat .ptr) (length (seat .now))
 
@@ -89,10 +92,10 @@ module _ {M : Type 1} (𝓤 : URA M) (H : Heap 𝓤) (A : Atoms 𝓤) (W : Given
   abbrev Post : Val → SProp 𝓤
   Post = walkOf 𝓤 H A f.ended stayed (f.clauses 𝓤 H A at-mem run) .post (((κ₀, (κ₁, tt)), (q₀, (q₁, tt)), tt, a, vals), tt)
 
+  -- what the callee's triple binds outside, and that the caller has what it asks
   abbrev toks : Item 𝓤
   toks = ‵ (flft κ₁ q₁) ⊛ ‵ ftrue
 
-  -- what the callee's triple binds outside, and that the caller has what it asks
   abbrev passed : List Val × (List Val × Unit {0})
   passed = (mach-Station station, (v1 ∷ [], tt))
 
@@ -107,12 +110,21 @@ module _ {M : Type 1} (𝓤 : URA M) (H : Heap 𝓤) (A : Atoms 𝓤) (W : Given
 
   -- what the callee ensures, of its result and the last lists
   abbrev Said : Detached → List ℕ → Type 0
-  Said r seat′ = (r .refusal ≡ refusalOf (detachRefusal station (seat .now))) × (r .station ≡ detachStation station (seat .now)) × (seat′ ≡ detachSeat station (seat .now))
+  Said r seat′ =
+      (r .refusal ≡ refusalOf (detachRefusal station (seat .now)))
+      × (r .station ≡ detachStation station (seat .now))
+      × (seat′ ≡ detachSeat station (seat .now))
 
-  exits : (r : Detached) (seat′ : List ℕ) → Said r seat′ → length seat′ ≡ length (seat .now) → Is T-Refusal.the-row (r .refusal) (mach-Refusal (r .refusal)) → ent 𝓤 (⋆ 𝓤 H A (‵ (fobs γ0 (T-Station.the-row .coded .code (r .station))) ∷ ‵ (fbor κ₀ (Body (mem T-Station.the-row) b0 o0 γ0)) ∷ ‵ (finally u8 (seat .name) seat′) ∷ ‵ (flft κ₀ q₀) ∷ ‵ (flft κ₁ q₁) ∷ [])) (Post (only (mach-Refusal (r .refusal))))
+  -- what the walk holds at exit
+  abbrev Left : Detached → List ℕ → List (Item 𝓤)
+  Left r seat′ = ‵ (fobs γ0 (T-Station.the-row .coded .code (r .station))) ∷ ‵ (fbor κ₀ (Body (mem T-Station.the-row) b0 o0 γ0)) ∷ ‵ (finally u8 (seat .name) seat′) ∷ ‵ (flft κ₀ q₀) ∷ ‵ (flft κ₁ q₁) ∷ []
+
+  exits : (r : Detached) (seat′ : List ℕ) → Said r seat′ → length seat′ ≡ length (seat .now) → Is T-Refusal.the-row (r .refusal) (mach-Refusal (r .refusal))
+      → ent 𝓤 (⋆ 𝓤 H A (Left r seat′)) (Post (only (mach-Refusal (r .refusal))))
   exits r seat′ e l1 fits =
-      qed W (‵ (fobs γ0 (T-Station.the-row .coded .code (r .station))) ∷ ‵ (fbor κ₀ (Body (mem T-Station.the-row) b0 o0 γ0)) ∷ ‵ (finally u8 (seat .name) seat′) ∷ ‵ (flft κ₀ q₀) ∷ ‵ (flft κ₁ q₁) ∷ []) ∵
-      suffices ! _ (ends-at 𝓤 H A f.ended stayed (f.clauses 𝓤 H A at-mem run) W (((κ₀, (κ₁, tt)), (q₀, (q₁, tt)), tt, a, vals), tt) (only (mach-Refusal (r .refusal))) (r .refusal) (r .station, (seat′, tt)) (tt, (l1, tt))) $ says ! e $
+      qed W (Left r seat′) ∵
+      suffices ! _ (ends-at 𝓤 H A f.ended stayed (f.clauses 𝓤 H A at-mem run) W (((κ₀, (κ₁, tt)), (q₀, (q₁, tt)), tt, a, vals), tt) (only (mach-Refusal (r .refusal))) (r .refusal) (r .station, (seat′, tt)) (tt, (l1, tt))) $
+      says ! e $
       -- the tokens
       nothing ! $ move ! (5 ∷ 0 ∷ []) $ join ! $ move ! (4 ∷ 0 ∷ []) $ join ! $ frame ! $
       -- what is left of the parameters, and the result
@@ -122,19 +134,20 @@ module _ {M : Type 1} (𝓤 : URA M) (H : Heap 𝓤) (A : Atoms 𝓤) (W : Given
   module _ (C : Calls 𝓤 H) (Λ : Loops 𝓤 H) (fm : FmC 𝓤 H (W .laws) C) (known : Triple 𝓤 (C #station·detach-by-value) (Callee 𝓤 H A at-mem run)) where
     goes-through : Room u8 (length (seat .now)) → ent 𝓤 (onEntry 𝓤 H A f.signature (κ₀, (κ₁, tt)) (q₀, (q₁, tt)) a vals) (WpFn 𝓤 H C Λ code.function (vptr b0 o0 ∷ v1 ∷ []) Post)
     goes-through room1 =
-        -- at entry: the tokens, and what the parameters own; then a cell for each local, and the arguments into theirs
+        -- at entry: the tokens, and what the parameters own
         qed W ((‵ (flft κ₀ q₀) ⊛ ‵ (flft κ₁ q₁) ⊛ ‵ ftrue) ∷ ‵ (owns (MutRef (named 0) κ₀ T-Station.the-row ∷ MutSlice (named 1) κ₁ u8 ∷ []) a vals) ∷ []) ∵ enter ! C Λ code.function (vptr b0 o0 ∷ v1 ∷ []) _ $
+        -- a cell for each local, and the arguments into theirs
         alloc1 ! (λ l₀. alloc1 ! (λ l₁. alloc1 ! (λ l₂. alloc1 ! (λ l₃. alloc1 ! (λ l₄. alloc1 ! (λ l₅. alloc1 ! (λ l₆. alloc0 ! $ params1 ! $
         pass1 ! (init ! 10 refl (tt, tt)) $ pass1 ! (init ! 8 refl (tt, (tt, (record { fits = room1 .0 }, tt)))) $ pass0 ! $
         -- each token, and what each parameter owns
         move ! (14 ∷ []) $ split ! $ move ! (1 ∷ []) $ split ! $ move ! (1 ∷ []) $ move ! (17 ∷ []) $ fsplit ! $ move ! (1 ∷ []) $ fsplit ! $ move ! (1 ∷ []) $
-        -- `station` is opened, and looked into
+        -- `station` is opened and looked into
         move ! (2 ∷ []) $ fsplit3 ! $ drop ! $ move ! (0 ∷ 1 ∷ 6 ∷ []) $ opens ! tt T-Station.the-row {h = station} b0 o0 (λ vs.
         spelt ! T-Station.the-row (Is T-Station.the-row) (shows 𝓤 H A T-Station.the-row) mach-Station (LL.tells T-Station.the-type T′-Station.the-laws) fullShare station vs b0 o0 $
         move ! (1 ∷ []) $ peeks ! T-Station.the-row (Is T-Station.the-row) (shows 𝓤 H A T-Station.the-row) station (mach-Station station) (λ was0.
-        -- `station` is copied to be passed on
+        -- `station` is copied, to be passed on
         assigns ! (of-opd ! (load ! (from ! (hop ! (look ! 19 refl) (stop !))) (look-raw ! 1 refl))) (from ! (stop !)) (init ! 13 refl (LL.lawful T-Station.the-type T′-Station.the-laws 𝓤 H A W .typed station _ was0 .0)) $
-        -- `seat` is copied to be passed on
+        -- `seat` is copied, to be passed on
         assigns ! (addr ! (from ! (fld ! refl (hop ! (look-in ! 17 (sub ! 0 refl (whole !))) (stop !))))) (from ! (stop !)) (init ! 11 refl (tt, tt)) $
         assigns ! (agg ! (and-then ! (load ! (from ! (stop !)) (look ! 11 refl)) (and-then ! (load ! (from ! (fld ! refl (stop !))) (look-in ! 17 (sub ! 1 refl (whole !)))) (no-more !)))) (from ! (stop !)) (init ! 9 refl (tt, (tt, (record { fits = room1 .0 }, tt)))) $
         -- what the callee asks
@@ -143,38 +156,47 @@ module _ {M : Type 1} (𝓤 : URA M) (H : Heap 𝓤) (A : Atoms 𝓤) (W : Given
         move ! (9 ∷ 0 ∷ []) $ join ! $ use2 W (raw (Callee 𝓤 H A at-mem run .pre to)) is-asked $
         -- the call
         calls-at ! fm (Callee 𝓤 H A at-mem run) known to (and-then ! (load ! (from ! (stop !)) (look ! 12 refl)) (and-then ! (load ! (from ! (stop !)) (look ! 8 refl)) (no-more !))) (λ ret.
-        use1 W (later (some (λ (r : Detached). (toks ⊛ ‵ (U.the-row .own r (ret ∷ []))) ⊛ raw (ensured 𝓤 H A g.ended (g.clauses 𝓤 H A at-mem run) (κ₁, tt) (station, (seat, tt)) tt r)))) (id⊢ 𝓤 _) $ await ! tt $
-        pick ! (λ r. split ! $ move ! (1 ∷ []) $
+        use1 W (later (some (λ (r : Detached). (toks ⊛ ‵ (U.the-row .own r (ret ∷ []))) ⊛ raw (ensured 𝓤 H A g.ended (g.clauses 𝓤 H A at-mem run) (κ₁, tt) (station, (seat, tt)) tt r)))) (id⊢ 𝓤 _) $
+        await ! tt $ pick ! (λ r. split ! $ move ! (1 ∷ []) $
+        -- what the callee ensures
         use1 W (some (λ (zs : Unit {0} × (List ℕ × Unit {0})). ‵ (lasts g.ended (κ₁, tt) (station, (seat, tt)) zs) ⊛ raw (fact 𝓤 (Said r (zs .1 .0))))) (id⊢ 𝓤 _) $ pick ! (λ zs.
         split ! $ move ! (1 ∷ []) $ heard ! (Said r (zs .1 .0)) (λ e. fsplit ! $ move ! (1 ∷ []) $ fsplit ! $ fsplit ! $ move ! (1 ∷ []) $ feqL ! (λ l1.
+        -- the tokens back, and what is known of the result
         move ! (3 ∷ []) $ split ! $ split ! $ move ! (1 ∷ []) $ move ! (2 ∷ []) $ peeks ! U.the-row (Is U.the-row) (shows 𝓤 H A U.the-row) r (ret ∷ []) (λ is.
         -- the result lands
         land ! (from ! (stop !)) (init ! 19 refl (LL.lawful U.the-type U′.the-laws 𝓤 H A W .typed r _ is .0)) $
         rewrite ! 19 (λ (u : Val). ‵ (fat fullShare U′.mir l₃ 0 u)) (ap only (LL.tells U.the-type U′.the-laws r _ is)) refl $
-        -- `station` is stored in
+        -- `station` is stored
         assigns ! (of-opd ! (load ! (from ! (fld ! refl (stop !))) (look-in ! 19 (sub ! 0 refl (whole !))))) (from ! (hop ! (look ! 23 refl) (stop !))) (store-raw ! 7 refl (LL.lawful T-Station.the-type T′-Station.the-laws 𝓤 H A W .typed (r .station) (mach-Station (r .station)) (LL.owed U.the-type U′.the-laws r _ is .0) .0)) $
         -- the result
         assigns ! (of-opd ! (load ! (from ! (fld ! refl (stop !))) (look-in ! 19 (sub ! 1 refl (whole !))))) (from ! (stop !)) (init ! 25 refl (LL.lawful T-Refusal.the-type T′-Refusal.the-laws 𝓤 H A W .typed (r .refusal) (mach-Refusal (r .refusal)) (LL.owed U.the-type U′.the-laws r _ is .1 .0) .0)) $
-        -- `station` is closed at what was stored
+        -- `station` is closed at what is stored
         owned ! T-Station.the-row (Is T-Station.the-row) (LL.makes T-Station.the-type T′-Station.the-plain 𝓤 H A) (r .station) (mach-Station (r .station)) (LL.owed U.the-type U′.the-laws r _ is .0) $
         move ! (8 ∷ 0 ∷ 9 ∷ 10 ∷ 11 ∷ []) $ closes ! tt T-Station.the-row (r .station) (mach-Station (r .station)) b0 o0 $
-        -- the return: each local is forgotten and freed
+        -- the return: the locals are forgotten and freed
         returns ! (look ! 24 refl) $ forget ! 24 refl $ forget ! 22 refl $ forget ! 20 refl $ forget ! 18 refl $ forget ! 16 refl $ forget ! 14 refl $ forget ! 12 refl $
         move ! (24 ∷ 25 ∷ []) $ free1 ! $ move ! (22 ∷ 23 ∷ []) $ free1 ! $ move ! (20 ∷ 21 ∷ []) $ free1 ! $ move ! (18 ∷ 19 ∷ []) $ free1 ! $ move ! (16 ∷ 17 ∷ []) $ free1 ! $
         move ! (14 ∷ 15 ∷ []) $ free1 ! $ move ! (12 ∷ 13 ∷ []) $ free1 ! $ free0 ! $
+        -- the exit
         keep ! (0 ∷ 1 ∷ 6 ∷ 2 ∷ 5 ∷ []) $ by ! (exits r (zs .1 .0) e l1 (LL.owed U.the-type U′.the-laws r _ is .1 .0)))))))))))))))))
 
 module _ {M : Type 1} (𝓤 : URA M) (H : Heap 𝓤) (A : Atoms 𝓤) (W : Given 𝓤 H A) (at-mem : Memory → SProp 𝓤) (run : Routine → Fun 𝓤) where
-  detach-walks : (C : Calls 𝓤 H) (Λ : Loops 𝓤 H) → FmC 𝓤 H (W .laws) C → Triple 𝓤 (C #station·detach-by-value) (Callee 𝓤 H A at-mem run) → Walks 𝓤 H A f.ended stayed (WpFn 𝓤 H C Λ code.function) (f.clauses 𝓤 H A at-mem run)
-  detach-walks C Λ fm known = walked 𝓤 H A f.ended stayed (f.clauses 𝓤 H A at-mem run) (WpFn 𝓤 H C Λ code.function) (λ κs. (ptr-vals, (slice-vals, tt))) (λ κs. (mut-tells (named 0) (κs .0) T-Station.the-row, (mut-slice-tells (named 1) (κs .1 .0) u8, tt)))
+  detach-walks : (C : Calls 𝓤 H) (Λ : Loops 𝓤 H) → FmC 𝓤 H (W .laws) C → Triple 𝓤 (C #station·detach-by-value) (Callee 𝓤 H A at-mem run)
+      → Walks 𝓤 H A f.ended stayed (WpFn 𝓤 H C Λ code.function) (f.clauses 𝓤 H A at-mem run)
+  detach-walks C Λ fm known = walked 𝓤 H A f.ended stayed (f.clauses 𝓤 H A at-mem run) (WpFn 𝓤 H C Λ code.function)
+      (λ κs. (ptr-vals, (slice-vals, tt)))
+      (λ κs. (mut-tells (named 0) (κs .0) T-Station.the-row, (mut-slice-tells (named 1) (κs .1 .0) u8, tt)))
       (λ κs qs bounds a _ are. via 𝓤 _ (fst∗ 𝓤 _ (emp 𝓤)) (goes-through 𝓤 H A W at-mem run (κs .0) (κs .1 .0) (qs .0) (qs .1 .0) (a .0 .ptr .0) (a .0 .ptr .1) (a .0 .name) (a .0 .now) (a .1 .0) C Λ fm known (are .1 .0 .0 .1)))
 
   goes : AllGo 𝓤 H A W 2 (f.signature .params) (f.ended .kept) stayed
   goes = (goes-ref 𝓤 H A W 2 0 tt (plain (λ _. T-Station.the-row)), (goes-gave-slice 𝓤 H A W 2 1 tt (plain (λ _. u8)), tt))
 
-detach-meets : {M : Type 1} (𝓤 : URA M) (H : Heap 𝓤) (A : Atoms 𝓤) → Given 𝓤 H A → (at-mem : Memory → SProp 𝓤) (run : Routine → Fun 𝓤) (𝓣 : Tables 𝓤 H) → Triple 𝓤 (𝓣 .C #station·detach-by-value) (Callee 𝓤 H A at-mem run)
+detach-meets : {M : Type 1} (𝓤 : URA M) (H : Heap 𝓤) (A : Atoms 𝓤) → Given 𝓤 H A → (at-mem : Memory → SProp 𝓤) (run : Routine → Fun 𝓤) (𝓣 : Tables 𝓤 H)
+    → Triple 𝓤 (𝓣 .C #station·detach-by-value) (Callee 𝓤 H A at-mem run)
     → Meets 𝓤 H A f.signature (WpFn 𝓤 H (𝓣 .C) (𝓣 .Λ) code.function) (f.spec 𝓤 H A at-mem run)
-detach-meets 𝓤 H A W at-mem run 𝓣 known = walk-meets 𝓤 H A f.ended stayed W (goes 𝓤 H A W at-mem run) (f.clauses 𝓤 H A at-mem run) (WpFn 𝓤 H (𝓣 .C) (𝓣 .Λ) code.function) (WpFn-mono 𝓤 H (W .laws) 𝓣 code.function) (detach-walks 𝓤 H A W at-mem run (𝓣 .C) (𝓣 .Λ) (fmOf 𝓤 H (W .laws) 𝓣) known)
+detach-meets 𝓤 H A W at-mem run 𝓣 known =
+    walk-meets 𝓤 H A f.ended stayed W (goes 𝓤 H A W at-mem run) (f.clauses 𝓤 H A at-mem run) (WpFn 𝓤 H (𝓣 .C) (𝓣 .Λ) code.function)
+    (WpFn-mono 𝓤 H (W .laws) 𝓣 code.function) (detach-walks 𝓤 H A W at-mem run (𝓣 .C) (𝓣 .Λ) (fmOf 𝓤 H (W .laws) 𝓣) known)
 
 pub detach-spec : {M : Type 1} → stated.statement M
 unfolding code.routine tablesOf

@@ -1,5 +1,6 @@
--- By the answer; the values are those of `gather_values`.
+-- By the answer.
 -- Assumes nothing.
+use mathlib.Core.Path.{refl, sym, _∙_}
 use borrow.Author.Needs.{needs}
 use Rattle.c_calls.proofs.moving_calls.gather_values.Statement.{statement}
 use Rattle.c_calls.proofs.moving_calls.gather_values.Tie as tie
@@ -7,14 +8,36 @@ use Rattle.c_calls.proofs.moving_calls.gather_values.Tie as tie
 gather-values-requires : tie.Need-gather-values-requires
 gather-values-requires c κs = search needs
 
-gathered-given-requires : tie.Need-gathered-given-requires
-gathered-given-requires c κs = search needs
+enum-known-answer : tie.Need-enum-known-answer
+enum-known-answer c = search needs
+
+refusal-of-requires : tie.Need-refusal-of-requires
+refusal-of-requires c κs = search needs
+
+enum-known-answer-2 : tie.Need-enum-known-answer-2
+enum-known-answer-2 c = search needs
 
 same-length : tie.Need-same-length
 same-length c = search needs
 
 returns : tie.Need-returns
-returns c = (rw (← c .before .before .before .gather-values .ensures .0) (c .gathered-given .ensures .0), (rw (← c .before .before .before .gather-values .ensures .0) (c .gathered-given .ensures .1), c .before .before .before .gather-values .ensures .1))
+returns c = rw (sym (c .before .before .before .before .before .before .gather-values .ensures .0) ∙ c .before .before .answer .given .1) (c .refusal-of .ensures, (refl, c .before .before .before .before .before .before .gather-values .ensures .1))
+
+same-length-2 : tie.Need-same-length-2
+same-length-2 c = search needs
+
+returns-2 : tie.Need-returns-2
+returns-2 c = rw (sym (c .before .before .before .before .before .gather-values .ensures .0) ∙ c .before .answer2 .given .1) (refl, (refl, c .before .before .before .before .before .gather-values .ensures .1))
 
 pub gather-values-spec : {M : Type 1} → statement M
-gather-values-spec = tie.close (tie.spec gather-values-requires gathered-given-requires same-length returns)
+gather-values-spec =
+    tie.close
+    (tie.spec
+    gather-values-requires
+    enum-known-answer
+    refusal-of-requires
+    enum-known-answer-2
+    same-length
+    returns
+    same-length-2
+    returns-2)

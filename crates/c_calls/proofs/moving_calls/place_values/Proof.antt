@@ -1,5 +1,6 @@
--- By the answer; the images are those of `place_values`.
+-- By the answer.
 -- Assumes nothing.
+use mathlib.Core.Path.{refl, sym, _∙_}
 use borrow.Author.Needs.{needs}
 use Rattle.c_calls.proofs.moving_calls.place_values.Statement.{statement}
 use Rattle.c_calls.proofs.moving_calls.place_values.Tie as tie
@@ -7,8 +8,14 @@ use Rattle.c_calls.proofs.moving_calls.place_values.Tie as tie
 place-values-requires : tie.Need-place-values-requires
 place-values-requires c κs = search needs
 
-placed-given-requires : tie.Need-placed-given-requires
-placed-given-requires c κs = search needs
+enum-known-answer : tie.Need-enum-known-answer
+enum-known-answer c = search needs
+
+refusal-of-requires : tie.Need-refusal-of-requires
+refusal-of-requires c κs = search needs
+
+enum-known-answer-2 : tie.Need-enum-known-answer-2
+enum-known-answer-2 c = search needs
 
 same-length : tie.Need-same-length
 same-length c = search needs
@@ -17,7 +24,28 @@ same-length-2 : tie.Need-same-length-2
 same-length-2 c = search needs
 
 returns : tie.Need-returns
-returns c = (rw (← c .before .before .before .before .before .place-values .ensures .0) (c .placed-given .ensures .0), (rw (← c .before .before .before .before .before .place-values .ensures .0) (c .placed-given .ensures .1), c .before .before .before .before .before .place-values .ensures .1))
+returns c = rw (sym (c .before .before .before .before .before .before .before .before .place-values .ensures .0) ∙ c .before .before .answer .given .1) (c .refusal-of .ensures, (refl, c .before .before .before .before .before .before .before .before .place-values .ensures .1))
+
+same-length-3 : tie.Need-same-length-3
+same-length-3 c = search needs
+
+same-length-4 : tie.Need-same-length-4
+same-length-4 c = search needs
+
+returns-2 : tie.Need-returns-2
+returns-2 c = rw (sym (c .before .before .before .before .before .before .before .place-values .ensures .0) ∙ c .before .answer2 .given .1) (refl, (refl, c .before .before .before .before .before .before .before .place-values .ensures .1))
 
 pub place-values-spec : {M : Type 1} → statement M
-place-values-spec = tie.close (tie.spec place-values-requires placed-given-requires same-length same-length-2 returns)
+place-values-spec =
+    tie.close
+    (tie.spec
+    place-values-requires
+    enum-known-answer
+    refusal-of-requires
+    enum-known-answer-2
+    same-length
+    same-length-2
+    returns
+    same-length-3
+    same-length-4
+    returns-2)
