@@ -16,8 +16,6 @@ use Rattle.types.proofs.Trees.{at-basic, at-array, at-group}
 use Rattle.types.proofs.Table.{filled-below, filled-past, length-filled}
 use Rattle.classes.specs.declared.Class.{Class}
 use Rattle.classes.specs.declared.Class.the-variants.{NoClass, Memory}
-use Rattle.classes.specs.CleanUp.{anyMemory, memoryOf, cleanUp}
-use Rattle.classes.proofs.Ups.{clean-follows}
 use Rattle.classify.specs.Classify.{isAggregate, classesOf}
 use Rattle.classify.proofs.Coverage.{second-none}
 use Rattle.questions.proofs.Questions.{answered-sized}
@@ -44,6 +42,7 @@ use Rattle.walk.proofs.Steps.{step-done}
 use Rattle.walk.proofs.Agreement.{none-used}
 use Rattle.promises.specs.Demand2.{listAfter, B1-Sizes, B2-Classes, B3-Registers, B4-Stack, B5-Counts, B6-Returns, B7-Records, B8-B12-Moving, B13-Steps, B14-Cases, Demand2}
 use Rattle.promises.proofs.Merging.{merges}
+use Rattle.promises.proofs.Classes.{class-table, basic-at, cleans-up, array-at, group-at, small-classes, all-classed}
 use Rattle.promises.proofs.Placements.{general-count, vector-count, generals-in-row, vectors-in-row, in-registers, lacks-exactly, takes-none, lowest, room, fetches, moves, hidden-is, hidden-memory}
 use Rattle.places.specs.Places.{eights}
 
@@ -72,22 +71,24 @@ b1 = record {
 
 -- ---- B2
 
-memory-whole : (cs : List Class) → anyMemory cs ≡ true → cleanUp cs ≡ memoryOf cs
-unfolding cleanUp
-memory-whole cs e = rw e refl
-
 large-memory : (t : Ty) → isAggregate t ≡ true → 16 < sizeTy lp64 t → classesOf t ≡ Memory ∷ NoClass ∷ []
 unfolding classesOf
 large-memory t a l = rw (a, lt-ltb 16 (sizeTy lp64 t) l) refl
 
 b2 : B2-Classes
 b2 = record {
+  table = class-table;
+  basic-at = basic-at;
   merges = merges;
-  memory = memory-whole;
-  ups = clean-follows;
+  cleans-up = cleans-up;
+  whole-memory = λ a b. refl;
+  array-at = array-at;
+  group-at = group-at;
   large = large-memory;
+  small = small-classes;
   shaped = λ d t a. answered-shaped d t a;
   second = λ d t a. second-none _ _ (answered-shaped d t a);
+  class-cases = all-classed;
 }
 
 -- ---- B3, B4, B5, B6

@@ -4,6 +4,7 @@ pub mod MemberRuns
 pub mod Demand1
 pub mod WrongType
 pub mod Merging
+pub mod Classes
 pub mod Placements
 pub mod Demand2
 pub mod BringingBack

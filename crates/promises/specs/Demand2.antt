@@ -7,21 +7,22 @@ use mathlib.Core.Path.{_≡_}
 use mathlib.Core.Logic.{_↔_}
 use mathlib.Core.Bool.{Bool, true, false, cond, not, _&&_, _||_}
 use mathlib.Core.List.{List, [], _∷_, map}
-use Prim.Native.Nat.{ℕ, zero, suc, _+_, _*_, _%_, _≤_, _<_}
+use Prim.Native.Nat.{ℕ, zero, suc, _+_, _*_, _/_, _%_, _≤_, _<_}
 use lib.Dec.{eqb}
-use lib.ListN.{length, getD}
+use lib.ListN.{length, getD, set}
 use Rattle.addresses.specs.Addresses.{run}
 use Rattle.description.specs.Description.{argumentsIn, kindAt, aAt, countAt, argumentAt}
-use Rattle.types.specs.Tree.{Ty, basic, array, Tys, group}
+use Rattle.types.specs.Tree.{Ty, basic, array, Tys, none, more, group}
 use Rattle.types.specs.Basic.{lp64, basicSize, basicAlign}
 use Rattle.types.specs.Size.{alignTy, alignTys, sizeTy, offsetAfter, endAfter, endOf, widest}
 use Rattle.types.specs.Decode.{tysFrom, tyAt}
 use Rattle.classes.specs.declared.Class.{Class}
-use Rattle.classes.specs.declared.Class.the-variants.{NoClass, Integer, Sse, Memory}
-use Rattle.classes.specs.Classes.{same, isX87, mergeOf}
+use Rattle.classes.specs.declared.Class.the-variants.{NoClass, Integer, Sse, SseUp, X87, X87Up, ComplexX87, Memory}
+use Rattle.classes.specs.Classes.{same, isX87, mergeOf, mergeAll}
 use Rattle.classes.specs.CleanUp.{anyMemory, memoryOf, cleanUp}
 use Rattle.classes.specs.Ups.{UpsFollow, onStack as goesOnStack}
-use Rattle.classify.specs.Classify.{isAggregate, classesOf}
+use Rattle.classify.specs.Classify.{classesAt, isAggregate, classesOf}
+use Rattle.classify.specs.Cases.{Case as ClassCase, case as classCase, cases as classCases}
 use Rattle.classify.specs.Coverage.{ClassesCover}
 use Rattle.questions.specs.Questions.{questionRefusal}
 use Rattle.places.specs.declared.Register.{Register}
@@ -80,6 +81,27 @@ pub record B1-Sizes : Type 0 where
 
 -- ---- B2: classes, which `type_classes` gives
 
+-- the table's column "Classes", code by code: both eightbytes of the type by itself
+abbrev pub classTable : List (List Class)
+classTable =
+    (Integer ∷ NoClass ∷ []) ∷ (Integer ∷ NoClass ∷ []) ∷ (Integer ∷ NoClass ∷ []) ∷ (Integer ∷ NoClass ∷ []) ∷ (Integer ∷ NoClass ∷ []) ∷ (Integer ∷ Integer ∷ [])
+    ∷ (Sse ∷ NoClass ∷ []) ∷ (Sse ∷ NoClass ∷ []) ∷ (X87 ∷ X87Up ∷ []) ∷ (Sse ∷ SseUp ∷ []) ∷ (Sse ∷ NoClass ∷ []) ∷ (Sse ∷ SseUp ∷ [])
+    ∷ (Sse ∷ NoClass ∷ []) ∷ (Sse ∷ Sse ∷ []) ∷ (ComplexX87 ∷ NoClass ∷ []) ∷ (Integer ∷ NoClass ∷ [])
+    ∷ []
+
+-- the same as pieces, each with the offset at which it begins: "as a struct of two" gives complex float a second piece at 4 and complex double one at 8
+abbrev pub pieces : List (List (ℕ × Class))
+pieces =
+    ((0, Integer) ∷ []) ∷ ((0, Integer) ∷ []) ∷ ((0, Integer) ∷ []) ∷ ((0, Integer) ∷ []) ∷ ((0, Integer) ∷ []) ∷ ((0, Integer) ∷ (8, Integer) ∷ [])
+    ∷ ((0, Sse) ∷ []) ∷ ((0, Sse) ∷ []) ∷ ((0, X87) ∷ (8, X87Up) ∷ []) ∷ ((0, Sse) ∷ (8, SseUp) ∷ []) ∷ ((0, Sse) ∷ []) ∷ ((0, Sse) ∷ (8, SseUp) ∷ [])
+    ∷ ((0, Sse) ∷ (4, Sse) ∷ []) ∷ ((0, Sse) ∷ (8, Sse) ∷ []) ∷ ((0, ComplexX87) ∷ []) ∷ ((0, Integer) ∷ [])
+    ∷ []
+
+-- of two eightbytes, each starting as NO_CLASS: each piece in the eightbyte that it lies in, the type lying at offset o
+abbrev pub piecesAt : ℕ → List (ℕ × Class) → List Class
+piecesAt o [] = NoClass ∷ NoClass ∷ []
+piecesAt o (p ∷ ps) = mergeAll (set (NoClass ∷ NoClass ∷ []) ((o + p .0) / 8) (p .1)) (piecesAt o ps)
+
 -- "Merging, first rule that fits: equal; one NO_CLASS gives the other; one MEMORY gives MEMORY; one INTEGER gives INTEGER; one of X87, X87UP,
 -- COMPLEX_X87 gives MEMORY; else SSE": each rule where none before it fits
 abbrev pub ruled : Class → Bool
@@ -94,19 +116,68 @@ pub record Merges (a b : Class) : Type 0 where
   pub sse : not (same a b || (ruled a || ruled b)) ≡ true → mergeOf a b ≡ Sse
   pub either-way : mergeOf a b ≡ mergeOf b a
 
+-- the class before eightbyte i, NO_CLASS before the first; and an X87UP there that X87 does not precede
+abbrev pub before : List Class → ℕ → Class
+before cs i = getD (NoClass ∷ cs) i NoClass
+
+pub record UpAlone (cs : List Class) (i : ℕ) : Type 0 where
+  pub up : same (getD cs i NoClass) X87Up ≡ true
+  pub alone : same (before cs i) X87 ≡ false
+
+-- an SSEUP that neither SSE nor SSEUP precedes
+abbrev pub loose : List Class → ℕ → Bool
+loose cs i = same (getD cs i NoClass) SseUp && not (same (before cs i) Sse || same (before cs i) SseUp)
+
+-- "Then, in order: any MEMORY makes the whole MEMORY; X87UP not preceded by X87 makes the whole MEMORY; SSEUP not preceded by SSE or SSEUP becomes
+-- SSE": each rule where none before it does; the whole is MEMORY with NO_CLASS behind it
+pub record CleansUp (cs : List Class) : Type 0 where
+  pub memory : anyMemory cs ≡ true → cleanUp cs ≡ memoryOf cs
+  pub up-alone : anyMemory cs ≡ false → (i : ℕ) → UpAlone cs i → cleanUp cs ≡ memoryOf cs
+  pub settles : anyMemory cs ≡ false → ((i : ℕ) → UpAlone cs i → ⊥) → (i : ℕ) → loose cs i ≡ true → getD (cleanUp cs) i NoClass ≡ Sse
+  pub stays : anyMemory cs ≡ false → ((i : ℕ) → UpAlone cs i → ⊥) → (i : ℕ) → loose cs i ≡ false → getD (cleanUp cs) i NoClass ≡ getD cs i NoClass
+  pub ups : UpsFollow (cleanUp cs)
+
+-- classes merged one after the other, from left to right
+abbrev pub mergedIn : List Class → List (List Class) → List Class
+mergedIn sofar [] = sofar
+mergedIn sofar (cs ∷ rest) = mergedIn (mergeAll sofar cs) rest
+
+-- where the elements of an array lie, n of s bytes each, the first at o
+abbrev pub elementOffsets : ℕ → ℕ → ℕ → List ℕ
+elementOffsets s zero o = []
+elementOffsets s (suc n) o = o ∷ elementOffsets s n (o + s)
+
+-- the classes of each member of a union, or else of a struct, at its own offset in the whole; the aggregate lies at o, and those before end at x
+unfoldable pub memberClasses : Bool → Tys → ℕ → ℕ → List (List Class)
+memberClasses u none o x = []
+memberClasses u (more t ts) o x =
+    classesAt 2 t (o + offsetAfter u x (alignTy lp64 t)) ∷ memberClasses u ts o (endAfter u x (alignTy lp64 t) (sizeTy lp64 t))
+
+-- what the definitions say of a case's type
+abbrev pub classed : ClassCase → ClassCase
+classed (classCase t a b) = classCase t (getD (classesOf t) 0 NoClass) (getD (classesOf t) 1 NoClass)
+
 pub record B2-Classes : Type 0 where
+  -- the table, code by code; and a basic type wherever it lies
+  pub table : map (λ code. classesOf (basic code)) (run 0 16) ≡ classTable
+  pub basic-at : (code o : ℕ) → code < 16 → classesAt 2 (basic code) o ≡ piecesAt o (getD pieces code [])
   pub merges : (a b : Class) → Merges a b
-  -- "any MEMORY makes the whole MEMORY", with NO_CLASS behind it
-  pub memory : (cs : List Class) → anyMemory cs ≡ true → cleanUp cs ≡ memoryOf cs
-  -- X87UP stands behind X87, SSEUP behind SSE or SSEUP
-  pub ups : (cs : List Class) → UpsFollow (cleanUp cs)
-  -- "Over 16 bytes: MEMORY"
+  pub cleans-up : (cs : List Class) → CleansUp cs
+  pub whole-memory : (a b : Class) → memoryOf (a ∷ b ∷ []) ≡ Memory ∷ NoClass ∷ []
+  -- "A type's classes come from its members', each at its offset in the whole, and theirs again from the types they name; an inner aggregate is cleaned up
+  -- before it merges": an array's elements and a struct's or union's members, in their order, each with what these equations give it
+  pub array-at : (t : Ty) (n o : ℕ) → classesAt 2 (array t n) o ≡ cleanUp (mergedIn (NoClass ∷ NoClass ∷ []) (map (classesAt 2 t) (elementOffsets (sizeTy lp64 t) n o)))
+  pub group-at : (u : Bool) (ts : Tys) (o : ℕ) → classesAt 2 (group u ts) o ≡ cleanUp (mergedIn (NoClass ∷ NoClass ∷ []) (memberClasses u ts o 0))
+  -- "Over 16 bytes: MEMORY. Otherwise there are one or two eightbytes"
   pub large : (t : Ty) → isAggregate t ≡ true → 16 < sizeTy lp64 t → classesOf t ≡ Memory ∷ NoClass ∷ []
+  pub small : (t : Ty) → sizeTy lp64 t ≤ 16 → classesOf t ≡ classesAt 2 t 0
   -- each byte of a value that goes in registers lies in an eightbyte that has a class, and there is no class behind it
   pub shaped : (d : List ℕ) (t : ℕ) → questionRefusal d t ≡ 0 → ClassesCover (classesOf (tyAt d t)) (sizeTy lp64 (tyAt d t))
   -- "A lone class .. with NO_CLASS second"
   pub second : (d : List ℕ) (t : ℕ) → questionRefusal d t ≡ 0 → goesOnStack (classesOf (tyAt d t)) ≡ false
       → (getD (classesOf (tyAt d t)) 1 NoClass ≡ NoClass) ↔ (sizeTy lp64 (tyAt d t) ≤ 8)
+  -- the types of P2 to P6 and P9, and others that a wrong bridge gets wrong
+  pub class-cases : map classed classCases ≡ classCases
 
 -- ---- B3: "INTEGER takes the next of rdi .. r9; SSE the next of xmm0..xmm7 .. If any eightbyte finds no register, the whole argument goes on the
 -- stack and takes none"
