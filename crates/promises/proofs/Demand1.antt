@@ -25,14 +25,16 @@ use Rattle.layout.proofs.Verdict.{accepted-uses}
 use Rattle.layout.proofs.Records.{accepted-bounded}
 use Rattle.moving.specs.Orders.{placeRefusal, gatherRefusal}
 use Rattle.moving.specs.Answers.{registersAfter, stackAfter, valuesAfter}
+use Rattle.returning.specs.Orders.{putRefusal, takeRefusal}
+use Rattle.returning.specs.Answers.{imageAfter, valueAfter}
 use Rattle.station.specs.Paper.{kcb, refusalUnder}
 use Rattle.station.specs.Attachment.{attachRefusal, detachRefusal}
 use Rattle.station.proofs.Attachments.{attach-left, detach-left}
 use Rattle.walk.specs.Orders.{openRefusal, stepRefusal, showRefusal}
 use Rattle.walk.proofs.Steps.{step-left}
-use Rattle.promises.specs.Demand1.{A1-Verdict, A2-Below, A2-Questions, A2-Layout, A2-Walk, A3-Frame, A6-Bounds, A7-Run, Demand1}
+use Rattle.promises.specs.Demand1.{A1-Verdict, A2-Below, A2-Questions, A2-Layout, A2-Returned, A2-Walk, A3-Frame, A6-Bounds, A7-Run, Demand1}
 use Rattle.promises.proofs.Answering.{answered, decided-number}
-use Rattle.promises.proofs.Numbers.{reading-means, extent-means, size-means, align-means, classes-means, run-means, layout-means, list-means, placing-means, gathering-means, opening-means, shown-means}
+use Rattle.promises.proofs.Numbers.{reading-means, extent-means, size-means, align-means, classes-means, run-means, layout-means, list-means, placing-means, gathering-means, putting-means, taking-means, opening-means, shown-means}
 use Rattle.promises.proofs.MemberRuns.{run-of, run-empty}
 
 -- ---- A1, A2
@@ -70,6 +72,10 @@ a2-layout = record {
   gather-values = λ d r s values. answered refl (gathering-means d r s values);
 }
 
+a2-returned : A2-Returned
+unfolding putRefusal takeRefusal
+a2-returned = record { put-returned = λ d v n. answered refl (putting-means d v n); take-returned = λ d i n. answered refl (taking-means d i n) }
+
 a2-walk : A2-Walk
 unfolding kcb attachRefusal detachRefusal openRefusal stepRefusal showRefusal refusalUnder refusalBy refusalOf refusalAt
 a2-walk = record {
@@ -88,13 +94,15 @@ unfolding listCount
 count-none d room h = rw (ne-eqb (listRefusal d room) 0 h) refl
 
 a3 : A3-Frame
-unfolding filled registersAfter stackAfter valuesAfter
+unfolding filled registersAfter stackAfter valuesAfter imageAfter valueAfter
 a3 = record {
   lay-out = λ d list h. ap (λ n. filled (placementAt d) n list) (count-none d (length list) (λ e. h (decided-number _ _ (list-means d (length list)) ∙ e)));
   place-values = λ d h values r s n.
       let e = ne-eqb (placeRefusal d values (length r) (length s)) 0 (λ e. n (decided-number _ _ (placing-means d values (length r) (length s)) ∙ e)) in
       (rw e refl, rw e refl);
   gather-values = λ d r s v n. rw (ne-eqb (gatherRefusal d (length v) (length r) (length s)) 0 (λ e. n (decided-number _ _ (gathering-means d r s (length v)) ∙ e))) refl;
+  put-returned = λ d h v i n. rw (ne-eqb (putRefusal d v (length i)) 0 (λ e. n (decided-number _ _ (putting-means d v (length i)) ∙ e))) refl;
+  take-returned = λ d i v n. rw (ne-eqb (takeRefusal d i (length v)) 0 (λ e. n (decided-number _ _ (taking-means d i (length v)) ∙ e))) refl;
   attach = λ s seat d h. (sym (attach-left kcb s seat d h .0), sym (attach-left kcb s seat d h .1));
   detach = λ s seat h. (sym (detach-left s seat h .0), sym (detach-left s seat h .1));
   step = λ s seat w a h. (sym (step-left kcb s seat w a h .0), sym (step-left kcb s seat w a h .1));
@@ -122,6 +130,7 @@ demand-1 = record {
   below = a2-below;
   questions = a2-questions;
   layout = a2-layout;
+  returned = a2-returned;
   walk = a2-walk;
   frame = a3;
   bounds = a6;

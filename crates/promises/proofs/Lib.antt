@@ -12,3 +12,4 @@ pub mod PlacedFor
 pub mod ValueBytes
 pub mod Demand3
 pub mod Calls
+pub mod Exports

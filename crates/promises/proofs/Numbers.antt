@@ -21,7 +21,7 @@ use Rattle.questions.specs.declared.ClassesAnswer.the-variants.{Refused as NoCl
 use Rattle.questions.specs.declared.RunAnswer.the-variants.{Run, NoRun, Refused as NotRun}
 use Rattle.questions.specs.Questions.{questionRefusal, extentOf, extentAnswer, sizeAnswer, alignAnswer}
 use Rattle.questions.specs.Runs.{pairOf, classesAnswer, runAnswer}
-use Rattle.layout.specs.Arguments.{usedAt}
+use Rattle.layout.specs.Arguments.{usedAt, returnPlace}
 use Rattle.layout.specs.Verdict.{verdict}
 use Rattle.layout.specs.Layout.{layoutOf, layoutAnswer}
 use Rattle.layout.specs.Lists.{listRefusal, listAnswer}
@@ -31,6 +31,11 @@ use Rattle.moving.specs.Orders.{placeRefusal, gatherRefusal}
 use Rattle.moving.specs.Answers.{placeAnswer, gatherAnswer}
 use Rattle.moving.specs.declared.PlaceAnswer.the-variants.{Placed, Refused as NotPlaced}
 use Rattle.moving.specs.declared.GatherAnswer.the-variants.{Gathered, Refused as NotGathered}
+use Rattle.returning.specs.declared.PutAnswer.the-variants.{Put, Refused as NotPut}
+use Rattle.returning.specs.declared.TakeAnswer.the-variants.{Taken, Refused as NotTaken}
+use Rattle.returning.specs.Image.{returnedAddress}
+use Rattle.returning.specs.Orders.{putRefusal, takeRefusal}
+use Rattle.returning.specs.Answers.{putAnswer, takeAnswer}
 use Rattle.station.specs.declared.Station.{Station}
 use Rattle.station.specs.Paper.{kcb, refusalUnder}
 use Rattle.station.specs.Attachment.{described}
@@ -43,7 +48,7 @@ use Rattle.places.specs.Shapes.{Shape}
 use Rattle.station.specs.Paper.{shapeAt}
 use Rattle.walk.specs.Show.{onePiece, partIn, shownIn, shownAnswer}
 use Rattle.walk.specs.declared.showing.ShownAnswer.the-variants.{Refused as NotShown}
-use Rattle.promises.specs.Meaning.{accepted, refused, outcome, ofReading, ofExtent, ofSize, ofAlign, ofClasses, run, none, ofRun, ofLayout, ofPlacing, ofGathering, ofOpening, ofShown, shownPart}
+use Rattle.promises.specs.Meaning.{accepted, refused, outcome, ofReading, ofExtent, ofSize, ofAlign, ofClasses, run, none, ofRun, ofLayout, ofPlacing, ofGathering, ofPutting, ofTaking, ofOpening, ofShown, shownPart}
 use Rattle.promises.specs.Demand1.{members}
 use Rattle.promises.proofs.Answering.{decided}
 
@@ -98,6 +103,15 @@ pub gathering-means : (d r s : List ℕ) (values : ℕ) → ofGathering (gatherA
 unfolding gatherAnswer refusalFor refusalBy refusalAt
 gathering-means d r s values =
     decided ofGathering (Gathered (hiddenIn d (r ++ s))) (λ n. NotGathered (refusalFor d n)) (hiddenIn d (r ++ s)) refl (λ n. refl) (gatherRefusal d values (length r) (length s))
+
+pub putting-means : (d v : List ℕ) (n : ℕ) → ofPutting (putAnswer d v n) ≡ outcome (putRefusal d v n) tt
+unfolding putAnswer refusalFor refusalBy refusalAt
+putting-means d v n = decided ofPutting Put (λ m. NotPut (refusalFor d m)) tt refl (λ m. refl) (putRefusal d v n)
+
+pub taking-means : (d i : List ℕ) (n : ℕ) → ofTaking (takeAnswer d i n) ≡ outcome (takeRefusal d i n) (returnedAddress (returnPlace d) i)
+unfolding takeAnswer refusalFor refusalBy refusalAt
+taking-means d i n =
+    decided ofTaking (Taken (returnedAddress (returnPlace d) i)) (λ m. NotTaken (refusalFor d m)) (returnedAddress (returnPlace d) i) refl (λ m. refl) (takeRefusal d i n)
 
 pub opening-means : (s : Station) (seat : List ℕ) → ofOpening (openAnswer kcb s seat) ≡ outcome (openRefusal kcb s seat) (openWalk kcb s seat)
 unfolding openAnswer openedIf refusalUnder refusalBy refusalAt

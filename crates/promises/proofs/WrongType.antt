@@ -3,14 +3,15 @@ use mathlib.Core.Path.{_≡_, refl, sym, _∙_}
 use mathlib.Core.Logic.{_≢_}
 use mathlib.Core.Bool.{Bool, true, false, cond, _&&_, _||_, true≢false}
 use mathlib.Core.List.{List, [], _∷_}
-use Prim.Native.Nat.{ℕ}
+use Prim.Native.Nat.{ℕ, zero, suc}
 use native.Mathlib.Omega.{arith}
 use borrow.Author.Tests.{eq-eqb, ne-eqb, ltb-true}
 use lib.Dec.{eqb}
-use Rattle.description.specs.Description.{typesIn}
+use Rattle.description.specs.Description.{typesIn, headerOf}
 use Rattle.form.specs.Conditions.{wrongRecord, firstBroken}
-use Rattle.form.specs.Order.{Rule, rule, first}
-use Rattle.form.specs.Reading.{refusalAt, refusalBy}
+use Rattle.form.specs.Order.{Rule, rule, first, formRefusal}
+use Rattle.form.specs.Reading.{refusalAt, refusalBy, refusalOf, readingOf}
+use Rattle.form.specs.declared.Reading.the-variants.{Accepted, Refused as NotRead}
 use Rattle.form.proofs.Form.{broken-first, broken-least}
 use Rattle.types.specs.Large.{tooLarge, firstLarge}
 use Rattle.types.specs.Wrong.{refusalFor}
@@ -19,13 +20,14 @@ use Rattle.questions.specs.Questions.{questionRefusal}
 use Rattle.layout.specs.Verdict.{verdict}
 use Rattle.layout.specs.Lists.{listRefusal}
 use Rattle.moving.specs.Orders.{placeRefusal, gatherRefusal}
-use Rattle.returning.specs.Orders.{putOrder, takeOrder, putRefusal, takeRefusal}
+use Rattle.returning.specs.Orders.{putRefusal, takeRefusal}
 use Rattle.station.specs.Paper.{kcb, refusalUnder}
-use Rattle.station.specs.Attachment.{described, attachRefusal}
+use Rattle.station.specs.declared.Station.{Station}
+use Rattle.station.specs.Attachment.{described, attachRefusal, detachRefusal}
 use Rattle.station.proofs.Kcb.{kcb-refusal}
 use Rattle.walk.specs.Orders.{openRefusal, stepRefusal, showRefusal}
-use Rattle.promises.specs.Orders.{checkOrder, questionOrder, layoutOrder, placeOrder, gatherOrder, attachOrder, openOrder, stepOrder, showOrder}
-use Rattle.promises.specs.WrongType.{Names, WrongType}
+use Rattle.promises.specs.Orders.{formOrder, checkOrder, questionOrder, layoutOrder, placeOrder, gatherOrder, putOrder, takeOrder, attachOrder, detachOrder, openOrder, stepOrder, showOrder}
+use Rattle.promises.specs.WrongType.{Names, refusalRead, WrongType}
 
 -- whether a condition numbered n holds
 abbrev holding : ℕ → List Rule → Bool
@@ -75,9 +77,39 @@ alone false e = e
 seated : (d : List ℕ) (n : ℕ) → Names d (refusalFor d n) → Names d (refusalUnder kcb d n)
 seated d n h = rw (kcb-refusal d n) h
 
+-- of 1 to 6, 6 alone names a type
+read-names : (d : List ℕ) → Names d (refusalRead (readingOf d))
+unfolding readingOf formRefusal refusalOf refusalAt wrongRecord
+read-names d = by (first (formOrder d)) refl
+  where
+    by : (n : ℕ) → first (formOrder d) ≡ n → Names d (refusalRead (cond (eqb n 0) (Accepted (headerOf d)) (NotRead (refusalAt n (cond (eqb n 6) (firstBroken d) 0)))))
+    by zero e = record { six = λ p. absurd (omega (arith, p)); seven = λ p. absurd (omega (arith, p)); other = λ p q. refl }
+    by (suc m) e = rw (ne-eqb (suc m) 0 (λ z. omega (arith, z))) (record {
+      six = λ p. rw (eq-eqb (suc m) 6 p) (
+          let b : wrongRecord d ≡ true = alone (wrongRecord d) (holds 6 (formOrder d) (λ z. omega arith) (e ∙ p)) in
+          record {
+            known = ltb-true (firstBroken d) (typesIn d) b;
+            breaks = broken-first d b;
+            lower = λ j l q. true≢false (sym q ∙ broken-least d j l);
+          }
+          );
+      seven = λ p. absurd (true≢false (sym (holds 7 (formOrder d) (λ z. omega arith) (e ∙ p))));
+      other = λ p q. rw (ne-eqb (suc m) 6 p) refl;
+    })
+
+-- neither 6 nor 7 is among 11 and 13
+detach-names : (s : Station) (seat d : List ℕ) → Names d (refusalOf (detachRefusal s seat))
+unfolding refusalOf refusalAt detachRefusal
+detach-names s seat d = record {
+  six = λ e. absurd (true≢false (sym (holds 6 (detachOrder s seat) (λ z. omega arith) e)));
+  seven = λ e. absurd (true≢false (sym (holds 7 (detachOrder s seat) (λ z. omega arith) e)));
+  other = λ p q. refl;
+}
+
 pub wrong-type : WrongType
 unfolding kcb verdict questionRefusal listRefusal placeRefusal gatherRefusal putRefusal takeRefusal attachRefusal openRefusal stepRefusal showRefusal
 wrong-type = record {
+  read-form = read-names;
   check = λ d. names d (checkOrder d) (alone (wrongRecord d)) (alone (tooLarge d));
   question = λ d t. names d (questionOrder d t) (alone (wrongRecord d)) (alone (tooLarge d));
   lay-out = λ d room. names d (layoutOrder d room) (alone (wrongRecord d)) (alone (tooLarge d));
@@ -86,6 +118,7 @@ wrong-type = record {
   put-returned = λ d value image. names d (putOrder d value image) (alone (wrongRecord d)) (alone (tooLarge d));
   take-returned = λ d image value. names d (takeOrder d image value) (alone (wrongRecord d)) (alone (tooLarge d));
   attach = λ s seat d. seated d _ (names d (attachOrder s seat d) (alone (wrongRecord d)) (alone (tooLarge d)));
+  detach = detach-names;
   open-walk = λ s seat. seated (described s seat) _ (names (described s seat) (openOrder s seat) (alone (wrongRecord (described s seat))) (alone (tooLarge (described s seat))));
   step = λ s seat w a. seated (described s seat) _ (names (described s seat) (stepOrder s seat w a) (alone (wrongRecord (described s seat))) (alone (tooLarge (described s seat))));
   show = λ s seat w a. seated (described s seat) _ (names (described s seat) (showOrder s seat w a) (alone (wrongRecord (described s seat))) (alone (tooLarge (described s seat))));

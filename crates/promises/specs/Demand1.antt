@@ -27,7 +27,7 @@ use Rattle.questions.specs.Runs.{classesAnswer, runAnswer, runIn}
 use Rattle.uses.specs.Uses.{usesRefusal}
 use Rattle.places.specs.Shapes.{Alignment}
 use Rattle.layout.specs.declared.placements.Placement.{Placement}
-use Rattle.layout.specs.Arguments.{usedAt}
+use Rattle.layout.specs.Arguments.{usedAt, returnPlace}
 use Rattle.layout.specs.Verdict.{verdict}
 use Rattle.layout.specs.Layout.{layoutOf, layoutAnswer}
 use Rattle.layout.specs.Placements.{placementAt}
@@ -35,6 +35,8 @@ use Rattle.layout.specs.Lists.{listAnswer, listCount, filled}
 use Rattle.layout.specs.Statements.{Bounded}
 use Rattle.moving.specs.Images.{hiddenIn}
 use Rattle.moving.specs.Answers.{placeAnswer, gatherAnswer, registersAfter, stackAfter, valuesAfter}
+use Rattle.returning.specs.Image.{returnedAddress}
+use Rattle.returning.specs.Answers.{putAnswer, takeAnswer, imageAfter, valueAfter}
 use Rattle.station.specs.declared.Station.{Station}
 use Rattle.station.specs.Paper.{kcb, refusalUnder}
 use Rattle.station.specs.Attachment.{described, attachRefusal, attachStation, attachSeat, detachRefusal, detachStation, detachSeat}
@@ -42,8 +44,8 @@ use Rattle.walk.specs.declared.Walk.{Walk}
 use Rattle.walk.specs.Orders.{Ask, stepRefusal, showRefusal}
 use Rattle.walk.specs.Steps.{openWalk, openAnswer, stepWalk, stepOut}
 use Rattle.walk.specs.Show.{shownIn, shownAnswer}
-use Rattle.promises.specs.Meaning.{numberOf, ofNumber, ofRefusal, ofReading, ofExtent, ofSize, ofAlign, ofClasses, Members, run, none, ofRun, ofLayout, ofPlacing, ofGathering, ofOpening, ofShown, shownPart, Answered}
-use Rattle.promises.specs.Orders.{checkOrder, formOrder, typesOrder, usesOrder, questionOrder, layoutOrder, gatherOrder, placeOrder, attachOrder, detachOrder, openOrder, stepOrder, showOrder}
+use Rattle.promises.specs.Meaning.{numberOf, ofNumber, ofRefusal, ofReading, ofExtent, ofSize, ofAlign, ofClasses, Members, run, none, ofRun, ofLayout, ofPlacing, ofGathering, ofPutting, ofTaking, ofOpening, ofShown, shownPart, Answered}
+use Rattle.promises.specs.Orders.{checkOrder, formOrder, typesOrder, usesOrder, questionOrder, layoutOrder, gatherOrder, placeOrder, putOrder, takeOrder, attachOrder, detachOrder, openOrder, stepOrder, showOrder}
 
 -- ---- A1: "Bad input gets the numbered refusal of document 01, in the stated order, never otherwise"
 
@@ -85,6 +87,12 @@ pub record A2-Layout : Type 0 where
   pub gather-values : (d r s : List ℕ) (valuesLength : ℕ)
       → Answered (ofGathering (gatherAnswer d r s valuesLength)) (gatherOrder d valuesLength (length r) (length s)) (hiddenIn d (r ++ s))
 
+-- returned values (request 2026-02). The hidden address is that of rax
+pub record A2-Returned : Type 0 where
+  pub put-returned : (d value : List ℕ) (imageLength : ℕ) → Answered (ofPutting (putAnswer d value imageLength)) (putOrder d value imageLength) tt
+  pub take-returned : (d image : List ℕ) (valueLength : ℕ)
+      → Answered (ofTaking (takeAnswer d image valueLength)) (takeOrder d image valueLength) (returnedAddress (returnPlace d) image)
+
 -- station and walk. What is lent may be anything: the station and the walk record of any making, the seat and the images of any length
 pub record A2-Walk : Type 0 where
   pub attach : (s : Station) (seat d : List ℕ) → Answered (ofRefusal (refusalUnder kcb d (attachRefusal kcb s seat d))) (attachOrder s seat d) tt
@@ -104,6 +112,8 @@ pub record A3-Frame : Type 0 where
   pub place-values : (d : List ℕ) (h : ℕ) (values r s : List ℕ) → numberOf (ofPlacing (placeAnswer d values (length r) (length s))) ≢ 0
       → (registersAfter d h values r s ≡ r) × (stackAfter d h values r s ≡ s)
   pub gather-values : (d r s v : List ℕ) → numberOf (ofGathering (gatherAnswer d r s (length v))) ≢ 0 → valuesAfter d r s v ≡ v
+  pub put-returned : (d : List ℕ) (h : ℕ) (value image : List ℕ) → numberOf (ofPutting (putAnswer d value (length image))) ≢ 0 → imageAfter d h value image ≡ image
+  pub take-returned : (d image value : List ℕ) → numberOf (ofTaking (takeAnswer d image (length value))) ≢ 0 → valueAfter d image value ≡ value
   pub attach : (s : Station) (seat d : List ℕ) → attachRefusal kcb s seat d ≢ 0 → (attachStation kcb s seat d ≡ s) × (attachSeat kcb s seat d ≡ seat)
   pub detach : (s : Station) (seat : List ℕ) → detachRefusal s seat ≢ 0 → (detachStation s seat ≡ s) × (detachSeat s seat ≡ seat)
   pub step : (s : Station) (seat : List ℕ) (w : Walk) (a : Ask) → stepRefusal kcb s seat w a ≢ 0 → (stepWalk kcb s seat w a ≡ w) × (stepOut kcb s seat w a ≡ a .out)
@@ -134,6 +144,7 @@ pub record Demand1 : Type 0 where
   pub below : A2-Below
   pub questions : A2-Questions
   pub layout : A2-Layout
+  pub returned : A2-Returned
   pub walk : A2-Walk
   pub frame : A3-Frame
   pub bounds : A6-Bounds

@@ -6,3 +6,4 @@ pub mod Demand2
 pub mod BringingBack
 pub mod Demand3
 pub mod Calls
+pub mod Exports

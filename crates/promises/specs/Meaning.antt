@@ -27,6 +27,10 @@ use Rattle.moving.specs.declared.PlaceAnswer.{PlaceAnswer}
 use Rattle.moving.specs.declared.PlaceAnswer.the-variants.{Placed, Refused as NotPlaced}
 use Rattle.moving.specs.declared.GatherAnswer.{GatherAnswer}
 use Rattle.moving.specs.declared.GatherAnswer.the-variants.{Gathered, Refused as NotGathered}
+use Rattle.returning.specs.declared.PutAnswer.{PutAnswer}
+use Rattle.returning.specs.declared.PutAnswer.the-variants.{Put, Refused as NotPut}
+use Rattle.returning.specs.declared.TakeAnswer.{TakeAnswer}
+use Rattle.returning.specs.declared.TakeAnswer.the-variants.{Taken, Refused as NotTaken}
 use Rattle.walk.specs.declared.Walk.{Walk}
 use Rattle.walk.specs.declared.OpenAnswer.{OpenAnswer}
 use Rattle.walk.specs.declared.OpenAnswer.the-variants.{Opened, Refused as NotOpened}
@@ -103,6 +107,15 @@ ofPlacing (NotPlaced r) = refused (r .number)
 abbrev pub ofGathering : GatherAnswer → Meaning ℕ
 ofGathering (Gathered h) = accepted h
 ofGathering (NotGathered r) = refused (r .number)
+
+-- nothing but the number; and the hidden address
+abbrev pub ofPutting : PutAnswer → Meaning (Unit {0})
+ofPutting Put = accepted tt
+ofPutting (NotPut r) = refused (r .number)
+
+abbrev pub ofTaking : TakeAnswer → Meaning ℕ
+ofTaking (Taken h) = accepted h
+ofTaking (NotTaken r) = refused (r .number)
 
 -- the walk record
 abbrev pub ofOpening : OpenAnswer → Meaning Walk

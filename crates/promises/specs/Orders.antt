@@ -14,6 +14,8 @@ use Rattle.layout.specs.Verdict.{wideArea}
 use Rattle.layout.specs.Layout.{layoutOf}
 use Rattle.layout.specs.Lists.{shortList}
 use Rattle.moving.specs.Orders.{wrongBool, wrongLength as wrongLengths}
+use Rattle.returning.specs.Returned.{returnLength}
+use Rattle.returning.specs.Orders.{wrongLength as wrongReturnLengths, wrongBool as wrongReturnedBool}
 use Rattle.station.specs.declared.Station.{Station}
 use Rattle.station.specs.Paper.{kcb}
 use Rattle.station.specs.Attachment.{wrongSeat, described}
@@ -50,6 +52,13 @@ gatherOrder d valuesLength registersLength stackLength = checkOrder d ++ rule 11
 abbrev pub placeOrder : List ℕ → List ℕ → ℕ → ℕ → List Rule
 placeOrder d values registersLength stackLength =
     checkOrder d ++ rule 11 (wrongLengths (layoutOf d) (length values) registersLength stackLength) ∷ rule 12 (wrongBool d values) ∷ []
+
+-- request 2026-02: "after 1..10, 11 for lengths .., then 12 for a returned _Bool byte not 0 or 1, in putting only"
+abbrev pub takeOrder : List ℕ → List ℕ → ℕ → List Rule
+takeOrder d image valueLength = checkOrder d ++ rule 11 (wrongReturnLengths (returnLength d) valueLength (length image)) ∷ []
+
+abbrev pub putOrder : List ℕ → List ℕ → ℕ → List Rule
+putOrder d value imageLength = checkOrder d ++ rule 11 (wrongReturnLengths (returnLength d) (length value) imageLength) ∷ rule 12 (wrongReturnedBool d value) ∷ []
 
 -- "Attach: 11, 14, 15, 1..10"
 abbrev pub attachOrder : Station → List ℕ → List ℕ → List Rule

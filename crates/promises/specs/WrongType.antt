@@ -9,6 +9,9 @@ use Prim.Native.Nat.{ℕ, _<_}
 use lib.ListN.{length}
 use Rattle.description.specs.Description.{typesIn}
 use Rattle.form.specs.declared.Refusal.{Refusal}
+use Rattle.form.specs.declared.Reading.{Reading}
+use Rattle.form.specs.declared.Reading.the-variants.{Accepted, Refused as NotRead}
+use Rattle.form.specs.Reading.{refusalOf, readingOf}
 use Rattle.form.specs.Conditions.{brokenRecord}
 use Rattle.types.specs.Basic.{lp64}
 use Rattle.types.specs.Size.{sizeTy}
@@ -21,7 +24,7 @@ use Rattle.moving.specs.Orders.{placeRefusal, gatherRefusal}
 use Rattle.returning.specs.Orders.{putRefusal, takeRefusal}
 use Rattle.station.specs.declared.Station.{Station}
 use Rattle.station.specs.Paper.{kcb, refusalUnder}
-use Rattle.station.specs.Attachment.{described, attachRefusal}
+use Rattle.station.specs.Attachment.{described, attachRefusal, detachRefusal}
 use Rattle.walk.specs.declared.Walk.{Walk}
 use Rattle.walk.specs.Orders.{Ask, openRefusal, stepRefusal, showRefusal}
 
@@ -39,8 +42,14 @@ pub record Names (d : List ℕ) (r : Refusal) : Type 0 where
   pub seven : r .number ≡ 7 → Lowest (λ k. 4096 < sizeTy lp64 (tyAt d k)) (typesIn d) (r .ty)
   pub other : r .number ≢ 6 → r .number ≢ 7 → r .ty ≡ 0
 
+-- the refusal of a form that is read, none where it is accepted
+abbrev pub refusalRead : Reading → Refusal
+refusalRead (Accepted h) = refusalOf 0
+refusalRead (NotRead r) = r
+
 -- the refusal of each call, as its contract gives it: of the description that is handed in, or of the one in the seat
 pub record WrongType : Type 0 where
+  pub read-form : (d : List ℕ) → Names d (refusalRead (readingOf d))
   pub check : (d : List ℕ) → Names d (refusalFor d (verdict d))
   pub question : (d : List ℕ) (t : ℕ) → Names d (refusalFor d (questionRefusal d t))
   pub lay-out : (d : List ℕ) (room : ℕ) → Names d (refusalFor d (listRefusal d room))
@@ -49,6 +58,7 @@ pub record WrongType : Type 0 where
   pub put-returned : (d value : List ℕ) (imageLength : ℕ) → Names d (refusalFor d (putRefusal d value imageLength))
   pub take-returned : (d image : List ℕ) (valueLength : ℕ) → Names d (refusalFor d (takeRefusal d image valueLength))
   pub attach : (s : Station) (seat d : List ℕ) → Names d (refusalUnder kcb d (attachRefusal kcb s seat d))
+  pub detach : (s : Station) (seat d : List ℕ) → Names d (refusalOf (detachRefusal s seat))
   pub open-walk : (s : Station) (seat : List ℕ) → Names (described s seat) (refusalUnder kcb (described s seat) (openRefusal kcb s seat))
   pub step : (s : Station) (seat : List ℕ) (w : Walk) (a : Ask)
       → Names (described s seat) (refusalUnder kcb (described s seat) (stepRefusal kcb s seat w a))
