@@ -137,7 +137,10 @@ pub fn wide(byte: u8) -> usize
     byte as usize
 }
 
-// What an eightbyte of this class asks for.
+// What is asked for where a class sends the argument to the stack: one general register more than there are, so that it never fits.
+const ON_STACK: u32 = 7;
+
+// What an eightbyte of this class asks for: general registers, and 16 times vector ones.
 fn ask_of(class: Class) -> u32
     ensures { λ r. ⌜ r ≡ askOf class ⌝ }
 {
@@ -146,10 +149,10 @@ fn ask_of(class: Class) -> u32
         Class::Integer => 1,
         Class::Sse => 16,
         Class::SseUp => 0,
-        Class::X87 => 7,
-        Class::X87Up => 7,
-        Class::ComplexX87 => 7,
-        Class::Memory => 7,
+        Class::X87 => ON_STACK,
+        Class::X87Up => ON_STACK,
+        Class::ComplexX87 => ON_STACK,
+        Class::Memory => ON_STACK,
     }
 }
 
@@ -164,7 +167,7 @@ fn asks_of(first: Class, second: Class) -> u32
     if !classes::is_same(second, Class::NoClass) {
         return asks;
     }
-    7
+    ON_STACK
 }
 
 // Two classes and what they ask for, in one number.

@@ -105,5 +105,9 @@ pub fn layout_of(d: &[u8]) -> LayoutAnswer
 pub fn check(d: &[u8]) -> Refusal
     ensures { λ r. ⌜ r ≡ refusalFor (now (d .entry)) (verdict (now (d .entry))) ⌝ }
 {
-    refusal_in(layout_of(d))
+    let answer = layout_of(d);
+    let LayoutAnswer::Refused(refusal) = answer else {
+        return form::refusal_of(0);
+    };
+    refusal
 }

@@ -90,14 +90,6 @@ fn place_by(d: &[u8], used: Used, i: usize, opened: Opened) -> Step
 
 // ---- the list
 
-// Decides whether a list of `room` records is to be filled.
-pub fn begin(d: &[u8], room: usize) -> Begun
-    ensures { λ r. ⌜ (r ≡ begunOf (now (d .entry)) room) × (r .count ≤ room) ⌝ }
-{
-    let mut table = [0u32; 64];
-    begin_with(d, room, &mut table)
-}
-
 // Fills the list that the caller lends with one record for each argument; entries past A stay, and so does the whole list where
 // the answer is a refusal.
 pub fn lay_out(d: &[u8], list: &mut [Placement]) -> LayoutAnswer

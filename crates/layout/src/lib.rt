@@ -5,7 +5,6 @@ pub use deciding::layout_with;
 pub use deciding::refusal_in;
 pub use deciding::used_after;
 pub use lent_list::Begun;
-pub use lent_list::begin;
 pub use lent_list::begin_with;
 pub use lent_list::lay_out;
 pub use placements::Placement;

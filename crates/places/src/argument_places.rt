@@ -144,7 +144,7 @@ pub fn place_shape(used: Used, shape: Shape) -> Placed
     placed
 }
 
-// What a type asks for: so many general registers, seven where its class sends it to the stack, and so many vector ones.
+// What a type asks for: so many general registers, more than there are where its class sends it to the stack, and so many vector ones.
 struct Asks {
     general: Registers,
     vector: Registers,

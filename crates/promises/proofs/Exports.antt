@@ -474,10 +474,13 @@ gathers-back c r w a z small e q v b k =
     let right = placing-zero (now (c .passed .0)) (now (c .passed .1 .1 .0)) (length (now (c .passed .1 .1 .1 .0))) (length (now (c .passed .1 .1 .1 .1 .0))) r (told (result cb_place_values.ended c) (a .ensured) (λ f. f .0)) z in
     let t = back (now (c .passed .0)) (c .passed .1 .0) (now (c .passed .1 .1 .0)) (now (c .passed .1 .1 .1 .0)) (now (c .passed .1 .1 .1 .1 .0))
     (now (e .passed .0)) (now (e .passed .1 .0)) (now (e .passed .1 .1 .0)) (now (e .passed .1 .1 .1 .0)) small right (k .description)
-    (k .registers ∙ told bytes (a .ensured) (λ f. f .1 .1 .0)) (k .stack ∙ told bytes (a .ensured) (λ f. f .1 .1 .1)) (k .values) in
-    (ap (λ (x : Refusal). x .number) (told (result cb_gather_values.ended e) (b .ensured) (λ f. f .0) ∙ ap (λ x. refusalIn (gatheredGiven x)) (t .0)) ∙ number-of 0,
-    (ap (λ (g : Gathered). g .hidden) (told (gathered-record.the-row .coded) (b .ensured) (λ f. f .1 .0) ∙ ap (λ x. leftIn (gatheredGiven x) (now (e .passed .1 .1 .1 .1 .0))) (t .0)),
-    told bytes (b .ensured) (λ f. f .1 .1) ∙ t .1))
+    (k .registers ∙ told bytes (a .ensured) (λ f. f .1 .1 .0)) (k .stack ∙ told bytes (a .ensured) (λ f. f .1 .1 .1)) (k .values) in (
+      ap (λ (x : Refusal). x .number) (told (result cb_gather_values.ended e) (b .ensured) (λ f. f .0) ∙ ap (λ x. refusalIn (gatheredGiven x)) (t .0)) ∙ number-of 0,
+      (
+        ap (λ (g : Gathered). g .hidden) (told (gathered-record.the-row .coded) (b .ensured) (λ f. f .1 .0) ∙ ap (λ x. leftIn (gatheredGiven x) (now (e .passed .1 .1 .1 .1 .0))) (t .0)),
+        told bytes (b .ensured) (λ f. f .1 .1) ∙ t .1,
+      ),
+    )
 
 never-same : (d : List ℕ) (h : ℕ) (values r s d′ : List ℕ) (h′ : ℕ) (others q t : List ℕ) → d′ ≡ d → h′ ≡ h
     → placeRefusal d values (length r) (length s) ≡ 0 → placeRefusal d′ others (length q) (length t) ≡ 0
@@ -504,10 +507,13 @@ takes-back c r w a z small e q v b k =
     let d = now (c .passed .0) in
     let right = sym (refusal-told d _ _ (put-told d (now (c .passed .1 .1 .0)) (length (now (c .passed .1 .1 .1 .0))))) ∙ sym (ap (λ (x : Refusal). x .number) (told (result cb_put_returned.ended c) (a .ensured) (λ f. f .0))) ∙ z in
     let t = taken-back d (c .passed .1 .0) (now (c .passed .1 .1 .0)) (now (c .passed .1 .1 .1 .0)) (now (e .passed .0)) (now (e .passed .1 .0)) (now (e .passed .1 .1 .0)) small right
-    (k .description) (k .image ∙ told bytes (a .ensured) (λ f. f .1)) (k .value) in
-    (ap (λ (x : Refusal). x .number) (told (result cb_take_returned.ended e) (b .ensured) (λ f. f .0) ∙ ap (λ x. refusalIn (takenGiven x)) (t .0)) ∙ number-of 0,
-    (ap (λ (g : Gathered). g .hidden) (told (gathered-record.the-row .coded) (b .ensured) (λ f. f .1 .0) ∙ ap (λ x. leftIn (takenGiven x) (now (e .passed .1 .1 .1 .0))) (t .0)),
-    told bytes (b .ensured) (λ f. f .1 .1) ∙ t .1))
+    (k .description) (k .image ∙ told bytes (a .ensured) (λ f. f .1)) (k .value) in (
+      ap (λ (x : Refusal). x .number) (told (result cb_take_returned.ended e) (b .ensured) (λ f. f .0) ∙ ap (λ x. refusalIn (takenGiven x)) (t .0)) ∙ number-of 0,
+      (
+        ap (λ (g : Gathered). g .hidden) (told (gathered-record.the-row .coded) (b .ensured) (λ f. f .1 .0) ∙ ap (λ x. leftIn (takenGiven x) (now (e .passed .1 .1 .1 .0))) (t .0)),
+        told bytes (b .ensured) (λ f. f .1 .1) ∙ t .1,
+      ),
+    )
 
 -- ---- a history of calls
 
@@ -613,7 +619,7 @@ step-done k l i a n p =
     let record-is : p .last .1 .1 .0 ≡ leftIn (stepGiven (k .station) (k .seat) (k .walks i) a) (k .walks i) = told (walk.the-row .coded) (p .admitted .ensured) (λ f. f .1 .0) ∙ rw (p .station, p .seat, p .walk, p .asked) refl in
     let answer-is : p .result ≡ refusalIn (stepGiven (k .station) (k .seat) (k .walks i) a) = told (result cb_step.ended (p .made)) (p .admitted .ensured) (λ f. f .0) ∙ rw (p .station, p .seat, p .walk, p .asked) refl in (
       ap deskMeant (p .left)
-      ∙ (λ j. record { station = x; seat = k .seat; walks = walks-after (k .walks) i (p .last .1 .1 .0) (stepWalk kcb x (k .seat) (walkMeant (k .walks i)) a) (ap walkMeant record-is ∙ step-walk (k .station) (k .seat) (k .walks i) a) j }),
+          ∙ (λ j. record { station = x; seat = k .seat; walks = walks-after (k .walks) i (p .last .1 .1 .0) (stepWalk kcb x (k .seat) (walkMeant (k .walks i)) a) (ap walkMeant record-is ∙ step-walk (k .station) (k .seat) (k .walks i) a) j }),
       p .number ∙ ap (λ (r : Refusal). r .number) answer-is ∙ told-number (step-told (k .station) (k .seat) (k .walks i) a),
     )
 
@@ -625,8 +631,8 @@ show-done k l i a n p =
     let answer-is : p .result ≡ shownRefusal (shownAnswer kcb x (k .seat) y q) = told (result cb_show.ended (p .made)) (p .admitted .ensured) (λ f. f .0) ∙ rw (p .station, p .seat, p .walk) refl in (
       ap deskMeant (p .left),
       p .number ∙ ap (λ (r : Refusal). r .number) answer-is
-      ∙ refusal-told (described x (k .seat)) (showRefusal kcb x (k .seat) y q) _ (shown-told x (k .seat) y q .refusal)
-      ∙ show-unseen x (k .seat) y a _ _ _ (p .registers) (p .stack) (p .asked),
+          ∙ refusal-told (described x (k .seat)) (showRefusal kcb x (k .seat) y q) _ (shown-told x (k .seat) y q .refusal)
+          ∙ show-unseen x (k .seat) y a _ _ _ (p .registers) (p .stack) (p .asked),
     )
 
 one-done : (k l : HostDesk) (c : Call) (n : ℕ) → Done k c n l → (deskMeant l ≡ call kcb (deskMeant k) c) × (n ≡ answer kcb (deskMeant k) c)

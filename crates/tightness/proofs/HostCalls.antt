@@ -2,21 +2,15 @@
 use mathlib.Core.Path.{refl}
 use Rattle.tightness.specs.Tight.{Total}
 use Rattle.form.proofs.read_form
-use Rattle.form.proofs.form_refusal
-use Rattle.form.proofs.refusal_of
-use Rattle.types.proofs.types_refusal
-use Rattle.questions.proofs.question_refusal
 use Rattle.questions.proofs.type_size
 use Rattle.questions.proofs.type_align
 use Rattle.questions.proofs.type_extent
 use Rattle.questions.proofs.type_classes
 use Rattle.questions.proofs.run_at
 use Rattle.questions.proofs.member_run
-use Rattle.uses.proofs.uses_refusal
 use Rattle.layout.proofs.check
 use Rattle.layout.proofs.layout_of
 use Rattle.layout.proofs.lay_out
-use Rattle.layout.proofs.begin
 use Rattle.moving.proofs.place_values
 use Rattle.moving.proofs.gather_values
 use Rattle.returning.proofs.put_returned
@@ -26,19 +20,13 @@ use Rattle.station.proofs.attach
 use Rattle.station.proofs.attach_by_value
 use Rattle.station.proofs.detach
 use Rattle.station.proofs.detach_by_value
-use Rattle.station.proofs.wrong_seat
 use Rattle.walk.proofs.open_walk
-use Rattle.walk.proofs.checked
 use Rattle.walk.proofs.step
 use Rattle.walk.proofs.step_by_value
 use Rattle.walk.proofs.shown_at
 use Rattle.walk.proofs.show
 use Rattle.walk.proofs.show_number
 use Rattle.listing.proofs.write_listing
-use Rattle.places.proofs.fresh
-use Rattle.places.proofs.return_place
-use Rattle.places.proofs.hidden_for
-use Rattle.addresses.proofs.clear
 use Rattle.callbridge.proofs.cb_version
 use Rattle.callbridge.proofs.cb_check
 use Rattle.callbridge.proofs.cb_type_extent
@@ -61,18 +49,6 @@ use Rattle.callbridge.proofs.cb_show
 pub total-form-read-form : Total read_form.ended (λ M. read_form.clauses {M = M})
 total-form-read-form c g = refl
 
-pub total-form-form-refusal : Total form_refusal.ended (λ M. form_refusal.clauses {M = M})
-total-form-form-refusal c g = refl
-
-pub total-form-refusal-of : Total refusal_of.ended (λ M. refusal_of.clauses {M = M})
-total-form-refusal-of c g = refl
-
-pub total-types-types-refusal : Total types_refusal.ended (λ M. types_refusal.clauses {M = M})
-total-types-types-refusal c g = refl
-
-pub total-questions-question-refusal : Total question_refusal.ended (λ M. question_refusal.clauses {M = M})
-total-questions-question-refusal c g = refl
-
 pub total-questions-type-size : Total type_size.ended (λ M. type_size.clauses {M = M})
 total-questions-type-size c g = refl
 
@@ -91,9 +67,6 @@ total-questions-run-at c g = refl
 pub total-questions-member-run : Total member_run.ended (λ M. member_run.clauses {M = M})
 total-questions-member-run c g = refl
 
-pub total-uses-uses-refusal : Total uses_refusal.ended (λ M. uses_refusal.clauses {M = M})
-total-uses-uses-refusal c g = refl
-
 pub total-layout-check : Total check.ended (λ M. check.clauses {M = M})
 total-layout-check c g = refl
 
@@ -102,9 +75,6 @@ total-layout-layout-of c g = refl
 
 pub total-layout-lay-out : Total lay_out.ended (λ M. lay_out.clauses {M = M})
 total-layout-lay-out c g = refl
-
-pub total-layout-begin : Total begin.ended (λ M. begin.clauses {M = M})
-total-layout-begin c g = refl
 
 pub total-moving-place-values : Total place_values.ended (λ M. place_values.clauses {M = M})
 total-moving-place-values c g = refl
@@ -133,14 +103,8 @@ total-station-detach c g = refl
 pub total-station-detach-by-value : Total detach_by_value.ended (λ M. detach_by_value.clauses {M = M})
 total-station-detach-by-value c g = refl
 
-pub total-station-wrong-seat : Total wrong_seat.ended (λ M. wrong_seat.clauses {M = M})
-total-station-wrong-seat c g = refl
-
 pub total-walk-open-walk : Total open_walk.ended (λ M. open_walk.clauses {M = M})
 total-walk-open-walk c g = refl
-
-pub total-walk-checked : Total checked.ended (λ M. checked.clauses {M = M})
-total-walk-checked c g = refl
 
 pub total-walk-step : Total step.ended (λ M. step.clauses {M = M})
 total-walk-step c g = refl
@@ -159,18 +123,6 @@ total-walk-show-number c g = refl
 
 pub total-listing-write-listing : Total write_listing.ended (λ M. write_listing.clauses {M = M})
 total-listing-write-listing c g = refl
-
-pub total-places-fresh : Total fresh.ended (λ M. fresh.clauses {M = M})
-total-places-fresh c g = refl
-
-pub total-places-return-place : Total return_place.ended (λ M. return_place.clauses {M = M})
-total-places-return-place c g = refl
-
-pub total-places-hidden-for : Total hidden_for.ended (λ M. hidden_for.clauses {M = M})
-total-places-hidden-for c g = refl
-
-pub total-addresses-clear : Total clear.ended (λ M. clear.clauses {M = M})
-total-addresses-clear c g = refl
 
 pub total-callbridge-cb-version : Total cb_version.ended (λ M. cb_version.clauses {M = M})
 total-callbridge-cb-version c g = refl

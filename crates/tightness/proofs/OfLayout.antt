@@ -22,9 +22,6 @@ use Rattle.layout.proofs.check.Symbol as check-symbol
 use Rattle.layout.proofs.begin_with
 use Rattle.layout.proofs.begin_with.Met as begin-with-met
 use Rattle.layout.proofs.begin_with.Symbol as begin-with-symbol
-use Rattle.layout.proofs.begin
-use Rattle.layout.proofs.begin.Met as begin-met
-use Rattle.layout.proofs.begin.Symbol as begin-symbol
 use Rattle.layout.proofs.lay_out
 use Rattle.layout.proofs.lay_out.Met as lay-out-met
 use Rattle.layout.proofs.lay_out.Symbol as lay-out-symbol
@@ -73,12 +70,6 @@ tight-layout-begin-with c r q w v a b = (settle (result begin_with.ended c) (a .
   where
     same-table : w .1 .1 .0 ≡ v .1 .1 .0
     same-table = settle bytes (a .ensured) (b .ensured) (λ e f. e .2 ∙ sym (f .2))
-
-pub meets-layout-begin : Meets begin.ended (λ M. begin.clauses {M = M}) begin-symbol.routine
-meets-layout-begin M = begin-met.met
-
-pub tight-layout-begin : Tight begin.ended (λ M. begin.clauses {M = M})
-tight-layout-begin c r q w v a b = (settle (result begin.ended c) (a .ensured) (b .ensured) (λ e f. e .0 ∙ sym (f .0)), refl)
 
 pub meets-layout-lay-out : Meets lay_out.ended (λ M. lay_out.clauses {M = M}) lay-out-symbol.routine
 meets-layout-lay-out M = lay-out-met.met

@@ -24,9 +24,6 @@ use Rattle.questions.proofs.run_at.Symbol as run-at-symbol
 use Rattle.questions.proofs.member_run
 use Rattle.questions.proofs.member_run.Met as member-run-met
 use Rattle.questions.proofs.member_run.Symbol as member-run-symbol
-use Rattle.questions.proofs.question_refusal
-use Rattle.questions.proofs.question_refusal.Met as question-refusal-met
-use Rattle.questions.proofs.question_refusal.Symbol as question-refusal-symbol
 
 pub meets-questions-type-classes : Meets type_classes.ended (λ M. type_classes.clauses {M = M}) type-classes-symbol.routine
 meets-questions-type-classes M = type-classes-met.met
@@ -69,9 +66,3 @@ meets-questions-member-run M = member-run-met.met
 
 pub tight-questions-member-run : TightPart member_run.ended (λ c r. now r) (λ M. member_run.clauses {M = M})
 tight-questions-member-run c r q w v a b = (equal bytes (a .ensured) (b .ensured), refl)
-
-pub meets-questions-question-refusal : Meets question_refusal.ended (λ M. question_refusal.clauses {M = M}) question-refusal-symbol.routine
-meets-questions-question-refusal M = question-refusal-met.met
-
-pub tight-questions-question-refusal : Tight question_refusal.ended (λ M. question_refusal.clauses {M = M})
-tight-questions-question-refusal c r q w v a b = (equal (result question_refusal.ended c) (a .ensured) (b .ensured), refl)

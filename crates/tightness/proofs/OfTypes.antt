@@ -8,9 +8,6 @@ use Rattle.types.proofs.offset_after.Symbol as offset-after-symbol
 use Rattle.types.proofs.types_refusal_with
 use Rattle.types.proofs.types_refusal_with.Met as types-refusal-with-met
 use Rattle.types.proofs.types_refusal_with.Symbol as types-refusal-with-symbol
-use Rattle.types.proofs.types_refusal
-use Rattle.types.proofs.types_refusal.Met as types-refusal-met
-use Rattle.types.proofs.types_refusal.Symbol as types-refusal-symbol
 use Rattle.types.proofs.refusal_for
 use Rattle.types.proofs.refusal_for.Met as refusal-for-met
 use Rattle.types.proofs.refusal_for.Symbol as refusal-for-symbol
@@ -38,12 +35,6 @@ tight-types-types-refusal-with c r q w v a b = (settle (result types_refusal_wit
   where
     same-table : w .1 .0 ≡ v .1 .0
     same-table = settle bytes (a .ensured) (b .ensured) (λ e f. e .1 ∙ sym (f .1))
-
-pub meets-types-types-refusal : Meets types_refusal.ended (λ M. types_refusal.clauses {M = M}) types-refusal-symbol.routine
-meets-types-types-refusal M = types-refusal-met.met
-
-pub tight-types-types-refusal : Tight types_refusal.ended (λ M. types_refusal.clauses {M = M})
-tight-types-types-refusal c r q w v a b = (equal (result types_refusal.ended c) (a .ensured) (b .ensured), refl)
 
 pub meets-types-refusal-for : Meets refusal_for.ended (λ M. refusal_for.clauses {M = M}) refusal-for-symbol.routine
 meets-types-refusal-for M = refusal-for-met.met

@@ -5,9 +5,6 @@ use Rattle.tightness.proofs.Laws.{equal, result, settle}
 use Rattle.units.proofs.raise_to
 use Rattle.units.proofs.raise_to.Met as raise-to-met
 use Rattle.units.proofs.raise_to.Symbol as raise-to-symbol
-use Rattle.units.proofs.eightbytes_in
-use Rattle.units.proofs.eightbytes_in.Met as eightbytes-in-met
-use Rattle.units.proofs.eightbytes_in.Symbol as eightbytes-in-symbol
 use Rattle.units.proofs.general_bytes
 use Rattle.units.proofs.general_bytes.Met as general-bytes-met
 use Rattle.units.proofs.general_bytes.Symbol as general-bytes-symbol
@@ -53,12 +50,6 @@ meets-units-raise-to M = raise-to-met.met
 
 pub tight-units-raise-to : Tight raise_to.ended (λ M. raise_to.clauses {M = M})
 tight-units-raise-to c r q w v a b = (settle (result raise_to.ended c) (a .ensured) (b .ensured) (λ e f i. record { 0 = (e ∙ sym f) i }), refl)
-
-pub meets-units-eightbytes-in : Meets eightbytes_in.ended (λ M. eightbytes_in.clauses {M = M}) eightbytes-in-symbol.routine
-meets-units-eightbytes-in M = eightbytes-in-met.met
-
-pub tight-units-eightbytes-in : Tight eightbytes_in.ended (λ M. eightbytes_in.clauses {M = M})
-tight-units-eightbytes-in c r q w v a b = (settle (result eightbytes_in.ended c) (a .ensured) (b .ensured) (λ e f i. record { 0 = (e ∙ sym f) i }), refl)
 
 pub meets-units-general-bytes : Meets general_bytes.ended (λ M. general_bytes.clauses {M = M}) general-bytes-symbol.routine
 meets-units-general-bytes M = general-bytes-met.met

@@ -1,13 +1,10 @@
 -- Written by tools/tightness: each public function of `uses` meets its contract, and the contract is tight. Assumes nothing.
-use mathlib.Core.Path.{_≡_, refl, sym, _∙_}
+use mathlib.Core.Path.{_≡_, sym, _∙_}
 use Rattle.tightness.specs.Tight.{Meets, Tight}
-use Rattle.tightness.proofs.Laws.{bytes, equal, result, settle}
+use Rattle.tightness.proofs.Laws.{bytes, result, settle}
 use Rattle.uses.proofs.uses_refusal_with
 use Rattle.uses.proofs.uses_refusal_with.Met as uses-refusal-with-met
 use Rattle.uses.proofs.uses_refusal_with.Symbol as uses-refusal-with-symbol
-use Rattle.uses.proofs.uses_refusal
-use Rattle.uses.proofs.uses_refusal.Met as uses-refusal-met
-use Rattle.uses.proofs.uses_refusal.Symbol as uses-refusal-symbol
 
 pub meets-uses-uses-refusal-with : Meets uses_refusal_with.ended (λ M. uses_refusal_with.clauses {M = M}) uses-refusal-with-symbol.routine
 meets-uses-uses-refusal-with M = uses-refusal-with-met.met
@@ -17,9 +14,3 @@ tight-uses-uses-refusal-with c r q w v a b = (settle (result uses_refusal_with.e
   where
     same-table : w .1 .0 ≡ v .1 .0
     same-table = settle bytes (a .ensured) (b .ensured) (λ e f. e .1 ∙ sym (f .1))
-
-pub meets-uses-uses-refusal : Meets uses_refusal.ended (λ M. uses_refusal.clauses {M = M}) uses-refusal-symbol.routine
-meets-uses-uses-refusal M = uses-refusal-met.met
-
-pub tight-uses-uses-refusal : Tight uses_refusal.ended (λ M. uses_refusal.clauses {M = M})
-tight-uses-uses-refusal c r q w v a b = (equal (result uses_refusal.ended c) (a .ensured) (b .ensured), refl)

@@ -51,14 +51,6 @@ pub fn types_refusal_with(d: &[u8], table: &mut [u32; 64]) -> u8
     0
 }
 
-// Which of the refusals 1 to 7 the description gets, or 0.
-pub fn types_refusal(d: &[u8]) -> u8
-    ensures { λ r. ⌜ r ≡ typesRefusal (now (d .entry)) ⌝ }
-{
-    let mut table = [0u32; 64];
-    types_refusal_with(d, &mut table)
-}
-
 // The refusal of a description under this number. It is looked for which type is wrong only once it is known that one is.
 pub fn refusal_for(d: &[u8], number: u8) -> Refusal
     requires { ⌜ Judged (now d) number ⌝ }

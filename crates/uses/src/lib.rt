@@ -107,11 +107,3 @@ pub fn uses_refusal_with(d: &[u8], table: &mut [u32; 64]) -> u8
     }
     0
 }
-
-// Which of the refusals 1 to 9 the description gets, or 0.
-pub fn uses_refusal(d: &[u8]) -> u8
-    ensures { λ r. ⌜ r ≡ usesRefusal (now (d .entry)) ⌝ }
-{
-    let mut table = [0u32; 64];
-    uses_refusal_with(d, &mut table)
-}
