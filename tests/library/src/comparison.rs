@@ -9,6 +9,23 @@ pub fn told_by(refusal: Refusal) -> Told {
     Told { number: refusal.number, type_number: refusal.type_number }
 }
 
+/// A buffer's pointer: NULL where it is empty, which the header allows.
+pub fn at<Thing>(buffer: &[Thing]) -> *const Thing {
+    if buffer.is_empty() {
+        std::ptr::null()
+    } else {
+        buffer.as_ptr()
+    }
+}
+
+pub fn at_mut<Thing>(buffer: &mut [Thing]) -> *mut Thing {
+    if buffer.is_empty() {
+        std::ptr::null_mut()
+    } else {
+        buffer.as_mut_ptr()
+    }
+}
+
 #[derive(Default)]
 pub struct Comparison {
     pub made: usize,

@@ -1,7 +1,9 @@
 //! Every call about one description: the library's answer, and each byte that was lent, against the independent layout.
-//! What a call fills holds a pattern before, so that a refusal that writes is seen.
+//! What a call fills holds a pattern before, its reserved bytes too, so that a refusal that writes is seen, and so is a
+//! reserved byte that an answer leaves. Of a part a refusal leaves nothing: it is the empty part. An empty buffer is
+//! lent as NULL.
 
-use crate::comparison::{told_by, Comparison};
+use crate::comparison::{at, at_mut, told_by, Comparison};
 use callbridge::raw::*;
 use independent::classes::{classes_of, Class};
 use independent::history::random_values;
@@ -18,7 +20,7 @@ const FILLING: u8 = 0xEE;
 const LISTING_ROOM: usize = 4096;
 
 pub fn compare(random: &mut Random, bytes: &[u8], comparison: &mut Comparison) {
-    let refusal = unsafe { cb_check(bytes.as_ptr(), bytes.len()) };
+    let refusal = unsafe { cb_check(at(bytes), bytes.len()) };
     comparison.same("cb_check", bytes, told_by(refusal), places::check(bytes));
     compare_questions(random, bytes, comparison);
     compare_layouts(random, bytes, comparison);
@@ -60,21 +62,22 @@ fn compare_question(bytes: &[u8], number: u8, comparison: &mut Comparison) {
     let mut expected = extent;
     let mut classes = Classes { first: FILLING, second: FILLING };
     let mut expected_classes = classes;
-    let mut run = Part { offset: UNTOUCHED, length: UNTOUCHED, image: FILLING };
-    let mut expected_run = run;
+    let mut run =
+        Part { offset: UNTOUCHED, length: UNTOUCHED, image: FILLING, reserved: [FILLING; 7] };
+    let mut expected_run = Part::default();
     if let Ok(types) = answer {
         let measure = types.measure(number);
         expected = Extent { size: measure.size.0, align: measure.alignment.0 };
         let [first, second] = classes_of(&types, number);
         expected_classes = Classes { first: class_number(first), second: class_number(second) };
         let range = run_range(bytes, number);
-        expected_run = if range.is_empty() {
-            Part { offset: 0, length: 0, image: NOWHERE }
-        } else {
-            Part { offset: range.start, length: range.len(), image: DESCRIPTION }
-        };
+        if !range.is_empty() {
+            expected_run.offset = range.start;
+            expected_run.length = range.len();
+            expected_run.image = DESCRIPTION;
+        }
     }
-    let (d, n) = (bytes.as_ptr(), bytes.len());
+    let (d, n) = (at(bytes), bytes.len());
     let answered = unsafe { cb_type_extent(d, n, number, &mut extent) };
     comparison.same("cb_type_extent", bytes, (told_by(answered), extent), (refusal, expected));
     let answered = unsafe { cb_type_classes(d, n, number, &mut classes) };
@@ -126,6 +129,7 @@ fn flat(placement: &places::Placement) -> Placement {
         type_number: placement.type_number,
         first,
         second,
+        reserved: [0; 5],
     }
 }
 
@@ -152,6 +156,7 @@ fn flat_layout(bytes: &[u8], layout: &places::Layout) -> Layout {
         return_first: of(0),
         return_second: of(1),
         hidden: u8::from(layout.hidden_address),
+        reserved: [0; 5],
     }
 }
 
@@ -168,6 +173,7 @@ const NO_LAYOUT: Layout = Layout {
     return_first: FILLING,
     return_second: FILLING,
     hidden: FILLING,
+    reserved: [FILLING; 5],
 };
 
 const NO_PLACEMENT: Placement = Placement {
@@ -177,6 +183,7 @@ const NO_PLACEMENT: Placement = Placement {
     type_number: FILLING,
     first: FILLING,
     second: FILLING,
+    reserved: [FILLING; 5],
 };
 
 fn compare_layouts(random: &mut Random, bytes: &[u8], comparison: &mut Comparison) {
@@ -184,7 +191,7 @@ fn compare_layouts(random: &mut Random, bytes: &[u8], comparison: &mut Compariso
     let refusal = told(&answer);
     let expected = answer.as_ref().map_or(NO_LAYOUT, |layout| flat_layout(bytes, layout));
     let mut layout = NO_LAYOUT;
-    let answered = unsafe { cb_layout_of(bytes.as_ptr(), bytes.len(), &mut layout) };
+    let answered = unsafe { cb_layout_of(at(bytes), bytes.len(), &mut layout) };
     comparison.same("cb_layout_of", bytes, (told_by(answered), layout), (refusal, expected));
 
     let count = answer.as_ref().map_or(3, |layout| layout.placements.len());
@@ -202,9 +209,8 @@ fn compare_layouts(random: &mut Random, bytes: &[u8], comparison: &mut Compariso
             }
         }
         let mut layout = NO_LAYOUT;
-        let answered = unsafe {
-            cb_lay_out(bytes.as_ptr(), bytes.len(), &mut layout, list.as_mut_ptr(), room)
-        };
+        let answered =
+            unsafe { cb_lay_out(at(bytes), bytes.len(), &mut layout, at_mut(&mut list), room) };
         comparison.same(
             "cb_lay_out",
             bytes,
@@ -219,7 +225,7 @@ fn compare_listing(bytes: &[u8], comparison: &mut Comparison) {
     let mut expected = vec![FILLING; LISTING_ROOM];
     expected[..text.len()].copy_from_slice(text.as_bytes());
     let mut out = vec![FILLING; LISTING_ROOM];
-    let length = unsafe { cb_write_listing(bytes.as_ptr(), bytes.len(), out.as_mut_ptr()) };
+    let length = unsafe { cb_write_listing(at(bytes), bytes.len(), at_mut(&mut out)) };
     comparison.same("cb_write_listing", bytes, (length, out), (text.len(), expected));
 }
 
@@ -269,14 +275,14 @@ fn compare_move(
     let mut placed = Placed { vector_registers: UNTOUCHED };
     let answered = unsafe {
         cb_place_values(
-            bytes.as_ptr(),
+            at(bytes),
             bytes.len(),
             hidden,
-            values.as_ptr(),
+            at(values),
             values.len(),
-            registers.as_mut_ptr(),
+            at_mut(&mut registers),
             registers.len(),
-            stack.as_mut_ptr(),
+            at_mut(&mut stack),
             stack.len(),
             &mut placed,
         )
@@ -297,13 +303,13 @@ fn compare_move(
     let mut gathered = Gathered { hidden: UNTOUCHED as u64 };
     let answered = unsafe {
         cb_gather_values(
-            bytes.as_ptr(),
+            at(bytes),
             bytes.len(),
-            registers.as_ptr(),
+            at(&registers),
             registers.len(),
-            stack.as_ptr(),
+            at(&stack),
             stack.len(),
-            out.as_mut_ptr(),
+            at_mut(&mut out),
             out.len(),
             &mut gathered,
         )
@@ -345,12 +351,12 @@ fn compare_put(
     let answer = putting(bytes, hidden, value, &mut expected);
     let answered = unsafe {
         cb_put_returned(
-            bytes.as_ptr(),
+            at(bytes),
             bytes.len(),
             hidden,
-            value.as_ptr(),
+            at(value),
             value.len(),
-            image.as_mut_ptr(),
+            at_mut(&mut image),
             image.len(),
         )
     };
@@ -376,11 +382,11 @@ fn compare_take(
     let mut taken = Gathered { hidden: UNTOUCHED as u64 };
     let answered = unsafe {
         cb_take_returned(
-            bytes.as_ptr(),
+            at(bytes),
             bytes.len(),
-            image.as_ptr(),
+            at(&image),
             image.len(),
-            value.as_mut_ptr(),
+            at_mut(&mut value),
             value.len(),
             &mut taken,
         )

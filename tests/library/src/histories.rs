@@ -1,12 +1,18 @@
 //! Random histories of calls, played through the library: after each command the line that it answers, in which station, seat, walk
 //! and out buffer stand, against the line of the independent layout.
+//! What the lines do not have is looked at here: an answer writes `attached` as 0 or 1 and reserved bytes as zero, a refusal leaves
+//! every byte. Between the calls the host puts another number that says attached, and rubbish into the reserved bytes: no answer changes.
+//! An empty buffer is lent as NULL.
 
-use crate::comparison::{told_by, Comparison};
+use crate::comparison::{at, at_mut, told_by, Comparison};
 use callbridge::raw::*;
 use independent::history::{
     random_history, word_and_hex, Command, Script, FILLING, SEAT_ROOM, SLOTS,
 };
 use independent::random::Random;
+
+/// Bytes that say that something is attached. The library writes 1 alone.
+const ATTACHED: [u8; 4] = [1, 2, 128, 255];
 
 /// Everything that the commands work on, as a host of the library holds it.
 struct Desk {
@@ -16,12 +22,14 @@ struct Desk {
     walks: [Walk; SLOTS],
     registers: Vec<u8>,
     stack: Vec<u8>,
+    /// What the host writes for 1 into an attached station.
+    attached: u8,
 }
 
 pub fn compare(random: &mut Random, commands: usize, comparison: &mut Comparison) {
     let mut script = Script::new();
     random_history(random, &mut script, commands);
-    let mut desk = Desk::new();
+    let mut desk = Desk::new(random.choose(&ATTACHED));
     for (command, expected) in script.commands.iter().zip(&script.lines) {
         let line = desk.answer(command);
         let place = format!("{command:?}");
@@ -30,7 +38,7 @@ pub fn compare(random: &mut Random, commands: usize, comparison: &mut Comparison
 }
 
 impl Desk {
-    fn new() -> Desk {
+    fn new(attached: u8) -> Desk {
         Desk {
             station: unsafe { cb_new_station() },
             seat: [0; SEAT_ROOM],
@@ -38,6 +46,7 @@ impl Desk {
             walks: [Walk::default(); SLOTS],
             registers: Vec::new(),
             stack: Vec::new(),
+            attached,
         }
     }
 
@@ -48,7 +57,8 @@ impl Desk {
     }
 
     fn station_text(&self) -> String {
-        format!("station {} {} {}", self.station.attached, self.station.length, self.station.number)
+        let attached = u8::from(self.station.attached != 0);
+        format!("station {attached} {} {}", self.station.length, self.station.number)
     }
 
     fn walk_text(&self, slot: u8) -> String {
@@ -62,7 +72,7 @@ impl Desk {
     fn answer(&mut self, command: &Command) -> String {
         match command {
             Command::Reset => {
-                *self = Desk::new();
+                *self = Desk::new(self.attached);
                 "reset".to_string()
             }
             Command::SeatLength(length) => {
@@ -79,9 +89,10 @@ impl Desk {
             }
             Command::StationByHand(station) => {
                 self.station = Station {
-                    attached: u8::from(station.attached),
                     length: station.length,
                     number: station.number,
+                    attached: if station.attached { self.attached } else { 0 },
+                    reserved: [FILLING; 3],
                 };
                 self.station_text()
             }
@@ -95,11 +106,12 @@ impl Desk {
             }
             Command::WalkByHand { slot, walk } => {
                 self.walks[*slot as usize] = Walk {
-                    number: walk.number,
                     position: walk.position as usize,
                     general: walk.gp_offset as usize,
                     vector: walk.fp_offset as usize,
                     overflow: walk.overflow as usize,
+                    number: walk.number,
+                    reserved: [FILLING; 4],
                 };
                 self.walk_text(*slot)
             }
@@ -110,16 +122,12 @@ impl Desk {
     fn answer_call(&mut self, command: &Command) -> String {
         match command {
             Command::Attach(description) => {
-                let (seat, lent) = (self.seat.as_mut_ptr(), self.lent);
+                let (seat, lent) = (at_mut(&mut self.seat[..self.lent]), self.lent);
+                let before = self.station;
                 let refusal = unsafe {
-                    cb_attach(
-                        &mut self.station,
-                        seat,
-                        lent,
-                        description.as_ptr(),
-                        description.len(),
-                    )
+                    cb_attach(&mut self.station, seat, lent, at(description), description.len())
                 };
+                self.see_station(refusal, before);
                 format!(
                     "attach {} {} seat {}",
                     told_by(refusal),
@@ -128,8 +136,10 @@ impl Desk {
                 )
             }
             Command::Detach => {
-                let refusal =
-                    unsafe { cb_detach(&mut self.station, self.seat.as_mut_ptr(), self.lent) };
+                let before = self.station;
+                let seat = at_mut(&mut self.seat[..self.lent]);
+                let refusal = unsafe { cb_detach(&mut self.station, seat, self.lent) };
+                self.see_station(refusal, before);
                 format!(
                     "detach {} {} seat {}",
                     told_by(refusal),
@@ -139,8 +149,10 @@ impl Desk {
             }
             Command::Open { slot } => {
                 let walk = &mut self.walks[*slot as usize];
-                let refusal =
-                    unsafe { cb_open_walk(&self.station, self.seat.as_ptr(), self.lent, walk) };
+                let before = *walk;
+                let seat = at(&self.seat[..self.lent]);
+                let refusal = unsafe { cb_open_walk(&self.station, seat, self.lent, walk) };
+                see_walk(refusal, before, walk);
                 format!("open {} {}", told_by(refusal), self.walk_text(*slot))
             }
             Command::Step { slot, asked, out } => self.answer_step(*slot, *asked, *out),
@@ -161,43 +173,69 @@ impl Desk {
 
     fn answer_step(&mut self, slot: u8, asked: u8, length: u16) -> String {
         let mut out = vec![FILLING; length as usize];
+        let before = self.walks[slot as usize];
         let refusal = unsafe {
             cb_step(
                 &self.station,
-                self.seat.as_ptr(),
+                at(&self.seat[..self.lent]),
                 self.lent,
                 &mut self.walks[slot as usize],
-                self.registers.as_ptr(),
+                at(&self.registers),
                 self.registers.len(),
-                self.stack.as_ptr(),
+                at(&self.stack),
                 self.stack.len(),
                 asked,
-                out.as_mut_ptr(),
+                at_mut(&mut out),
                 out.len(),
             )
         };
+        see_walk(refusal, before, &mut self.walks[slot as usize]);
         format!("step {} {} {}", told_by(refusal), word_and_hex("out", &out), self.walk_text(slot))
     }
 
-    /// The refusal and the part. A refusal must leave the part, which then says that it is nowhere.
+    /// The refusal and the part. A refusal makes it the empty part, whatever it held.
     fn shown(&self, slot: u8, asked: u8) -> (Refusal, Part) {
-        let mut part = Part { offset: 1, length: 2, image: NOWHERE };
+        let mut part = Part { offset: 1, length: 2, image: FILLING, reserved: [FILLING; 7] };
         let refusal = unsafe {
             cb_show(
                 &self.station,
-                self.seat.as_ptr(),
+                at(&self.seat[..self.lent]),
                 self.lent,
                 &self.walks[slot as usize],
-                self.registers.as_ptr(),
+                at(&self.registers),
                 self.registers.len(),
-                self.stack.as_ptr(),
+                at(&self.stack),
                 self.stack.len(),
                 asked,
                 &mut part,
             )
         };
-        let written = part != Part { offset: 1, length: 2, image: NOWHERE };
-        assert_eq!(written, refusal.number == 0, "a refusal leaves the part, an answer fills it");
+        assert_eq!(part.reserved, [0; 7], "the reserved bytes of a part");
+        if refusal.number != 0 || part.image == NOWHERE {
+            assert_eq!(part, Part::default(), "no part is the empty part");
+        }
         (refusal, part)
     }
+
+    /// What an attach or a detach left of the station that is not in its line; then the host's bytes.
+    fn see_station(&mut self, refusal: Refusal, before: Station) {
+        if refusal.number != 0 {
+            assert_eq!(self.station, before, "a refusal leaves the station");
+            return;
+        }
+        assert!(self.station.attached <= 1, "attached is written as 0 or 1");
+        assert_eq!(self.station.reserved, [0; 3], "the reserved bytes of a station");
+        self.station.attached *= self.attached;
+        self.station.reserved = [FILLING; 3];
+    }
+}
+
+/// What an open or a step left of the walk that is not in its line; then the host's bytes.
+fn see_walk(refusal: Refusal, before: Walk, walk: &mut Walk) {
+    if refusal.number != 0 {
+        assert_eq!(*walk, before, "a refusal leaves the walk");
+        return;
+    }
+    assert_eq!(walk.reserved, [0; 4], "the reserved bytes of a walk");
+    walk.reserved = [FILLING; 4];
 }
