@@ -59,7 +59,7 @@ FILLED = sed -e 's|@PREFIX@|$(PREFIX)|' -e 's|@LIBDIR@|$(LIBDIR)|' -e 's|@VERSIO
 
 install: all
 	@[ "$(MACHINE)" = x86_64 ] || echo "make install: this machine is $(MACHINE); what is installed is x86-64 code, for programs of x86-64 machines"
-	install -d $(BIN) $(LIB)/pkgconfig $(CMAKE) $(INCLUDE) $(MAN)/man1 $(MAN)/man3 $(DOC)
+	install -d $(BIN) $(LIB)/pkgconfig $(CMAKE) $(INCLUDE) $(MAN)/man1 $(MAN)/man3 $(MAN)/man5 $(DOC)
 	install -m 644 include/callbridge.h $(INCLUDE)/callbridge.h
 	install -m 644 $(LIBRARY) $(LIB)/libcallbridge.a
 	install -m 755 $(SHARED) $(LIB)/libcallbridge.so.$(VERSION)
@@ -72,11 +72,12 @@ install: all
 	install -m 755 $(LISTER) $(BIN)/kcb-list
 	install -m 644 man/kcb-list.1 $(MAN)/man1/kcb-list.1
 	install -m 644 man/callbridge.3 $(MAN)/man3/callbridge.3
+	install -m 644 man/kcb.5 $(MAN)/man5/kcb.5
 	install -m 644 LICENSE $(DOC)/LICENSE
 	[ -n "$(DESTDIR)" ] || ! [ -w /etc/ld.so.cache ] || ldconfig
 
 uninstall:
-	rm -f $(INCLUDE)/callbridge.h $(BIN)/kcb-list $(MAN)/man1/kcb-list.1 $(MAN)/man3/callbridge.3 $(DOC)/LICENSE
+	rm -f $(INCLUDE)/callbridge.h $(BIN)/kcb-list $(MAN)/man1/kcb-list.1 $(MAN)/man3/callbridge.3 $(MAN)/man5/kcb.5 $(DOC)/LICENSE
 	rm -f $(LIB)/libcallbridge.a $(LIB)/libcallbridge.so.$(VERSION) $(LIB)/libcallbridge.so.$(MAJOR) $(LIB)/libcallbridge.so
 	rm -f $(LIB)/pkgconfig/callbridge.pc $(LIB)/pkgconfig/callbridge-static.pc
 	rm -f $(CMAKE)/callbridge-config.cmake $(CMAKE)/callbridge-config-version.cmake

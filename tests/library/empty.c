@@ -241,9 +241,25 @@ static int try_call(const struct call *call, const desk *prepared, unsigned empt
     return without.number == CB_ACCEPTED;
 }
 
+/* The builder of the header keeps to the same. */
+static void build(void)
+{
+    cb_builder structure = cb_begin(), either = cb_begin(), nowhere = cb_begin();
+    cb_struct(&structure, NULL, 0);
+    cb_union(&either, NULL, 0);
+    size_t length = cb_finish(&nowhere, NULL, 0);
+    if (structure.refusal.number != CB_WRONG_TYPE_RECORD || either.refusal.number != CB_WRONG_TYPE_RECORD || length != 0 ||
+        nowhere.refusal.number != CB_WRONG_BUFFER) {
+        printf("the builder: refusals %u, %u and %u, length %zu\n", structure.refusal.number, either.refusal.number,
+               nowhere.refusal.number, length);
+        wrong = 1;
+    }
+}
+
 int main(void)
 {
     static desk prepared;
+    build();
     for (size_t i = 0; i < CALLS; i++) {
         int made = 0, accepted = 0;
         for (size_t k = 0; k < DESCRIPTIONS; k++) {

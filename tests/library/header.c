@@ -95,6 +95,11 @@ static void sizes(void)
     expect("sizeof(cb_walk)", sizeof(cb_walk),
            FIELD(cb_walk, position) + FIELD(cb_walk, general) + FIELD(cb_walk, vector) + FIELD(cb_walk, overflow) +
                FIELD(cb_walk, number) + FIELD(cb_walk, reserved));
+    expect("sizeof(cb_builder)", sizeof(cb_builder),
+           FIELD(cb_builder, refusal) + FIELD(cb_builder, type_count) + FIELD(cb_builder, member_count) +
+               FIELD(cb_builder, argument_count) + FIELD(cb_builder, named_count) + FIELD(cb_builder, variadic) +
+               FIELD(cb_builder, returns) + FIELD(cb_builder, returned) + FIELD(cb_builder, types) + FIELD(cb_builder, members) +
+               FIELD(cb_builder, arguments));
 }
 
 static void questions(void)

@@ -7,8 +7,12 @@
 //! nothing.
 //!
 //! ```
-//! // An int and a double, returning nothing.
-//! let description = [b'K', b'C', b'B', 1, 0, 2, 0, 2, 2, 255, 0, 0, 3, 0, 0, 0, 7, 0, 0, 0, 1];
+//! // void f(int, double)
+//! let mut builder = callbridge::Builder::new();
+//! let int = builder.basic(callbridge::Basic::Int);
+//! let double = builder.basic(callbridge::Basic::Double);
+//! let description = builder.argument(int).argument(double).finish()?;
+//!
 //! let (layout, placements) = callbridge::lay_out(&description)?;
 //! assert_eq!(layout.area, 0);
 //! assert_eq!(placements[0].place.to_string(), "rdi");
@@ -54,12 +58,14 @@
 
 pub mod raw;
 
+mod builder;
 mod layout;
 mod moving;
 mod refusal;
 mod station;
 mod types;
 
+pub use builder::{Basic, Builder, VOID};
 pub use layout::{lay_out, layout, Layout, Place, Placement, Register, Returned};
 pub use moving::{
     gather, place, put_returned, take_returned, Images, REGISTER_IMAGE, RETURN_IMAGE,

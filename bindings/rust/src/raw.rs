@@ -6,6 +6,40 @@
 //! No struct has padding. Its `reserved` bytes are written as zero wherever the struct is written, and
 //! never looked at.
 
+/// Limits of a description, and what its bytes 3 and 4 say.
+pub const FORMAT_VERSION: u16 = 1;
+pub const MAX_TYPES: usize = 64;
+pub const MAX_MEMBERS: usize = 255;
+pub const MAX_ARGUMENTS: usize = 64;
+pub const MAX_ELEMENTS: usize = 4096;
+
+/// Byte 9 of a description where nothing is returned.
+pub const VOID: u8 = 255;
+
+/// Kinds of a type: the first byte of its record.
+pub const BASIC: u8 = 0;
+pub const ARRAY: u8 = 1;
+pub const STRUCT: u8 = 2;
+pub const UNION: u8 = 3;
+
+/// Codes of basic types: the second byte of such a record.
+pub const BOOL: u8 = 0;
+pub const CHAR: u8 = 1;
+pub const SHORT: u8 = 2;
+pub const INT: u8 = 3;
+pub const LONG: u8 = 4;
+pub const INT128: u8 = 5;
+pub const FLOAT: u8 = 6;
+pub const DOUBLE: u8 = 7;
+pub const LONG_DOUBLE: u8 = 8;
+pub const FLOAT128: u8 = 9;
+pub const M64: u8 = 10;
+pub const M128: u8 = 11;
+pub const COMPLEX_FLOAT: u8 = 12;
+pub const COMPLEX_DOUBLE: u8 = 13;
+pub const COMPLEX_LONG_DOUBLE: u8 = 14;
+pub const POINTER: u8 = 15;
+
 /// Why a call was refused, number 0 for none. `type_number` is a type's where `number` is 6 or 7, and 0
 /// otherwise.
 #[repr(C)]

@@ -1,5 +1,6 @@
 //! The C library against the independent layout. `library help` lists the commands.
 
+mod builds;
 mod comparison;
 mod descriptions;
 mod histories;
@@ -12,6 +13,7 @@ use std::process::ExitCode;
 const HELP: &str = "\
 library descriptions COUNT [--seed N]   every call about COUNT random descriptions
 library histories COUNT [--seed N]      COUNT random histories of some 40 calls
+library builds COUNT FILE [--seed N]    COUNT random builds, written to FILE for builder.c
 ";
 
 fn main() -> ExitCode {
@@ -20,6 +22,7 @@ fn main() -> ExitCode {
     match words.as_slice() {
         ["descriptions", count, options @ ..] => run_descriptions(number(count), options),
         ["histories", count, options @ ..] => run_histories(number(count), options),
+        ["builds", count, file, options @ ..] => run_builds(number(count), file, options),
         ["help"] | ["--help"] => {
             print!("{HELP}");
             ExitCode::SUCCESS
@@ -69,6 +72,21 @@ fn run_histories(count: u64, options: &[&str]) -> ExitCode {
     }
     println!(
         "library: {count} histories, seed {seed}, {} commands compared, {} different",
+        comparison.made, comparison.different
+    );
+    verdict(&comparison)
+}
+
+fn run_builds(count: u64, file: &str, options: &[&str]) -> ExitCode {
+    let seed = seed_of(options);
+    let mut random = Random::new(seed);
+    let mut comparison = Comparison::default();
+    let lines: Vec<String> =
+        (0..count).map(|_| builds::compare(&mut random, &mut comparison)).collect();
+    let refused = lines.iter().filter(|line| line.contains("refused")).count();
+    std::fs::write(file, lines.join("\n") + "\n").expect("the file of builds");
+    println!(
+        "library: {count} builds, seed {seed}, {refused} refused, {} comparisons, {} different",
         comparison.made, comparison.different
     );
     verdict(&comparison)
