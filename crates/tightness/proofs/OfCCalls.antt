@@ -23,6 +23,12 @@ use Rattle.c_calls.proofs.put_returned.Symbol as put-returned-symbol
 use Rattle.c_calls.proofs.take_returned
 use Rattle.c_calls.proofs.take_returned.Met as take-returned-met
 use Rattle.c_calls.proofs.take_returned.Symbol as take-returned-symbol
+use Rattle.c_calls.proofs.attach
+use Rattle.c_calls.proofs.attach.Met as attach-met
+use Rattle.c_calls.proofs.attach.Symbol as attach-symbol
+use Rattle.c_calls.proofs.detach
+use Rattle.c_calls.proofs.detach.Met as detach-met
+use Rattle.c_calls.proofs.detach.Symbol as detach-symbol
 use Rattle.c_calls.proofs.type_extent
 use Rattle.c_calls.proofs.type_extent.Met as type-extent-met
 use Rattle.c_calls.proofs.type_extent.Symbol as type-extent-symbol
@@ -35,6 +41,9 @@ use Rattle.c_calls.proofs.member_run.Symbol as member-run-symbol
 use Rattle.c_calls.proofs.open_walk
 use Rattle.c_calls.proofs.open_walk.Met as open-walk-met
 use Rattle.c_calls.proofs.open_walk.Symbol as open-walk-symbol
+use Rattle.c_calls.proofs.step
+use Rattle.c_calls.proofs.step.Met as step-met
+use Rattle.c_calls.proofs.step.Symbol as step-symbol
 use Rattle.c_calls.proofs.show
 use Rattle.c_calls.proofs.show.Met as show-met
 use Rattle.c_calls.proofs.show.Symbol as show-symbol
@@ -96,6 +105,24 @@ tight-c-calls-take-returned c r q w v a b = (settle (result take_returned.ended 
     same-value : w .1 .1 .0 ≡ v .1 .1 .0
     same-value = settle bytes (a .ensured) (b .ensured) (λ e f. e .1 .1 ∙ sym (f .1 .1))
 
+pub meets-c-calls-attach : Meets attach.ended (λ M. attach.clauses {M = M}) attach-symbol.routine
+meets-c-calls-attach M = attach-met.met
+
+pub tight-c-calls-attach : Tight attach.ended (λ M. attach.clauses {M = M})
+tight-c-calls-attach c r q w v a b = (settle (result attach.ended c) (a .ensured) (b .ensured) (λ e f i. record { station = (e .1 .0 ∙ sym (f .1 .0)) i; refusal = (e .0 ∙ sym (f .0)) i }), λ i. (tt, (same-seat i, (tt, tt))))
+  where
+    same-seat : w .1 .0 ≡ v .1 .0
+    same-seat = settle bytes (a .ensured) (b .ensured) (λ e f. e .1 .1 ∙ sym (f .1 .1))
+
+pub meets-c-calls-detach : Meets detach.ended (λ M. detach.clauses {M = M}) detach-symbol.routine
+meets-c-calls-detach M = detach-met.met
+
+pub tight-c-calls-detach : Tight detach.ended (λ M. detach.clauses {M = M})
+tight-c-calls-detach c r q w v a b = (settle (result detach.ended c) (a .ensured) (b .ensured) (λ e f i. record { station = (e .1 .0 ∙ sym (f .1 .0)) i; refusal = (e .0 ∙ sym (f .0)) i }), λ i. (tt, (same-seat i, tt)))
+  where
+    same-seat : w .1 .0 ≡ v .1 .0
+    same-seat = settle bytes (a .ensured) (b .ensured) (λ e f. e .1 .1 ∙ sym (f .1 .1))
+
 pub meets-c-calls-type-extent : Meets type_extent.ended (λ M. type_extent.clauses {M = M}) type-extent-symbol.routine
 meets-c-calls-type-extent M = type-extent-met.met
 
@@ -119,6 +146,15 @@ meets-c-calls-open-walk M = open-walk-met.met
 
 pub tight-c-calls-open-walk : Tight open_walk.ended (λ M. open_walk.clauses {M = M})
 tight-c-calls-open-walk c r q w v a b = (settle (result open_walk.ended c) (a .ensured) (b .ensured) (λ e f i. record { walk = (e .1 ∙ sym (f .1)) i; refusal = (e .0 ∙ sym (f .0)) i }), refl)
+
+pub meets-c-calls-step : Meets step.ended (λ M. step.clauses {M = M}) step-symbol.routine
+meets-c-calls-step M = step-met.met
+
+pub tight-c-calls-step : Tight step.ended (λ M. step.clauses {M = M})
+tight-c-calls-step c r q w v a b = (settle (result step.ended c) (a .ensured) (b .ensured) (λ e f i. record { walk = (e .1 .0 ∙ sym (f .1 .0)) i; refusal = (e .0 ∙ sym (f .0)) i }), λ i. (tt, (tt, (tt, (tt, (tt, (tt, (same-out i, tt))))))))
+  where
+    same-out : w .1 .1 .1 .1 .1 .1 .0 ≡ v .1 .1 .1 .1 .1 .1 .0
+    same-out = settle bytes (a .ensured) (b .ensured) (λ e f. e .1 .1 ∙ sym (f .1 .1))
 
 pub meets-c-calls-show : Meets show.ended (λ M. show.clauses {M = M}) show-symbol.routine
 meets-c-calls-show M = show-met.met

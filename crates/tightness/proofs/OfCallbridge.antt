@@ -9,9 +9,9 @@ use Rattle.flat.proofs.Layout as flat-Layout
 use Rattle.flat.proofs.Part as flat-Part
 use Rattle.flat.proofs.Placed as flat-Placed
 use Rattle.flat.proofs.Placement as flat-Placement
-use Rattle.station.proofs.Station as station-Station
+use Rattle.flat.proofs.Station as flat-Station
+use Rattle.flat.proofs.Walk as flat-Walk
 use Rattle.types.proofs.Extent as types-Extent
-use Rattle.walk.proofs.Walk as walk-Walk
 use Rattle.callbridge.proofs.cb_version
 use Rattle.callbridge.proofs.cb_version.Met as cb-version-met
 use Rattle.callbridge.proofs.cb_version.Symbol as cb-version-symbol
@@ -197,10 +197,10 @@ pub tight-callbridge-cb-attach : Tight cb_attach.ended (λ M. cb_attach.clauses 
 tight-callbridge-cb-attach c r q w v a b = (settle (result cb_attach.ended c) (a .ensured) (b .ensured) (λ e f. e .0 ∙ sym (f .0)), λ i. (same-station i, (same-seat i, (tt, tt))))
   where
     same-station : w .0 ≡ v .0
-    same-station = settle (station-Station.the-row .coded) (a .ensured) (b .ensured) (λ e f. e .1 ∙ sym (f .1))
+    same-station = settle (flat-Station.the-row .coded) (a .ensured) (b .ensured) (λ e f. e .1 .0 ∙ sym (f .1 .0))
 
     same-seat : w .1 .0 ≡ v .1 .0
-    same-seat = settle bytes (a .ensured) (b .ensured) (λ e f. e .2 ∙ sym (f .2))
+    same-seat = settle bytes (a .ensured) (b .ensured) (λ e f. e .1 .1 ∙ sym (f .1 .1))
 
 pub meets-callbridge-cb-detach : Meets cb_detach.ended (λ M. cb_detach.clauses {M = M}) cb-detach-symbol.routine
 meets-callbridge-cb-detach M = cb-detach-met.met
@@ -209,10 +209,10 @@ pub tight-callbridge-cb-detach : Tight cb_detach.ended (λ M. cb_detach.clauses 
 tight-callbridge-cb-detach c r q w v a b = (settle (result cb_detach.ended c) (a .ensured) (b .ensured) (λ e f. e .0 ∙ sym (f .0)), λ i. (same-station i, (same-seat i, tt)))
   where
     same-station : w .0 ≡ v .0
-    same-station = settle (station-Station.the-row .coded) (a .ensured) (b .ensured) (λ e f. e .1 ∙ sym (f .1))
+    same-station = settle (flat-Station.the-row .coded) (a .ensured) (b .ensured) (λ e f. e .1 .0 ∙ sym (f .1 .0))
 
     same-seat : w .1 .0 ≡ v .1 .0
-    same-seat = settle bytes (a .ensured) (b .ensured) (λ e f. e .2 ∙ sym (f .2))
+    same-seat = settle bytes (a .ensured) (b .ensured) (λ e f. e .1 .1 ∙ sym (f .1 .1))
 
 pub meets-callbridge-cb-open-walk : Meets cb_open_walk.ended (λ M. cb_open_walk.clauses {M = M}) cb-open-walk-symbol.routine
 meets-callbridge-cb-open-walk M = cb-open-walk-met.met
@@ -221,7 +221,7 @@ pub tight-callbridge-cb-open-walk : Tight cb_open_walk.ended (λ M. cb_open_walk
 tight-callbridge-cb-open-walk c r q w v a b = (settle (result cb_open_walk.ended c) (a .ensured) (b .ensured) (λ e f. e .0 ∙ sym (f .0)), λ i. (tt, (tt, (same-walk i, tt))))
   where
     same-walk : w .1 .1 .0 ≡ v .1 .1 .0
-    same-walk = settle (walk-Walk.the-row .coded) (a .ensured) (b .ensured) (λ e f. e .1 ∙ sym (f .1))
+    same-walk = settle (flat-Walk.the-row .coded) (a .ensured) (b .ensured) (λ e f. e .1 ∙ sym (f .1))
 
 pub meets-callbridge-cb-step : Meets cb_step.ended (λ M. cb_step.clauses {M = M}) cb-step-symbol.routine
 meets-callbridge-cb-step M = cb-step-met.met
@@ -230,10 +230,10 @@ pub tight-callbridge-cb-step : Tight cb_step.ended (λ M. cb_step.clauses {M = M
 tight-callbridge-cb-step c r q w v a b = (settle (result cb_step.ended c) (a .ensured) (b .ensured) (λ e f. e .0 ∙ sym (f .0)), λ i. (tt, (tt, (same-walk i, (tt, (tt, (tt, (same-out i, tt))))))))
   where
     same-walk : w .1 .1 .0 ≡ v .1 .1 .0
-    same-walk = settle (walk-Walk.the-row .coded) (a .ensured) (b .ensured) (λ e f. e .1 ∙ sym (f .1))
+    same-walk = settle (flat-Walk.the-row .coded) (a .ensured) (b .ensured) (λ e f. e .1 .0 ∙ sym (f .1 .0))
 
     same-out : w .1 .1 .1 .1 .1 .1 .0 ≡ v .1 .1 .1 .1 .1 .1 .0
-    same-out = settle bytes (a .ensured) (b .ensured) (λ e f. e .2 ∙ sym (f .2))
+    same-out = settle bytes (a .ensured) (b .ensured) (λ e f. e .1 .1 ∙ sym (f .1 .1))
 
 pub meets-callbridge-cb-show : Meets cb_show.ended (λ M. cb_show.clauses {M = M}) cb-show-symbol.routine
 meets-callbridge-cb-show M = cb-show-met.met

@@ -6,6 +6,9 @@ use Rattle.tightness.proofs.Laws.{bytes, equal, result, settle}
 use Rattle.questions.proofs.type_classes
 use Rattle.questions.proofs.type_classes.Met as type-classes-met
 use Rattle.questions.proofs.type_classes.Symbol as type-classes-symbol
+use Rattle.questions.proofs.refusal_in
+use Rattle.questions.proofs.refusal_in.Met as refusal-in-met
+use Rattle.questions.proofs.refusal_in.Symbol as refusal-in-symbol
 use Rattle.questions.proofs.type_extent
 use Rattle.questions.proofs.type_extent.Met as type-extent-met
 use Rattle.questions.proofs.type_extent.Symbol as type-extent-symbol
@@ -30,6 +33,12 @@ meets-questions-type-classes M = type-classes-met.met
 
 pub tight-questions-type-classes : Tight type_classes.ended (λ M. type_classes.clauses {M = M})
 tight-questions-type-classes c r q w v a b = (equal (result type_classes.ended c) (a .ensured) (b .ensured), refl)
+
+pub meets-questions-refusal-in : Meets refusal_in.ended (λ M. refusal_in.clauses {M = M}) refusal-in-symbol.routine
+meets-questions-refusal-in M = refusal-in-met.met
+
+pub tight-questions-refusal-in : Tight refusal_in.ended (λ M. refusal_in.clauses {M = M})
+tight-questions-refusal-in c r q w v a b = (equal (result refusal_in.ended c) (a .ensured) (b .ensured), refl)
 
 pub meets-questions-type-extent : Meets type_extent.ended (λ M. type_extent.clauses {M = M}) type-extent-symbol.routine
 meets-questions-type-extent M = type-extent-met.met
