@@ -1,203 +1,137 @@
-//! Random histories of calls, played through the library: after each command the line that it answers, in which station, seat, walk
-//! and out buffer stand, against the line of the independent layout.
+//! Random histories of calls, played through the library: of each command the refusal, and all that it lent or set, against the
+//! independent layout.
 
-use crate::comparison::{told_by, Comparison};
-use callbridge::raw::*;
-use independent::history::{
-    random_history, word_and_hex, Command, Script, FILLING, SEAT_ROOM, SLOTS,
-};
+use crate::batch::{About, Batch, Thing};
+use crate::records::{left, Part, FILLING, NOWHERE, REGISTERS, STACK};
+use independent::history::{random_history, Command, Scene, Script};
+use independent::moving::Image;
 use independent::random::Random;
+use independent::refusal::{told, Told};
+use independent::station::{attach, detach};
+use independent::walk::{open, shown_piece, step, Piece};
 
-/// Everything that the commands work on, as a host of the library holds it.
-struct Desk {
-    station: Station,
-    seat: [u8; SEAT_ROOM],
-    lent: usize,
-    walks: [Walk; SLOTS],
-    registers: Vec<u8>,
-    stack: Vec<u8>,
-}
-
-pub fn compare(random: &mut Random, commands: usize, comparison: &mut Comparison) {
+pub fn ask(random: &mut Random, length: usize, batch: &mut Batch) {
     let mut script = Script::new();
-    random_history(random, &mut script, commands);
-    let mut desk = Desk::new();
-    for (command, expected) in script.commands.iter().zip(&script.lines) {
-        let line = desk.answer(command);
-        let place = format!("{command:?}");
-        comparison.same("history", place.as_bytes(), &line, expected);
+    random_history(random, &mut script, length);
+    let mut scene = Scene::default();
+    for command in &script.commands {
+        command.encode(&mut batch.commands);
+        let name = expect(&mut scene, command, batch);
+        batch.end(name);
+    }
+    batch.about = About::History(script.commands);
+}
+
+const WALKS: [Thing; 4] = [Thing::Walk0, Thing::Walk1, Thing::Walk2, Thing::Walk3];
+
+/// Does what the command says, and expects the same of the driver. Answers a name for it.
+fn expect(scene: &mut Scene, command: &Command, batch: &mut Batch) -> &'static str {
+    match command {
+        Command::Attach(description) => {
+            let seat = &mut scene.seat[..scene.lent];
+            let answer = attach(&mut scene.station, seat, description);
+            expect_station(scene, told(&answer), batch);
+            batch.buffer(Thing::Description, description);
+            "cb_attach"
+        }
+        Command::Detach => {
+            let answer = detach(&mut scene.station, &mut scene.seat[..scene.lent]);
+            expect_station(scene, told(&answer), batch);
+            "cb_detach"
+        }
+        Command::Open { slot } => {
+            let answer = open(&scene.station, &scene.seat[..scene.lent]);
+            let walk = &mut scene.walks[*slot as usize];
+            *walk = left(*walk, answer);
+            expect_walk(scene, told(&answer), *slot, batch);
+            "cb_open_walk"
+        }
+        Command::Step { slot, asked, out } => {
+            expect_step(scene, *slot, *asked, *out, batch);
+            "cb_step"
+        }
+        Command::Show { slot, asked } | Command::Number { slot, asked } => {
+            expect_shown(scene, *slot, *asked, batch);
+            "cb_show"
+        }
+        _ => {
+            scene.answer(command);
+            expect_set(scene, command, batch);
+            "what is set"
+        }
     }
 }
 
-impl Desk {
-    fn new() -> Desk {
-        Desk {
-            station: unsafe { cb_new_station() },
-            seat: [0; SEAT_ROOM],
-            lent: 586,
-            walks: [Walk::default(); SLOTS],
-            registers: Vec::new(),
-            stack: Vec::new(),
+fn expect_station(scene: &Scene, told: Told, batch: &mut Batch) {
+    batch.told(told).record(Thing::Station, &scene.station).buffer(Thing::Seat, &scene.seat);
+}
+
+fn expect_walk(scene: &Scene, told: Told, slot: u8, batch: &mut Batch) {
+    expect_station(scene, told, batch);
+    batch.record(WALKS[slot as usize], &scene.walks[slot as usize]);
+}
+
+fn expect_images(scene: &Scene, told: Told, slot: u8, batch: &mut Batch) {
+    expect_walk(scene, told, slot, batch);
+    batch.buffer(Thing::Registers, &scene.registers).buffer(Thing::Stack, &scene.stack);
+}
+
+fn expect_step(scene: &mut Scene, slot: u8, asked: u8, length: u16, batch: &mut Batch) {
+    let mut out = vec![FILLING; length as usize];
+    let answer = step(
+        &scene.station,
+        &scene.seat[..scene.lent],
+        &mut scene.walks[slot as usize],
+        asked,
+        &scene.registers,
+        &scene.stack,
+        &mut out,
+    );
+    expect_images(scene, told(&answer), slot, batch);
+    batch.buffer(Thing::Out, &out);
+}
+
+fn part_of(piece: Option<Piece>) -> Part {
+    let Some(Piece { image, start, length }) = piece else {
+        return Part { offset: 0, length: 0, image: NOWHERE };
+    };
+    let image = match image {
+        Image::Registers => REGISTERS,
+        Image::Stack => STACK,
+    };
+    Part { offset: start.0 as u64, length: length.0 as u64, image }
+}
+
+fn expect_shown(scene: &Scene, slot: u8, asked: u8, batch: &mut Batch) {
+    let answer = shown_piece(
+        &scene.station,
+        &scene.seat[..scene.lent],
+        &scene.walks[slot as usize],
+        asked,
+        &scene.registers,
+        &scene.stack,
+    );
+    expect_images(scene, told(&answer), slot, batch);
+    batch.record(Thing::Record, &left(Part::FILLED, answer.map(part_of)));
+}
+
+/// What the commands set that call nothing; a reset calls cb_new_station.
+fn expect_set(scene: &Scene, command: &Command, batch: &mut Batch) {
+    match command {
+        Command::SeatLength(length) => batch.number("seat's length", u64::from(*length)),
+        Command::StationByHand(_) => batch.record(Thing::Station, &scene.station),
+        Command::WalkByHand { slot, .. } => {
+            batch.record(WALKS[*slot as usize], &scene.walks[*slot as usize])
         }
-    }
-
-    fn seat_sum(&self) -> usize {
-        let weighted =
-            self.seat.iter().enumerate().map(|(index, &byte)| (index + 1) * byte as usize);
-        weighted.sum::<usize>() % 65521
-    }
-
-    fn station_text(&self) -> String {
-        format!("station {} {} {}", self.station.attached, self.station.length, self.station.number)
-    }
-
-    fn walk_text(&self, slot: u8) -> String {
-        let walk = self.walks[slot as usize];
-        format!(
-            "walk {} {} {} {} {}",
-            walk.number, walk.position, walk.general, walk.vector, walk.overflow
-        )
-    }
-
-    fn answer(&mut self, command: &Command) -> String {
-        match command {
-            Command::Reset => {
-                *self = Desk::new();
-                "reset".to_string()
+        Command::Registers(_) => batch.buffer(Thing::Registers, &scene.registers),
+        Command::Stack(_) => batch.buffer(Thing::Stack, &scene.stack),
+        Command::Reset => {
+            batch.record(Thing::Station, &scene.station).buffer(Thing::Seat, &scene.seat);
+            for (thing, walk) in WALKS.into_iter().zip(&scene.walks) {
+                batch.record(thing, walk);
             }
-            Command::SeatLength(length) => {
-                self.lent = *length as usize;
-                format!("seat length {length}")
-            }
-            Command::Spoil { index, value } => {
-                self.seat[*index as usize] = *value;
-                format!("spoilt seat {}", self.seat_sum())
-            }
-            Command::FillSeat(value) => {
-                self.seat = [*value; SEAT_ROOM];
-                format!("filled seat {}", self.seat_sum())
-            }
-            Command::StationByHand(station) => {
-                self.station = Station {
-                    attached: u8::from(station.attached),
-                    length: station.length,
-                    number: station.number,
-                };
-                self.station_text()
-            }
-            Command::Registers(image) => {
-                self.registers = image.clone();
-                format!("registers {}", image.len())
-            }
-            Command::Stack(image) => {
-                self.stack = image.clone();
-                format!("stack {}", image.len())
-            }
-            Command::WalkByHand { slot, walk } => {
-                self.walks[*slot as usize] = Walk {
-                    number: walk.number,
-                    position: walk.position as usize,
-                    general: walk.gp_offset as usize,
-                    vector: walk.fp_offset as usize,
-                    overflow: walk.overflow as usize,
-                };
-                self.walk_text(*slot)
-            }
-            _ => self.answer_call(command),
+            batch
         }
-    }
-
-    fn answer_call(&mut self, command: &Command) -> String {
-        match command {
-            Command::Attach(description) => {
-                let (seat, lent) = (self.seat.as_mut_ptr(), self.lent);
-                let refusal = unsafe {
-                    cb_attach(
-                        &mut self.station,
-                        seat,
-                        lent,
-                        description.as_ptr(),
-                        description.len(),
-                    )
-                };
-                format!(
-                    "attach {} {} seat {}",
-                    told_by(refusal),
-                    self.station_text(),
-                    self.seat_sum()
-                )
-            }
-            Command::Detach => {
-                let refusal =
-                    unsafe { cb_detach(&mut self.station, self.seat.as_mut_ptr(), self.lent) };
-                format!(
-                    "detach {} {} seat {}",
-                    told_by(refusal),
-                    self.station_text(),
-                    self.seat_sum()
-                )
-            }
-            Command::Open { slot } => {
-                let walk = &mut self.walks[*slot as usize];
-                let refusal =
-                    unsafe { cb_open_walk(&self.station, self.seat.as_ptr(), self.lent, walk) };
-                format!("open {} {}", told_by(refusal), self.walk_text(*slot))
-            }
-            Command::Step { slot, asked, out } => self.answer_step(*slot, *asked, *out),
-            Command::Show { slot, asked } => {
-                let (_, part) = self.shown(*slot, *asked);
-                match part.image {
-                    REGISTERS => format!("show registers {} {}", part.offset, part.length),
-                    STACK => format!("show stack {} {}", part.offset, part.length),
-                    _ => "show none".to_string(),
-                }
-            }
-            Command::Number { slot, asked } => {
-                format!("number {}", told_by(self.shown(*slot, *asked).0))
-            }
-            _ => unreachable!("the other commands are answered above"),
-        }
-    }
-
-    fn answer_step(&mut self, slot: u8, asked: u8, length: u16) -> String {
-        let mut out = vec![FILLING; length as usize];
-        let refusal = unsafe {
-            cb_step(
-                &self.station,
-                self.seat.as_ptr(),
-                self.lent,
-                &mut self.walks[slot as usize],
-                self.registers.as_ptr(),
-                self.registers.len(),
-                self.stack.as_ptr(),
-                self.stack.len(),
-                asked,
-                out.as_mut_ptr(),
-                out.len(),
-            )
-        };
-        format!("step {} {} {}", told_by(refusal), word_and_hex("out", &out), self.walk_text(slot))
-    }
-
-    /// The refusal and the part. A refusal must leave the part, which then says that it is nowhere.
-    fn shown(&self, slot: u8, asked: u8) -> (Refusal, Part) {
-        let mut part = Part { offset: 1, length: 2, image: NOWHERE };
-        let refusal = unsafe {
-            cb_show(
-                &self.station,
-                self.seat.as_ptr(),
-                self.lent,
-                &self.walks[slot as usize],
-                self.registers.as_ptr(),
-                self.registers.len(),
-                self.stack.as_ptr(),
-                self.stack.len(),
-                asked,
-                &mut part,
-            )
-        };
-        let written = part != Part { offset: 1, length: 2, image: NOWHERE };
-        assert_eq!(written, refusal.number == 0, "a refusal leaves the part, an answer fills it");
-        (refusal, part)
-    }
+        _ => batch.buffer(Thing::Seat, &scene.seat),
+    };
 }
