@@ -1,68 +1,9 @@
-//! The raw calls and structs: that they are the header's, and what the header says of reserved bytes, of
-//! `attached`, of a refused part and of NULL.
+//! The raw calls: what the header says of reserved bytes, of `attached`, of a refused part and of NULL.
 
 use callbridge::raw::*;
-use std::mem::size_of;
 use std::ptr::{null, null_mut};
 
 const MIXED: &[u8] = include_bytes!("../../../examples/mixed.kcb");
-
-/// The structs that the library knows: name, and each field as Rust writes it.
-fn structs_of_header() -> Vec<(String, Vec<String>)> {
-    let header = include_str!("../../../include/callbridge.h");
-    let (header, _) = header.split_once("helpers of this header").expect("the library's part");
-    let mut structs = Vec::new();
-    for text in header.split("typedef struct cb_").skip(1) {
-        let (name, rest) = text.split_once(" {").expect("a struct");
-        let (body, _) = rest.split_once('}').expect("its end");
-        let fields = body.lines().filter_map(|line| line.split_once(';')).map(|(field, _)| {
-            let (kind, name) = field.trim().split_once(' ').expect("type and name");
-            let kind = match kind {
-                "size_t" => "usize".to_string(),
-                other => other.replace("uint", "u").replace("_t", ""),
-            };
-            match name.split_once('[') {
-                Some((name, count)) => format!("{name}: [{kind}; {}", count),
-                None if name == "type" => format!("type_number: {kind}"),
-                None => format!("{name}: {kind}"),
-            }
-        });
-        structs.push((name.to_string(), fields.collect()));
-    }
-    structs
-}
-
-#[test]
-fn structs_are_those_of_the_header() {
-    let text = include_str!("../src/raw.rs");
-    let structs = structs_of_header();
-    assert_eq!(structs.len(), 10);
-    for (name, fields) in structs {
-        let name = name[..1].to_uppercase() + &name[1..];
-        let (_, rest) = text.split_once(&format!("pub struct {name} {{")).expect("the struct");
-        let (body, _) = rest.split_once("\n}").expect("its end");
-        let found: Vec<&str> = body
-            .lines()
-            .filter_map(|line| line.trim().strip_prefix("pub "))
-            .map(|field| field.trim_end_matches(','))
-            .collect();
-        assert_eq!(found, fields, "{name}");
-    }
-}
-
-#[test]
-fn structs_have_no_padding() {
-    assert_eq!(size_of::<Refusal>(), 2);
-    assert_eq!(size_of::<Extent>(), 8 + 8);
-    assert_eq!(size_of::<Classes>(), 2);
-    assert_eq!(size_of::<Part>(), 8 + 8 + 1 + 7);
-    assert_eq!(size_of::<Placement>(), 3 * 8 + 3 + 5);
-    assert_eq!(size_of::<Layout>(), 9 * 8 + 3 + 5);
-    assert_eq!(size_of::<Placed>(), 8);
-    assert_eq!(size_of::<Gathered>(), 8);
-    assert_eq!(size_of::<Station>(), 8 + 4 + 1 + 3);
-    assert_eq!(size_of::<Walk>(), 4 * 8 + 4 + 4);
-}
 
 const RUBBISH: Part = Part { offset: 1, length: 2, image: 3, reserved: [4; 7] };
 
