@@ -13,9 +13,9 @@ int main(void)
     memcpy(values, &key, 4);
     memcpy(values + 4, &level, 8);
 
-    uint8_t stack[1];  /* this call has no stack argument: an image of length 0 */
+    /* This call has no stack argument: its stack image has length 0 and may be NULL. */
     cb_placed placed;
-    cb_refusal refusal = cb_place_values(description, sizeof description, 0, values, sizeof values, registers, sizeof registers, stack, 0, &placed);
+    cb_refusal refusal = cb_place_values(description, sizeof description, 0, values, sizeof values, registers, sizeof registers, NULL, 0, &placed);
     if (refusal.number != CB_ACCEPTED) {
         char line[CB_REFUSAL_ROOM];
         printf("refused %s\n", cb_refusal_line(refusal, line));

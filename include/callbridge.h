@@ -27,7 +27,8 @@
 
    The library allocates nothing and has no state of its own, neither global nor per thread: all that it knows lies in what it is
    lent. Every function may be called from any thread and from a signal handler, as long as nobody else has what is lent to it.
-   Of other libraries it needs memcpy and memset alone. examples/host.c is a host that uses every part of it. */
+   Of other libraries it needs memcpy and memset alone. examples/host.c is a host that uses every part of it; examples/call has the jump
+   that the library leaves to the host. */
 #ifndef CALLBRIDGE_H
 #define CALLBRIDGE_H
 
@@ -51,6 +52,43 @@ extern "C" {
 #define CB_REGISTER_IMAGE 176    /* bytes of the register image, exactly: rdi, rsi, rdx, rcx, r8, r9 at 8 bytes, xmm0 to xmm7 at 16 */
 #define CB_RETURN_IMAGE 80       /* bytes of the return image, exactly: rax, rdx at 8 bytes, xmm0, xmm1, st0, st1 at 16 */
 #define CB_LISTING_ROOM 4096     /* bytes of the buffer of cb_write_listing, exactly */
+
+/* ---- the bytes of a description: docs/FORMAT.md and kcb(5) say what each is; cb_begin, below, builds one */
+
+#define CB_FORMAT_VERSION 1      /* what bytes 3 and 4 say */
+#define CB_MAX_TYPES 64          /* types of one description */
+#define CB_MAX_MEMBERS 255       /* members of all its structs and unions together */
+#define CB_MAX_ELEMENTS 4096     /* elements of one array */
+#define CB_MAX_VALUES 16560      /* bytes of all values of one call, packed: no more than both images have */
+#define CB_VOID 255              /* byte 9 where nothing is returned: no type has this number */
+
+/* The kind of a type: the first byte of its record. */
+enum cb_kind {
+    CB_BASIC = 0,
+    CB_ARRAY = 1,
+    CB_STRUCT = 2,
+    CB_UNION = 3
+};
+
+/* Which basic type: the second byte of its record. Signedness changes nothing: CB_INT is unsigned too. */
+enum cb_code {
+    CB_BOOL = 0,
+    CB_CHAR = 1,
+    CB_SHORT = 2,
+    CB_INT = 3,                  /* an enum too */
+    CB_LONG = 4,                 /* long long and size_t too */
+    CB_INT128 = 5,
+    CB_FLOAT = 6,
+    CB_DOUBLE = 7,
+    CB_LONG_DOUBLE = 8,
+    CB_FLOAT128 = 9,
+    CB_M64 = 10,
+    CB_M128 = 11,
+    CB_COMPLEX_FLOAT = 12,
+    CB_COMPLEX_DOUBLE = 13,
+    CB_COMPLEX_LONG_DOUBLE = 14,
+    CB_POINTER = 15              /* to whatever */
+};
 
 /* ---- refusals */
 
@@ -419,6 +457,217 @@ static inline char *cb_refusal_line(cb_refusal refusal, char *line)
     }
     *at = 0;
     return line;
+}
+
+/* ---- the builder: makes a description. It allocates nothing; cb_finish alone calls the library.
+
+       cb_builder b = cb_begin();
+       uint8_t real = cb_basic(&b, CB_DOUBLE);
+       cb_returns(&b, real);
+       cb_argument(&b, real);
+       cb_argument(&b, real);
+       uint8_t description[CB_MAX_DESCRIPTION];
+       size_t length = cb_finish(&b, description, sizeof description);
+
+   Types go in, and each answers its number; the other calls want numbers. A type that is there already is not made again: its number is
+   answered. The first mistake is kept in the builder's `refusal`, by the number that the library has for it: 4 for too many types,
+   members or arguments, 6 for a type that breaks the rules, with the number that it would have had, 8 for a number that no type has.
+   Nothing that comes behind it heals it: cb_finish then answers 0, a length that every call of the library refuses. */
+
+typedef struct cb_builder cb_builder;
+
+/* A description in the making. All fields 0 is an empty one, as cb_begin gives it. */
+struct cb_builder {
+    cb_refusal refusal;                  /* the first mistake; number 0 where there was none */
+    uint8_t type_count;
+    uint8_t member_count;
+    uint8_t argument_count;
+    uint8_t named_count;                 /* arguments before cb_ellipsis */
+    uint8_t variadic;                    /* 1 behind cb_ellipsis */
+    uint8_t returns;                     /* 1 behind cb_returns, whose number is `returned` */
+    uint8_t returned;
+    uint8_t types[4 * CB_MAX_TYPES];     /* records, members and arguments as they will stand in the description */
+    uint8_t members[CB_MAX_MEMBERS];
+    uint8_t arguments[CB_MAX_ARGUMENTS];
+};
+
+/* Keeps the first mistake, and answers CB_VOID, which is no type's number. This and the next four are for the builder's calls alone. */
+static inline uint8_t cb_mistake(cb_builder *builder, uint8_t number, uint8_t type)
+{
+    if (builder->refusal.number == CB_ACCEPTED) {
+        builder->refusal.number = number;
+        builder->refusal.type = type;
+    }
+    return CB_VOID;
+}
+
+static inline int cb_same_bytes(const uint8_t *these, const uint8_t *those, size_t count)
+{
+    size_t i = 0;
+    while (i < count && these[i] == those[i]) {
+        i++;
+    }
+    return i == count;
+}
+
+/* Copies, and answers where the next byte goes. */
+static inline uint8_t *cb_copy_bytes(uint8_t *to, const uint8_t *from, size_t count)
+{
+    for (size_t i = 0; i < count; i++) {
+        to[i] = from[i];
+    }
+    return to + count;
+}
+
+/* The number of the type with this record, which is added where it is not there. */
+static inline uint8_t cb_add_type(cb_builder *builder, uint8_t kind, uint8_t a, size_t count)
+{
+    const uint8_t record[4] = {kind, a, (uint8_t)(count % 256), (uint8_t)(count / 256)};
+    for (uint8_t type = 0; type < builder->type_count; type++) {
+        if (cb_same_bytes(builder->types + 4 * type, record, 4)) {
+            return type;
+        }
+    }
+    if (builder->type_count >= CB_MAX_TYPES) {
+        return cb_mistake(builder, CB_WRONG_COUNTS, 0);
+    }
+    cb_copy_bytes(builder->types + 4 * builder->type_count, record, 4);
+    return builder->type_count++;
+}
+
+/* The number of the struct or union with these members, which is added, with a run of its own, where it is not there. */
+static inline uint8_t cb_add_aggregate(cb_builder *builder, uint8_t kind, const uint8_t *members, size_t count)
+{
+    if (count > CB_MAX_MEMBERS) {
+        return cb_mistake(builder, CB_WRONG_COUNTS, 0);
+    }
+    if (count == 0) {
+        return cb_mistake(builder, CB_WRONG_TYPE_RECORD, builder->type_count);
+    }
+    for (size_t i = 0; i < count; i++) {
+        if (members[i] >= builder->type_count) {
+            return cb_mistake(builder, CB_WRONG_TYPE_RECORD, builder->type_count);
+        }
+    }
+    for (uint8_t type = 0; type < builder->type_count; type++) {
+        const uint8_t *record = builder->types + 4 * type;
+        if (record[0] == kind && record[2] == count && cb_same_bytes(builder->members + record[1], members, count)) {
+            return type;
+        }
+    }
+    if (builder->member_count + count > CB_MAX_MEMBERS) {
+        return cb_mistake(builder, CB_WRONG_COUNTS, 0);
+    }
+    uint8_t first = builder->member_count;
+    cb_copy_bytes(builder->members + first, members, count);
+    builder->member_count = (uint8_t)(first + count);
+    return cb_add_type(builder, kind, first, count);
+}
+
+/* An empty builder. */
+static inline cb_builder cb_begin(void)
+{
+    cb_builder builder;
+    uint8_t *bytes = (uint8_t *)&builder;
+    for (size_t i = 0; i < sizeof builder; i++) {
+        bytes[i] = 0;
+    }
+    return builder;
+}
+
+/* The number of a basic type, by its enum cb_code. */
+static inline uint8_t cb_basic(cb_builder *builder, unsigned code)
+{
+    if (code > CB_POINTER) {
+        return cb_mistake(builder, CB_WRONG_TYPE_RECORD, builder->type_count);
+    }
+    return cb_add_type(builder, CB_BASIC, (uint8_t)code, 0);
+}
+
+/* The number of an array of 1 to CB_MAX_ELEMENTS elements: a member or an element, never an argument by itself, as in C. */
+static inline uint8_t cb_array(cb_builder *builder, unsigned element, size_t count)
+{
+    if (element >= builder->type_count || count == 0 || count > CB_MAX_ELEMENTS) {
+        return cb_mistake(builder, CB_WRONG_TYPE_RECORD, builder->type_count);
+    }
+    return cb_add_type(builder, CB_ARRAY, (uint8_t)element, count);
+}
+
+/* The number of a struct or a union of so many members, 1 or more, by their types' numbers in C's order. */
+static inline uint8_t cb_struct(cb_builder *builder, const uint8_t *members, size_t count)
+{
+    return cb_add_aggregate(builder, CB_STRUCT, members, count);
+}
+
+static inline uint8_t cb_union(cb_builder *builder, const uint8_t *members, size_t count)
+{
+    return cb_add_aggregate(builder, CB_UNION, members, count);
+}
+
+/* What the function returns: a type's number, or CB_VOID, which it is where this is not called. */
+static inline void cb_returns(cb_builder *builder, unsigned type)
+{
+    if (type != CB_VOID && type >= builder->type_count) {
+        cb_mistake(builder, CB_WRONG_TYPE_NUMBER, 0);
+        return;
+    }
+    builder->returns = 1;
+    builder->returned = (uint8_t)type;
+}
+
+/* The next argument, from the left. */
+static inline void cb_argument(cb_builder *builder, unsigned type)
+{
+    if (type >= builder->type_count) {
+        cb_mistake(builder, CB_WRONG_TYPE_NUMBER, 0);
+    } else if (builder->argument_count >= CB_MAX_ARGUMENTS) {
+        cb_mistake(builder, CB_WRONG_COUNTS, 0);
+    } else {
+        builder->arguments[builder->argument_count++] = (uint8_t)type;
+    }
+}
+
+/* C's `...`: the function is variadic, and the arguments behind are the unnamed ones of this call, as C passes them: int for a _Bool,
+   char or short, double for a float. A second one is 4. */
+static inline void cb_ellipsis(cb_builder *builder)
+{
+    if (builder->variadic) {
+        cb_mistake(builder, CB_WRONG_COUNTS, 0);
+        return;
+    }
+    builder->variadic = 1;
+    builder->named_count = builder->argument_count;
+}
+
+/* Writes the description at the start of a buffer of so many bytes, of which CB_MAX_DESCRIPTION are always enough, has cb_check judge
+   it, and answers its length: no call refuses it 1 to 10. After a mistake, for a buffer that is too short (11) and for what cb_check
+   refuses it answers 0, `refusal` says why, and the buffer's first bytes are zero, so that no older description is found there. */
+#if defined(__GNUC__)
+__attribute__((warn_unused_result))
+#endif
+static inline size_t cb_finish(cb_builder *builder, uint8_t *description, size_t room)
+{
+    size_t length = 11 + 4 * (size_t)builder->type_count + builder->member_count + builder->argument_count;
+    if (room < length) {
+        cb_mistake(builder, CB_WRONG_BUFFER, 0);
+    }
+    if (builder->refusal.number == CB_ACCEPTED) {
+        const uint8_t head[11] = {'K', 'C', 'B', CB_FORMAT_VERSION % 256, CB_FORMAT_VERSION / 256, builder->type_count, builder->variadic,
+                                  builder->variadic ? builder->named_count : builder->argument_count, builder->argument_count,
+                                  builder->returns ? builder->returned : (uint8_t)CB_VOID, builder->member_count};
+        uint8_t *at = cb_copy_bytes(description, head, 11);
+        at = cb_copy_bytes(at, builder->types, 4 * (size_t)builder->type_count);
+        at = cb_copy_bytes(at, builder->members, builder->member_count);
+        cb_copy_bytes(at, builder->arguments, builder->argument_count);
+        builder->refusal = cb_check(description, length);
+    }
+    if (builder->refusal.number == CB_ACCEPTED) {
+        return length;
+    }
+    for (size_t i = 0; i < 11 && i < room; i++) {
+        description[i] = 0;
+    }
+    return 0;
 }
 
 #ifdef __cplusplus

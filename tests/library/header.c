@@ -1,6 +1,8 @@
 /* Whether the structs of include/callbridge.h are those of the library. Each struct is lent with guard bytes behind it, the library fills it,
    and each field is read back by its name: a field that stood elsewhere would hold another number, a struct that was longer would have
    its guard overwritten. No function of the library tells its own sizes; it is looked at as a host looks at it.
+   Whether no struct has a byte that is no field, its reserved bytes are zero after an answer, and a refusal leaves every byte, but for a
+   part, which it empties; whether any number but 0 says that something is attached, and reserved bytes say nothing.
    And whether each call that passes on that a type is wrong tells which.
    Prints each struct's size and offsets; the last line is `ok` where everything agrees. */
 #include "callbridge.h"
@@ -38,25 +40,66 @@ static void expect(const char *what, size_t is, size_t should)
         uint8_t guard[GUARD]; \
     }
 
-#define FRESH(lent) memset(&(lent), 0xA5, sizeof(lent))
+#define FILLING 0xA5
+#define FRESH(lent) memset(&(lent), FILLING, sizeof(lent))
 
-static void guarded(const char *what, const uint8_t *guard, size_t size)
+/* so many bytes of one value */
+static void all_are(const char *what, const void *bytes, size_t count, uint8_t should)
 {
-    for (size_t i = 0; i < size; i++) {
-        if (guard[i] != 0xA5) {
-            printf("something is written behind %s\n", what);
+    for (size_t i = 0; i < count; i++) {
+        if (((const uint8_t *)bytes)[i] != should) {
+            printf("%s: byte %zu is %u, should be %u\n", what, i, ((const uint8_t *)bytes)[i], should);
             wrong = 1;
             return;
         }
     }
 }
 
-#define GUARDED(lent) guarded(#lent, (lent).guard, GUARD)
+#define GUARDED(lent) all_are("the bytes behind " #lent, (lent).guard, GUARD, FILLING)
+#define RESERVED(record) all_are("the reserved bytes of " #record, (record).reserved, sizeof(record).reserved, 0)
+
+static void told(const char *what, cb_refusal is, uint8_t number, uint8_t type)
+{
+    expect(what, is.number, number);
+    expect(what, is.type, type);
+}
 
 static void answered(const char *what, cb_refusal refusal)
 {
-    expect(what, refusal.number, 0);
-    expect(what, refusal.type, 0);
+    told(what, refusal, CB_ACCEPTED, 0);
+}
+
+#define FIELD(type, field) sizeof(((type *)0)->field)
+
+/* Each struct has the bytes of its fields and no others. */
+static void sizes(void)
+{
+    expect("sizeof(cb_refusal)", sizeof(cb_refusal), FIELD(cb_refusal, number) + FIELD(cb_refusal, type));
+    expect("sizeof(cb_extent)", sizeof(cb_extent), FIELD(cb_extent, size) + FIELD(cb_extent, align));
+    expect("sizeof(cb_classes)", sizeof(cb_classes), FIELD(cb_classes, first) + FIELD(cb_classes, second));
+    expect("sizeof(cb_part)", sizeof(cb_part),
+           FIELD(cb_part, offset) + FIELD(cb_part, length) + FIELD(cb_part, image) + FIELD(cb_part, reserved));
+    expect("sizeof(cb_placement)", sizeof(cb_placement),
+           FIELD(cb_placement, size) + FIELD(cb_placement, align) + FIELD(cb_placement, offset) + FIELD(cb_placement, type) +
+               FIELD(cb_placement, first) + FIELD(cb_placement, second) + FIELD(cb_placement, reserved));
+    expect("sizeof(cb_layout)", sizeof(cb_layout),
+           FIELD(cb_layout, general_registers) + FIELD(cb_layout, vector_registers) + FIELD(cb_layout, stack_end) +
+               FIELD(cb_layout, area) + FIELD(cb_layout, values) + FIELD(cb_layout, named_general_registers) +
+               FIELD(cb_layout, named_vector_registers) + FIELD(cb_layout, named_stack_end) + FIELD(cb_layout, arguments) +
+               FIELD(cb_layout, return_first) + FIELD(cb_layout, return_second) + FIELD(cb_layout, hidden) +
+               FIELD(cb_layout, reserved));
+    expect("sizeof(cb_placed)", sizeof(cb_placed), FIELD(cb_placed, vector_registers));
+    expect("sizeof(cb_gathered)", sizeof(cb_gathered), FIELD(cb_gathered, hidden));
+    expect("sizeof(cb_station)", sizeof(cb_station),
+           FIELD(cb_station, length) + FIELD(cb_station, number) + FIELD(cb_station, attached) + FIELD(cb_station, reserved));
+    expect("sizeof(cb_walk)", sizeof(cb_walk),
+           FIELD(cb_walk, position) + FIELD(cb_walk, general) + FIELD(cb_walk, vector) + FIELD(cb_walk, overflow) +
+               FIELD(cb_walk, number) + FIELD(cb_walk, reserved));
+    expect("sizeof(cb_builder)", sizeof(cb_builder),
+           FIELD(cb_builder, refusal) + FIELD(cb_builder, type_count) + FIELD(cb_builder, member_count) +
+               FIELD(cb_builder, argument_count) + FIELD(cb_builder, named_count) + FIELD(cb_builder, variadic) +
+               FIELD(cb_builder, returns) + FIELD(cb_builder, returned) + FIELD(cb_builder, types) + FIELD(cb_builder, members) +
+               FIELD(cb_builder, arguments));
 }
 
 static void questions(void)
@@ -80,10 +123,11 @@ static void questions(void)
     expect("part.offset", part.value.offset, 35);
     expect("part.length", part.value.length, 2);
     expect("part.image", part.value.image, CB_DESCRIPTION);
+    RESERVED(part.value);
     printf("cb_extent %zu: size %zu align %zu\n", sizeof(cb_extent), offsetof(cb_extent, size), offsetof(cb_extent, align));
     printf("cb_classes %zu: first %zu second %zu\n", sizeof(cb_classes), offsetof(cb_classes, first), offsetof(cb_classes, second));
-    printf("cb_part %zu: offset %zu length %zu image %zu\n", sizeof(cb_part), offsetof(cb_part, offset), offsetof(cb_part, length),
-           offsetof(cb_part, image));
+    printf("cb_part %zu: offset %zu length %zu image %zu reserved %zu\n", sizeof(cb_part), offsetof(cb_part, offset),
+           offsetof(cb_part, length), offsetof(cb_part, image), offsetof(cb_part, reserved));
 }
 
 /* The fields of a layout, in the header's order, as numbers that tell each from the others over three descriptions. */
@@ -105,6 +149,7 @@ static void layout(const uint8_t *description, size_t length, const size_t shoul
     expect("return_first", whole.value.return_first, should[9]);
     expect("return_second", whole.value.return_second, should[10]);
     expect("hidden", whole.value.hidden, should[11]);
+    RESERVED(whole.value);
 }
 
 static void layouts(void)
@@ -124,10 +169,11 @@ static void layouts(void)
             }
         }
     }
-    printf("cb_layout %zu: %zu %zu %zu %zu %zu %zu %zu %zu %zu %zu %zu %zu\n", sizeof(cb_layout), offsetof(cb_layout, general_registers),
+    printf("cb_layout %zu: %zu %zu %zu %zu %zu %zu %zu %zu %zu %zu %zu %zu reserved %zu\n", sizeof(cb_layout), offsetof(cb_layout, general_registers),
            offsetof(cb_layout, vector_registers), offsetof(cb_layout, stack_end), offsetof(cb_layout, area), offsetof(cb_layout, values),
            offsetof(cb_layout, named_general_registers), offsetof(cb_layout, named_vector_registers), offsetof(cb_layout, named_stack_end),
-           offsetof(cb_layout, arguments), offsetof(cb_layout, return_first), offsetof(cb_layout, return_second), offsetof(cb_layout, hidden));
+           offsetof(cb_layout, arguments), offsetof(cb_layout, return_first), offsetof(cb_layout, return_second), offsetof(cb_layout, hidden),
+           offsetof(cb_layout, reserved));
 }
 
 static void record(const cb_placement *is, size_t size, size_t align, size_t offset, size_t type, size_t first, size_t second)
@@ -138,6 +184,7 @@ static void record(const cb_placement *is, size_t size, size_t align, size_t off
     expect("placement.type", is->type, type);
     expect("placement.first", is->first, first);
     expect("placement.second", is->second, second);
+    RESERVED(*is);
 }
 
 static void lists(void)
@@ -146,16 +193,16 @@ static void lists(void)
     cb_placement records[14];
     FRESH(records);
     answered("cb_lay_out", cb_lay_out(wide, sizeof wide, &whole, records, 14));
-    guarded("the twelfth record", (const uint8_t *)&records[12], 2 * sizeof records[0]);
+    all_are("the records behind the twelfth", &records[12], 2 * sizeof records[0], FILLING);
     record(&records[0], 16, 16, 0, 0, CB_NONE, CB_NONE);
     record(&records[1], 8, 8, 0, 1, CB_RDI, CB_NONE);
     record(&records[7], 8, 8, 0, 2, CB_XMM5, CB_NONE);
     record(&records[9], 16, 16, 32, 0, CB_NONE, CB_NONE);
     record(&records[10], 24, 8, 48, 3, CB_NONE, CB_NONE);
     record(&records[11], 8, 8, 0, 1, CB_RSI, CB_NONE);
-    printf("cb_placement %zu: size %zu align %zu offset %zu type %zu first %zu second %zu\n", sizeof(cb_placement), offsetof(cb_placement, size),
-           offsetof(cb_placement, align), offsetof(cb_placement, offset), offsetof(cb_placement, type), offsetof(cb_placement, first),
-           offsetof(cb_placement, second));
+    printf("cb_placement %zu: size %zu align %zu offset %zu type %zu first %zu second %zu reserved %zu\n", sizeof(cb_placement),
+           offsetof(cb_placement, size), offsetof(cb_placement, align), offsetof(cb_placement, offset), offsetof(cb_placement, type),
+           offsetof(cb_placement, first), offsetof(cb_placement, second), offsetof(cb_placement, reserved));
 }
 
 static void moves(void)
@@ -189,9 +236,16 @@ static void walks(void)
     FRESH(station);
     FRESH(walk);
     station.value = cb_new_station();
+    all_are("a new station", &station.value, sizeof station.value, 0);
     for (int i = 0; i < 6; i++) {
+        memset(station.value.reserved, FILLING, sizeof station.value.reserved);
         answered("cb_attach", cb_attach(&station.value, seat, sizeof seat, mixed, sizeof mixed));
+        RESERVED(station.value);
+        memset(station.value.reserved, FILLING, sizeof station.value.reserved);
         answered("cb_detach", cb_detach(&station.value, seat, sizeof seat));
+        RESERVED(station.value);
+        expect("station.attached", station.value.attached, 0);
+        expect("station.length", station.value.length, 0);
     }
     answered("cb_attach", cb_attach(&station.value, seat, sizeof seat, wide, sizeof wide));
     GUARDED(station);
@@ -205,21 +259,152 @@ static void walks(void)
     expect("walk.general", walk.value.general, 8);
     expect("walk.vector", walk.value.vector, 144);
     expect("walk.overflow", walk.value.overflow, 16);
+    RESERVED(walk.value);
     answered("cb_detach", cb_detach(&station.value, seat, sizeof seat));
     answered("cb_attach", cb_attach(&station.value, seat, sizeof seat, mixed, sizeof mixed));
     answered("cb_open_walk", cb_open_walk(&station.value, seat, sizeof seat, &walk.value));
     expect("walk.position", walk.value.position, 3);
     expect("walk.general", walk.value.general, 16);
-    printf("cb_station %zu: attached %zu length %zu number %zu\n", sizeof(cb_station), offsetof(cb_station, attached), offsetof(cb_station, length),
-           offsetof(cb_station, number));
-    printf("cb_walk %zu: number %zu position %zu general %zu vector %zu overflow %zu\n", sizeof(cb_walk), offsetof(cb_walk, number),
-           offsetof(cb_walk, position), offsetof(cb_walk, general), offsetof(cb_walk, vector), offsetof(cb_walk, overflow));
+    printf("cb_station %zu: length %zu number %zu attached %zu reserved %zu\n", sizeof(cb_station), offsetof(cb_station, length),
+           offsetof(cb_station, number), offsetof(cb_station, attached), offsetof(cb_station, reserved));
+    printf("cb_walk %zu: position %zu general %zu vector %zu overflow %zu number %zu reserved %zu\n", sizeof(cb_walk),
+           offsetof(cb_walk, position), offsetof(cb_walk, general), offsetof(cb_walk, vector), offsetof(cb_walk, overflow),
+           offsetof(cb_walk, number), offsetof(cb_walk, reserved));
 }
 
-static void told(const char *what, cb_refusal is, uint8_t number, uint8_t type)
+#define KEPT(what, lent) all_are(what ", refused: " #lent, &(lent), sizeof(lent), FILLING)
+
+static void part_empty(const char *what, const cb_part *part)
 {
-    expect(what, is.number, number);
-    expect(what, is.type, type);
+    all_are(what, part, sizeof *part, 0);
+    expect(what, part->image, CB_NOWHERE);
+}
+
+/* What the calls about a description leave for a refusal. */
+static void refused_description(void)
+{
+    LENT(cb_extent) extent;
+    LENT(cb_classes) classes;
+    LENT(cb_part) part;
+    LENT(cb_layout) whole;
+    LENT(cb_placed) placed;
+    LENT(cb_gathered) gathered;
+    cb_placement records[4];
+    uint8_t values[60], registers[CB_REGISTER_IMAGE], stack[16], image[CB_RETURN_IMAGE];
+    FRESH(extent);
+    FRESH(classes);
+    FRESH(part);
+    FRESH(whole);
+    FRESH(placed);
+    FRESH(gathered);
+    FRESH(records);
+    FRESH(values);
+    FRESH(registers);
+    FRESH(stack);
+    FRESH(image);
+    told("cb_type_extent", cb_type_extent(mixed, sizeof mixed, 6, &extent.value), CB_WRONG_TYPE_NUMBER, 0);
+    KEPT("cb_type_extent", extent);
+    told("cb_type_classes", cb_type_classes(mixed, sizeof mixed, 6, &classes.value), CB_WRONG_TYPE_NUMBER, 0);
+    KEPT("cb_type_classes", classes);
+    told("cb_member_run", cb_member_run(mixed, sizeof mixed, 6, &part.value), CB_WRONG_TYPE_NUMBER, 0);
+    part_empty("cb_member_run, refused: the part", &part.value);
+    FRESH(part);
+    answered("cb_member_run", cb_member_run(mixed, sizeof mixed, 0, &part.value));
+    part_empty("cb_member_run, of an int: the part", &part.value);
+    GUARDED(part);
+    told("cb_layout_of", cb_layout_of(mixed, sizeof mixed - 1, &whole.value), CB_WRONG_LENGTH, 0);
+    KEPT("cb_layout_of", whole);
+    told("cb_lay_out", cb_lay_out(mixed, sizeof mixed, &whole.value, records, 4), CB_WRONG_BUFFER, 0);
+    KEPT("cb_lay_out", whole);
+    KEPT("cb_lay_out", records);
+    told("cb_place_values", cb_place_values(mixed, sizeof mixed, 0, values, 59, registers, sizeof registers, stack, 16, &placed.value),
+         CB_WRONG_BUFFER, 0);
+    KEPT("cb_place_values", placed);
+    KEPT("cb_place_values", registers);
+    KEPT("cb_place_values", stack);
+    told("cb_gather_values", cb_gather_values(mixed, sizeof mixed, registers, sizeof registers, stack, 15, values, 60, &gathered.value),
+         CB_WRONG_BUFFER, 0);
+    KEPT("cb_gather_values", gathered);
+    KEPT("cb_gather_values", values);
+    told("cb_put_returned", cb_put_returned(mixed, sizeof mixed, 0, values, 7, image, sizeof image), CB_WRONG_BUFFER, 0);
+    KEPT("cb_put_returned", image);
+    told("cb_take_returned", cb_take_returned(mixed, sizeof mixed, image, sizeof image, values, 7, &gathered.value), CB_WRONG_BUFFER, 0);
+    KEPT("cb_take_returned", gathered);
+    KEPT("cb_take_returned", values);
+}
+
+static void same(const char *what, const void *is, const void *should, size_t size)
+{
+    if (memcmp(is, should, size) != 0) {
+        printf("%s\n", what);
+        wrong = 1;
+    }
+}
+
+#define SAME(what, is, should) same(what ": " #is " has changed", &(is), &(should), sizeof(should))
+
+/* All calls on a station that says by this number that something is attached, with rubbish in reserved bytes. */
+static void attached_by(uint8_t number)
+{
+    uint8_t seat[CB_SEAT_LENGTH] = {0}, registers[CB_REGISTER_IMAGE] = {0}, stack[16] = {0}, out[16], before[CB_SEAT_LENGTH];
+    cb_station station = cb_new_station(), kept;
+    cb_walk walk, opened;
+    LENT(cb_part) part;
+    FRESH(station.reserved);
+    FRESH(walk);
+    FRESH(opened);
+    FRESH(part);
+    kept = station;
+    told("cb_detach", cb_detach(&station, seat, sizeof seat), CB_NOT_ATTACHED, 0);
+    told("cb_open_walk", cb_open_walk(&station, seat, sizeof seat, &walk), CB_NOT_ATTACHED, 0);
+    told("cb_step", cb_step(&station, seat, sizeof seat, &walk, registers, sizeof registers, stack, 16, 1, out, 8), CB_NOT_ATTACHED, 0);
+    told("cb_show", cb_show(&station, seat, sizeof seat, &walk, registers, sizeof registers, stack, 16, 1, &part.value), CB_NOT_ATTACHED, 0);
+    SAME("not attached", station, kept);
+    SAME("not attached", walk, opened);
+    part_empty("cb_show, refused: the part", &part.value);
+
+    answered("cb_attach", cb_attach(&station, seat, sizeof seat, mixed, sizeof mixed));
+    expect("station.attached", station.attached, 1);
+    station.attached = number;
+    FRESH(station.reserved);
+    kept = station;
+    memcpy(before, seat, sizeof seat);
+    told("cb_attach", cb_attach(&station, seat, sizeof seat, mixed, sizeof mixed), CB_ALREADY_ATTACHED, 0);
+    SAME("cb_attach, refused", station, kept);
+    SAME("cb_attach, refused", seat, before);
+    answered("cb_open_walk", cb_open_walk(&station, seat, sizeof seat, &walk));
+    RESERVED(walk);
+    expect("walk.number", walk.number, 1);
+    expect("walk.position", walk.position, 3);
+    expect("walk.general", walk.general, 16);
+    expect("walk.vector", walk.vector, 64);
+    expect("walk.overflow", walk.overflow, 16);
+
+    FRESH(walk.reserved);
+    FRESH(part);
+    opened = walk;
+    told("cb_step", cb_step(&station, seat, sizeof seat, &walk, registers, sizeof registers, stack, 16, 0, out, 4), CB_OTHER_TYPE, 0);
+    told("cb_show", cb_show(&station, seat, sizeof seat, &walk, registers, sizeof registers, stack, 16, 0, &part.value), CB_OTHER_TYPE, 0);
+    SAME("cb_step, refused", walk, opened);
+    part_empty("cb_show, refused: the part", &part.value);
+    FRESH(part);
+    answered("cb_show", cb_show(&station, seat, sizeof seat, &walk, registers, sizeof registers, stack, 16, 1, &part.value));
+    GUARDED(part);
+    expect("part.image", part.value.image, CB_REGISTERS);
+    expect("part.offset", part.value.offset, 64);
+    expect("part.length", part.value.length, 8);
+    RESERVED(part.value);
+    answered("cb_step", cb_step(&station, seat, sizeof seat, &walk, registers, sizeof registers, stack, 16, 1, out, 8));
+    expect("walk.position", walk.position, 4);
+    expect("walk.vector", walk.vector, 80);
+    RESERVED(walk);
+    SAME("cb_open_walk, cb_step, cb_show", station, kept);
+
+    answered("cb_detach", cb_detach(&station, seat, sizeof seat));
+    expect("station.attached", station.attached, 0);
+    expect("station.length", station.length, 0);
+    expect("station.number", station.number, 1);
+    RESERVED(station);
 }
 
 #define TYPES 40
@@ -327,6 +512,7 @@ static void broken_types(void)
 int main(void)
 {
     expect("cb_version()", cb_version(), CB_VERSION);
+    sizes();
     told("cb_check(nothing)", cb_check(mixed, 0), CB_TOO_SHORT, 0);
     printf("cb_refusal %zu: number %zu type %zu\n", sizeof(cb_refusal), offsetof(cb_refusal, number), offsetof(cb_refusal, type));
     questions();
@@ -334,6 +520,10 @@ int main(void)
     lists();
     moves();
     walks();
+    refused_description();
+    for (int number = 1; number < 256; number++) {
+        attached_by((uint8_t)number);
+    }
     broken_types();
     if (!wrong) {
         printf("ok\n");

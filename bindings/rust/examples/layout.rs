@@ -3,9 +3,12 @@
 use std::process::ExitCode;
 
 fn main() -> ExitCode {
-    let Some(path) = std::env::args().nth(1) else {
-        eprintln!("usage: layout FILE.kcb");
-        return ExitCode::FAILURE;
+    let path = match std::env::args().nth(1) {
+        Some(path) => path,
+        None => {
+            eprintln!("usage: layout FILE.kcb");
+            return ExitCode::FAILURE;
+        }
     };
     let description = match std::fs::read(&path) {
         Ok(bytes) => bytes,

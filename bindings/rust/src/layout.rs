@@ -124,6 +124,7 @@ const NO_LAYOUT: raw::Layout = raw::Layout {
     return_first: raw::NONE,
     return_second: raw::NONE,
     hidden: 0,
+    reserved: [0; 5],
 };
 
 const NO_PLACEMENT: raw::Placement = raw::Placement {
@@ -133,6 +134,7 @@ const NO_PLACEMENT: raw::Placement = raw::Placement {
     type_number: 0,
     first: raw::NONE,
     second: raw::NONE,
+    reserved: [0; 5],
 };
 
 fn layout_from(of: &raw::Layout) -> Layout {

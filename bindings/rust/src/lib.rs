@@ -7,8 +7,12 @@
 //! nothing.
 //!
 //! ```
-//! // An int and a double, returning nothing.
-//! let description = [b'K', b'C', b'B', 1, 0, 2, 0, 2, 2, 255, 0, 0, 3, 0, 0, 0, 7, 0, 0, 0, 1];
+//! // void f(int, double)
+//! let mut builder = callbridge::Builder::new();
+//! let int = builder.basic(callbridge::Basic::Int);
+//! let double = builder.basic(callbridge::Basic::Double);
+//! let description = builder.argument(int).argument(double).finish()?;
+//!
 //! let (layout, placements) = callbridge::lay_out(&description)?;
 //! assert_eq!(layout.area, 0);
 //! assert_eq!(placements[0].place.to_string(), "rdi");
@@ -22,15 +26,46 @@
 //! assert_eq!(images.registers[0], 7);
 //! # Ok::<(), callbridge::Refusal>(())
 //! ```
+//!
+//! A module that comes and goes has a [`Station`], and the unnamed arguments of its call are walked
+//! there. A walk ends when its module leaves:
+//!
+//! ```
+//! use callbridge::{Images, Station};
+//!
+//! // int f(int, ...), called with a double behind the int: type 0 is int, type 1 double.
+//! let description = [b'K', b'C', b'B', 1, 0, 2, 1, 1, 2, 0, 0, 0, 3, 0, 0, 0, 7, 0, 0, 0, 1];
+//! let layout = callbridge::layout(&description)?;
+//! let mut values = 7i32.to_le_bytes().to_vec();
+//! values.extend(0.5f64.to_le_bytes());
+//! let mut images = Images::new(&layout);
+//! callbridge::place(&description, 0, &values, &mut images)?;
+//!
+//! let mut station = Station::new();
+//! station.attach(&description)?;
+//! let mut walk = station.open()?;
+//! let early = walk;
+//! let mut level = [0; 8];
+//! station.step(&mut walk, &images, 1, &mut level)?;
+//! assert_eq!(f64::from_le_bytes(level), 0.5);
+//!
+//! station.detach()?;
+//! station.attach(&description)?;
+//! let refusal = station.show(&early, &images, 1).unwrap_err();
+//! assert_eq!(refusal.to_string(), "refused 17: the walk is of another attachment");
+//! # Ok::<(), callbridge::Refusal>(())
+//! ```
 
 pub mod raw;
 
+mod builder;
 mod layout;
 mod moving;
 mod refusal;
 mod station;
 mod types;
 
+pub use builder::{Basic, Builder, VOID};
 pub use layout::{lay_out, layout, Layout, Place, Placement, Register, Returned};
 pub use moving::{
     gather, place, put_returned, take_returned, Images, REGISTER_IMAGE, RETURN_IMAGE,

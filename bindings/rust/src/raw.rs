@@ -1,7 +1,44 @@
 //! include/callbridge.h, word for word: the same structs, constants and functions.
 //!
 //! What a caller must keep to stands in the header: buffers with their own lengths, none of which
-//! overlap where one is written to, and no null pointer.
+//! overlap where one is written to, and no null pointer but for a buffer of length 0.
+//!
+//! No struct has padding. Its `reserved` bytes are written as zero wherever the struct is written, and
+//! never looked at.
+
+/// Limits of a description, and what its bytes 3 and 4 say.
+pub const FORMAT_VERSION: u16 = 1;
+pub const MAX_TYPES: usize = 64;
+pub const MAX_MEMBERS: usize = 255;
+pub const MAX_ARGUMENTS: usize = 64;
+pub const MAX_ELEMENTS: usize = 4096;
+
+/// Byte 9 of a description where nothing is returned.
+pub const VOID: u8 = 255;
+
+/// Kinds of a type: the first byte of its record.
+pub const BASIC: u8 = 0;
+pub const ARRAY: u8 = 1;
+pub const STRUCT: u8 = 2;
+pub const UNION: u8 = 3;
+
+/// Codes of basic types: the second byte of such a record.
+pub const BOOL: u8 = 0;
+pub const CHAR: u8 = 1;
+pub const SHORT: u8 = 2;
+pub const INT: u8 = 3;
+pub const LONG: u8 = 4;
+pub const INT128: u8 = 5;
+pub const FLOAT: u8 = 6;
+pub const DOUBLE: u8 = 7;
+pub const LONG_DOUBLE: u8 = 8;
+pub const FLOAT128: u8 = 9;
+pub const M64: u8 = 10;
+pub const M128: u8 = 11;
+pub const COMPLEX_FLOAT: u8 = 12;
+pub const COMPLEX_DOUBLE: u8 = 13;
+pub const COMPLEX_LONG_DOUBLE: u8 = 14;
+pub const POINTER: u8 = 15;
 
 /// Why a call was refused, number 0 for none. `type_number` is a type's where `number` is 6 or 7, and 0
 /// otherwise.
@@ -32,12 +69,14 @@ pub const DESCRIPTION: u8 = 1;
 pub const REGISTERS: u8 = 2;
 pub const STACK: u8 = 3;
 
+/// The default is the empty part, which a refused call gives.
 #[repr(C)]
-#[derive(Clone, Copy, Debug, PartialEq, Eq)]
+#[derive(Clone, Copy, Debug, Default, PartialEq, Eq)]
 pub struct Part {
     pub offset: usize,
     pub length: usize,
     pub image: u8,
+    pub reserved: [u8; 7],
 }
 
 /// Registers as numbers: rdi to r9 from 0, and these.
@@ -58,6 +97,7 @@ pub struct Placement {
     pub type_number: u8,
     pub first: u8,
     pub second: u8,
+    pub reserved: [u8; 5],
 }
 
 #[repr(C)]
@@ -75,6 +115,7 @@ pub struct Layout {
     pub return_first: u8,
     pub return_second: u8,
     pub hidden: u8,
+    pub reserved: [u8; 5],
 }
 
 #[repr(C)]
@@ -89,22 +130,26 @@ pub struct Gathered {
     pub hidden: u64,
 }
 
+/// `attached` is 0 where nothing is attached; the library writes 1 where something is, and takes any
+/// other number as 1. The default is what `cb_new_station` gives.
 #[repr(C)]
-#[derive(Clone, Copy, Debug, PartialEq, Eq)]
+#[derive(Clone, Copy, Debug, Default, PartialEq, Eq)]
 pub struct Station {
-    pub attached: u8,
     pub length: usize,
     pub number: u32,
+    pub attached: u8,
+    pub reserved: [u8; 3],
 }
 
 #[repr(C)]
 #[derive(Clone, Copy, Debug, Default, PartialEq, Eq)]
 pub struct Walk {
-    pub number: u32,
     pub position: usize,
     pub general: usize,
     pub vector: usize,
     pub overflow: usize,
+    pub number: u32,
+    pub reserved: [u8; 4],
 }
 
 extern "C" {

@@ -112,7 +112,7 @@ impl Station {
         images: &'images Images,
         type_number: u8,
     ) -> Result<Option<&'images [u8]>, Refusal> {
-        let mut part = raw::Part { offset: 0, length: 0, image: raw::NOWHERE };
+        let mut part = raw::Part::default();
         // Safety: as in `open`.
         let answer = unsafe {
             raw::cb_show(

@@ -67,7 +67,7 @@ pub fn classes(description: &[u8], type_number: u8) -> Result<[Class; 2], Refusa
 /// The type numbers of a struct's or union's members, as a part of the description; empty for
 /// another kind of type. Refused 1 to 8.
 pub fn members(description: &[u8], type_number: u8) -> Result<&[u8], Refusal> {
-    let mut run = raw::Part { offset: 0, length: 0, image: raw::NOWHERE };
+    let mut run = raw::Part::default();
     // Safety: as in `extent`.
     let answer = unsafe {
         raw::cb_member_run(description.as_ptr(), description.len(), type_number, &mut run)

@@ -1,41 +1,43 @@
 //! Every call about one description: the library's answer, and each byte that was lent, against the independent layout.
-//! What a call fills holds a pattern before, so that a refusal that writes is seen.
 
-use crate::comparison::{told_by, Comparison};
-use callbridge::raw::*;
+use crate::batch::{About, Batch, Code, Thing};
+use crate::records::*;
 use independent::classes::{classes_of, Class};
 use independent::history::random_values;
 use independent::listing::listing;
 use independent::moving::{gathering, placing, REGISTER_IMAGE};
 use independent::places::{self, accepted, Place, Register, ReturnPlace, ReturnRegister};
 use independent::random::Random;
-use independent::refusal::{told, Refusal as Refused, Told};
+use independent::refusal::{told, Refusal};
 use independent::returning::{putting, taking, value_length, RETURN_IMAGE};
 use independent::types::{asked, run_range};
 
-const UNTOUCHED: usize = 0xEEEE_EEEE;
-const FILLING: u8 = 0xEE;
-const LISTING_ROOM: usize = 4096;
+pub fn ask(random: &mut Random, bytes: &[u8], batch: &mut Batch) {
+    batch.about = About::Description(bytes.to_vec());
+    batch.command(Code::Describe).part(bytes).buffer(Thing::Description, bytes);
+    batch.command(Code::Check).told(places::check(bytes));
+    end("cb_check", bytes, batch);
+    ask_questions(random, bytes, batch);
+    ask_layouts(random, bytes, batch);
+    ask_listing(bytes, batch);
+    ask_moves(random, bytes, batch);
+    ask_returned(random, bytes, batch);
+}
 
-pub fn compare(random: &mut Random, bytes: &[u8], comparison: &mut Comparison) {
-    let refusal = unsafe { cb_check(bytes.as_ptr(), bytes.len()) };
-    comparison.same("cb_check", bytes, told_by(refusal), places::check(bytes));
-    compare_questions(random, bytes, comparison);
-    compare_layouts(random, bytes, comparison);
-    compare_listing(bytes, comparison);
-    compare_moves(random, bytes, comparison);
-    compare_returned(random, bytes, comparison);
+/// The description is lent to each call, which leaves it.
+fn end(name: &'static str, bytes: &[u8], batch: &mut Batch) {
+    batch.buffer(Thing::Description, bytes).end(name);
 }
 
 // ---- questions about one type
 
-fn compare_questions(random: &mut Random, bytes: &[u8], comparison: &mut Comparison) {
+fn ask_questions(random: &mut Random, bytes: &[u8], batch: &mut Batch) {
     let count = bytes.get(5).copied().unwrap_or(0);
     for number in 0..count.min(64) {
-        compare_question(bytes, number, comparison);
+        ask_question(bytes, number, batch);
     }
     for number in [count, 255, random.byte()] {
-        compare_question(bytes, number, comparison);
+        ask_question(bytes, number, batch);
     }
 }
 
@@ -52,40 +54,36 @@ fn class_number(class: Class) -> u8 {
     }
 }
 
-fn compare_question(bytes: &[u8], number: u8, comparison: &mut Comparison) {
+fn ask_question(bytes: &[u8], number: u8, batch: &mut Batch) {
     let answer = asked(bytes, number);
     let refusal = told(&answer);
 
-    let mut extent = Extent { size: UNTOUCHED, align: UNTOUCHED };
-    let mut expected = extent;
-    let mut classes = Classes { first: FILLING, second: FILLING };
-    let mut expected_classes = classes;
-    let mut run = Part { offset: UNTOUCHED, length: UNTOUCHED, image: FILLING };
-    let mut expected_run = run;
-    if let Ok(types) = answer {
+    let extent = answer.as_ref().map(|types| {
         let measure = types.measure(number);
-        expected = Extent { size: measure.size.0, align: measure.alignment.0 };
-        let [first, second] = classes_of(&types, number);
-        expected_classes = Classes { first: class_number(first), second: class_number(second) };
+        Extent { size: measure.size.0 as u64, align: measure.alignment.0 as u64 }
+    });
+    batch.command(Code::TypeExtent).byte(number).told(refusal);
+    batch.record(Thing::Record, &left(Extent::FILLED, extent));
+    end("cb_type_extent", bytes, batch);
+
+    let classes = answer.as_ref().map(|types| {
+        let [first, second] = classes_of(types, number).map(class_number);
+        Classes { first, second }
+    });
+    batch.command(Code::TypeClasses).byte(number).told(refusal);
+    batch.record(Thing::Record, &left(Classes::FILLED, classes));
+    end("cb_type_classes", bytes, batch);
+
+    let run = answer.as_ref().map(|_| {
         let range = run_range(bytes, number);
-        expected_run = if range.is_empty() {
-            Part { offset: 0, length: 0, image: NOWHERE }
-        } else {
-            Part { offset: range.start, length: range.len(), image: DESCRIPTION }
-        };
-    }
-    let (d, n) = (bytes.as_ptr(), bytes.len());
-    let answered = unsafe { cb_type_extent(d, n, number, &mut extent) };
-    comparison.same("cb_type_extent", bytes, (told_by(answered), extent), (refusal, expected));
-    let answered = unsafe { cb_type_classes(d, n, number, &mut classes) };
-    comparison.same(
-        "cb_type_classes",
-        bytes,
-        (told_by(answered), classes),
-        (refusal, expected_classes),
-    );
-    let answered = unsafe { cb_member_run(d, n, number, &mut run) };
-    comparison.same("cb_member_run", bytes, (told_by(answered), run), (refusal, expected_run));
+        match range.is_empty() {
+            true => Part::EMPTY,
+            false => Part::new(DESCRIPTION, range.start, range.len()),
+        }
+    });
+    batch.command(Code::MemberRun).byte(number).told(refusal);
+    batch.record(Thing::Record, &left(Part::FILLED, run));
+    end("cb_member_run", bytes, batch);
 }
 
 // ---- layouts
@@ -120,12 +118,13 @@ fn flat(placement: &places::Placement) -> Placement {
         ),
     };
     Placement {
-        size: placement.size.0,
-        align: placement.alignment.0,
-        offset,
+        size: placement.size.0 as u64,
+        align: placement.alignment.0 as u64,
+        offset: offset as u64,
         type_number: placement.type_number,
         first,
         second,
+        reserved: [0; 5],
     }
 }
 
@@ -140,87 +139,54 @@ fn flat_layout(bytes: &[u8], layout: &places::Layout) -> Layout {
     };
     let of = |index: usize| returned.get(index).copied().unwrap_or(NONE);
     Layout {
-        general_registers: end.general.0,
-        vector_registers: end.vector.0,
-        stack_end: end.stack.0,
-        area: layout.area.0,
-        values: layout.values_length(),
-        named_general_registers: start.general.0,
-        named_vector_registers: start.vector.0,
-        named_stack_end: start.stack.0,
-        arguments,
+        general_registers: end.general.0 as u64,
+        vector_registers: end.vector.0 as u64,
+        stack_end: end.stack.0 as u64,
+        area: layout.area.0 as u64,
+        values: layout.values_length() as u64,
+        named_general_registers: start.general.0 as u64,
+        named_vector_registers: start.vector.0 as u64,
+        named_stack_end: start.stack.0 as u64,
+        arguments: arguments as u64,
         return_first: of(0),
         return_second: of(1),
         hidden: u8::from(layout.hidden_address),
+        reserved: [0; 5],
     }
 }
 
-const NO_LAYOUT: Layout = Layout {
-    general_registers: UNTOUCHED,
-    vector_registers: UNTOUCHED,
-    stack_end: UNTOUCHED,
-    area: UNTOUCHED,
-    values: UNTOUCHED,
-    named_general_registers: UNTOUCHED,
-    named_vector_registers: UNTOUCHED,
-    named_stack_end: UNTOUCHED,
-    arguments: UNTOUCHED,
-    return_first: FILLING,
-    return_second: FILLING,
-    hidden: FILLING,
-};
-
-const NO_PLACEMENT: Placement = Placement {
-    size: UNTOUCHED,
-    align: UNTOUCHED,
-    offset: UNTOUCHED,
-    type_number: FILLING,
-    first: FILLING,
-    second: FILLING,
-};
-
-fn compare_layouts(random: &mut Random, bytes: &[u8], comparison: &mut Comparison) {
+fn ask_layouts(random: &mut Random, bytes: &[u8], batch: &mut Batch) {
     let answer = accepted(bytes).map(|accepted| accepted.layout);
-    let refusal = told(&answer);
-    let expected = answer.as_ref().map_or(NO_LAYOUT, |layout| flat_layout(bytes, layout));
-    let mut layout = NO_LAYOUT;
-    let answered = unsafe { cb_layout_of(bytes.as_ptr(), bytes.len(), &mut layout) };
-    comparison.same("cb_layout_of", bytes, (told_by(answered), layout), (refusal, expected));
+    let layout = answer.as_ref().map(|layout| flat_layout(bytes, layout)).map_err(|&why| why);
+    batch.command(Code::LayoutOf).told(told(&layout));
+    batch.record(Thing::Record, &left(Layout::FILLED, layout));
+    end("cb_layout_of", bytes, batch);
 
-    let count = answer.as_ref().map_or(3, |layout| layout.placements.len());
+    let placements: Vec<Placement> =
+        answer.map_or(Vec::new(), |layout| layout.placements.iter().map(flat).collect());
+    let count = layout.map_or(3, |_| placements.len());
     for room in [64, count, count.saturating_sub(1), random.below(70)] {
-        let mut list = vec![NO_PLACEMENT; room];
-        let mut expected_list = list.clone();
-        let (mut refusal, mut expected) = (refusal, expected);
-        if let Ok(layout) = &answer {
-            if room < count {
-                (refusal, expected) = (Told::from(Refused::WrongLength), NO_LAYOUT);
-            } else {
-                for (entry, placement) in expected_list.iter_mut().zip(&layout.placements) {
-                    *entry = flat(placement);
-                }
-            }
+        let answer = layout.and_then(|layout| match room < count {
+            true => Err(Refusal::WrongLength),
+            false => Ok(layout),
+        });
+        let mut list = vec![Placement::FILLED; room];
+        if answer.is_ok() {
+            list[..count].copy_from_slice(&placements);
         }
-        let mut layout = NO_LAYOUT;
-        let answered = unsafe {
-            cb_lay_out(bytes.as_ptr(), bytes.len(), &mut layout, list.as_mut_ptr(), room)
-        };
-        comparison.same(
-            "cb_lay_out",
-            bytes,
-            (told_by(answered), layout, list),
-            (refusal, expected, expected_list),
-        );
+        batch.command(Code::LayOut).short(room).told(told(&answer));
+        batch.record(Thing::Record, &left(Layout::FILLED, answer)).list(&list);
+        end("cb_lay_out", bytes, batch);
     }
 }
 
-fn compare_listing(bytes: &[u8], comparison: &mut Comparison) {
+fn ask_listing(bytes: &[u8], batch: &mut Batch) {
     let text = listing(bytes);
-    let mut expected = vec![FILLING; LISTING_ROOM];
-    expected[..text.len()].copy_from_slice(text.as_bytes());
-    let mut out = vec![FILLING; LISTING_ROOM];
-    let length = unsafe { cb_write_listing(bytes.as_ptr(), bytes.len(), out.as_mut_ptr()) };
-    comparison.same("cb_write_listing", bytes, (length, out), (text.len(), expected));
+    let mut room = [FILLING; LISTING_ROOM];
+    room[..text.len()].copy_from_slice(text.as_bytes());
+    batch.command(Code::WriteListing);
+    batch.number("length", text.len() as u64).buffer(Thing::Text, &room);
+    end("cb_write_listing", bytes, batch);
 }
 
 // ---- moves
@@ -235,7 +201,7 @@ fn length_near(random: &mut Random, right: usize) -> usize {
     }
 }
 
-fn compare_moves(random: &mut Random, bytes: &[u8], comparison: &mut Comparison) {
+fn ask_moves(random: &mut Random, bytes: &[u8], batch: &mut Batch) {
     let (values, area) = match accepted(bytes) {
         Ok(accepted) => (random_values(random, bytes), accepted.layout.area.0),
         Err(_) => {
@@ -243,82 +209,49 @@ fn compare_moves(random: &mut Random, bytes: &[u8], comparison: &mut Comparison)
             (random.bytes(length), random.below(3) * 16)
         }
     };
-    compare_move(random, bytes, &values, [values.len(), REGISTER_IMAGE, area], comparison);
-    let lengths = [values.len(), REGISTER_IMAGE, area].map(|right| length_near(random, right));
+    ask_move(random, bytes, &values, [REGISTER_IMAGE, area], batch);
+    let [length, images @ ..] =
+        [values.len(), REGISTER_IMAGE, area].map(|right| length_near(random, right));
     let mut other = values;
-    other.resize(lengths[0], 7);
+    other.resize(length, 7);
     if random.one_in(2) {
         // Any bytes, so that a _Bool argument may be 2.
-        other = random.bytes(lengths[0]);
+        other = random.bytes(length);
     }
-    compare_move(random, bytes, &other, lengths, comparison);
+    ask_move(random, bytes, &other, images, batch);
 }
 
-fn compare_move(
+fn ask_move(
     random: &mut Random,
     bytes: &[u8],
     values: &[u8],
-    lengths: [usize; 3],
-    comparison: &mut Comparison,
+    lengths: [usize; 2],
+    batch: &mut Batch,
 ) {
     let hidden = random.next();
-    let (mut registers, mut stack) = (random.bytes(lengths[1]), random.bytes(lengths[2]));
-    let (mut expected_registers, mut expected_stack) = (registers.clone(), stack.clone());
-    let answer = placing(bytes, hidden, values, &mut expected_registers, &mut expected_stack);
-    let expected = Placed { vector_registers: answer.map_or(UNTOUCHED, |count| count.0) };
-    let mut placed = Placed { vector_registers: UNTOUCHED };
-    let answered = unsafe {
-        cb_place_values(
-            bytes.as_ptr(),
-            bytes.len(),
-            hidden,
-            values.as_ptr(),
-            values.len(),
-            registers.as_mut_ptr(),
-            registers.len(),
-            stack.as_mut_ptr(),
-            stack.len(),
-            &mut placed,
-        )
-    };
-    comparison.same(
-        "cb_place_values",
-        bytes,
-        (told_by(answered), placed, &registers, &stack),
-        (told(&answer), expected, &expected_registers, &expected_stack),
-    );
+    let (mut registers, mut stack) = (random.bytes(lengths[0]), random.bytes(lengths[1]));
+    batch.command(Code::PlaceValues).word(hidden).part(values).part(&registers).part(&stack);
+    let answer = placing(bytes, hidden, values, &mut registers, &mut stack);
+    let placed = answer.map(|count| Placed { vector_registers: count.0 as u64 });
+    batch.told(told(&answer)).buffer(Thing::Values, values);
+    batch.buffer(Thing::Registers, &registers).buffer(Thing::Stack, &stack);
+    batch.record(Thing::Record, &left(Placed::FILLED, placed));
+    end("cb_place_values", bytes, batch);
 
     // From images in which the unused bytes are anything.
-    let (registers, stack) = (random.bytes(lengths[1]), random.bytes(lengths[2]));
+    let (registers, stack) = (random.bytes(lengths[0]), random.bytes(lengths[1]));
     let mut out = random.bytes(values.len());
-    let mut expected_out = out.clone();
-    let answer = gathering(bytes, &registers, &stack, &mut expected_out);
-    let expected = Gathered { hidden: *answer.as_ref().unwrap_or(&(UNTOUCHED as u64)) };
-    let mut gathered = Gathered { hidden: UNTOUCHED as u64 };
-    let answered = unsafe {
-        cb_gather_values(
-            bytes.as_ptr(),
-            bytes.len(),
-            registers.as_ptr(),
-            registers.len(),
-            stack.as_ptr(),
-            stack.len(),
-            out.as_mut_ptr(),
-            out.len(),
-            &mut gathered,
-        )
-    };
-    comparison.same(
-        "cb_gather_values",
-        bytes,
-        (told_by(answered), gathered, out),
-        (told(&answer), expected, expected_out),
-    );
+    batch.command(Code::GatherValues).part(&registers).part(&stack).part(&out);
+    let answer = gathering(bytes, &registers, &stack, &mut out);
+    let gathered = answer.map(|hidden| Gathered { hidden });
+    batch.told(told(&answer)).buffer(Thing::Registers, &registers).buffer(Thing::Stack, &stack);
+    batch.buffer(Thing::Values, &out).record(Thing::Record, &left(Gathered::FILLED, gathered));
+    end("cb_gather_values", bytes, batch);
 }
 
 // ---- returned values
 
-fn compare_returned(random: &mut Random, bytes: &[u8], comparison: &mut Comparison) {
+fn ask_returned(random: &mut Random, bytes: &[u8], batch: &mut Batch) {
     let length = accepted(bytes).map_or(8, |accepted| value_length(&accepted));
     for lengths in
         [[length, RETURN_IMAGE], [length, RETURN_IMAGE].map(|right| length_near(random, right))]
@@ -327,68 +260,27 @@ fn compare_returned(random: &mut Random, bytes: &[u8], comparison: &mut Comparis
         if lengths[0] == 1 && random.one_in(2) {
             value[0] &= 1; // a _Bool
         }
-        compare_put(random, bytes, &value, lengths[1], comparison);
-        compare_take(random, bytes, lengths, comparison);
+        ask_put(random, bytes, &value, lengths[1], batch);
+        ask_take(random, bytes, lengths, batch);
     }
 }
 
-fn compare_put(
-    random: &mut Random,
-    bytes: &[u8],
-    value: &[u8],
-    length: usize,
-    comparison: &mut Comparison,
-) {
+fn ask_put(random: &mut Random, bytes: &[u8], value: &[u8], length: usize, batch: &mut Batch) {
     let hidden = random.next();
     let mut image = random.bytes(length);
-    let mut expected = image.clone();
-    let answer = putting(bytes, hidden, value, &mut expected);
-    let answered = unsafe {
-        cb_put_returned(
-            bytes.as_ptr(),
-            bytes.len(),
-            hidden,
-            value.as_ptr(),
-            value.len(),
-            image.as_mut_ptr(),
-            image.len(),
-        )
-    };
-    comparison.same(
-        "cb_put_returned",
-        bytes,
-        (told_by(answered), image),
-        (told(&answer), expected),
-    );
+    batch.command(Code::PutReturned).word(hidden).part(value).part(&image);
+    let answer = putting(bytes, hidden, value, &mut image);
+    batch.told(told(&answer)).buffer(Thing::Values, value).buffer(Thing::Image, &image);
+    end("cb_put_returned", bytes, batch);
 }
 
-fn compare_take(
-    random: &mut Random,
-    bytes: &[u8],
-    lengths: [usize; 2],
-    comparison: &mut Comparison,
-) {
+fn ask_take(random: &mut Random, bytes: &[u8], lengths: [usize; 2], batch: &mut Batch) {
     let image = random.bytes(lengths[1]);
     let mut value = random.bytes(lengths[0]);
-    let mut expected_value = value.clone();
-    let answer = taking(bytes, &image, &mut expected_value);
-    let expected = Gathered { hidden: *answer.as_ref().unwrap_or(&(UNTOUCHED as u64)) };
-    let mut taken = Gathered { hidden: UNTOUCHED as u64 };
-    let answered = unsafe {
-        cb_take_returned(
-            bytes.as_ptr(),
-            bytes.len(),
-            image.as_ptr(),
-            image.len(),
-            value.as_mut_ptr(),
-            value.len(),
-            &mut taken,
-        )
-    };
-    comparison.same(
-        "cb_take_returned",
-        bytes,
-        (told_by(answered), taken, value),
-        (told(&answer), expected, expected_value),
-    );
+    batch.command(Code::TakeReturned).part(&image).part(&value);
+    let answer = taking(bytes, &image, &mut value);
+    let taken = answer.map(|hidden| Gathered { hidden });
+    batch.told(told(&answer)).buffer(Thing::Image, &image).buffer(Thing::Values, &value);
+    batch.record(Thing::Record, &left(Gathered::FILLED, taken));
+    end("cb_take_returned", bytes, batch);
 }

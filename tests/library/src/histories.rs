@@ -1,203 +1,185 @@
-//! Random histories of calls, played through the library: after each command the line that it answers, in which station, seat, walk
-//! and out buffer stand, against the line of the independent layout.
+//! Random histories of calls, played through the library: of each command the refusal, and all that it lent or set, against the
+//! independent layout. Behind each command the host writes another number that says attached, and rubbish into reserved bytes: neither
+//! changes an answer, an accepted call writes 0 or 1 and zeros there, and a refused one leaves them.
 
-use crate::comparison::{told_by, Comparison};
-use callbridge::raw::*;
-use independent::history::{
-    random_history, word_and_hex, Command, Script, FILLING, SEAT_ROOM, SLOTS,
-};
+use crate::batch::{About, Batch, Code, Thing};
+use crate::records::{left, Fields, Part, Station, Walk, FILLING, REGISTERS, STACK};
+use independent::history::{random_history, Command, Scene, Script, SLOTS};
+use independent::moving::Image;
 use independent::random::Random;
+use independent::refusal::{told, Told};
+use independent::station::{attach, detach};
+use independent::walk::{open, shown_piece, step, Piece};
 
-/// Everything that the commands work on, as a host of the library holds it.
-struct Desk {
-    station: Station,
-    seat: [u8; SEAT_ROOM],
-    lent: usize,
-    walks: [Walk; SLOTS],
-    registers: Vec<u8>,
-    stack: Vec<u8>,
+pub fn ask(random: &mut Random, length: usize, batch: &mut Batch) {
+    let mut script = Script::new();
+    random_history(random, &mut script, length);
+    let mut desk = Desk::new();
+    for command in &script.commands {
+        command.encode(&mut batch.commands);
+        let name = desk.expect(command, batch);
+        desk.write_own(random, batch);
+        batch.end(name);
+    }
+    batch.about = About::History(script.commands);
 }
 
-pub fn compare(random: &mut Random, commands: usize, comparison: &mut Comparison) {
-    let mut script = Script::new();
-    random_history(random, &mut script, commands);
-    let mut desk = Desk::new();
-    for (command, expected) in script.commands.iter().zip(&script.lines) {
-        let line = desk.answer(command);
-        let place = format!("{command:?}");
-        comparison.same("history", place.as_bytes(), &line, expected);
-    }
+const WALKS: [Thing; SLOTS] = [Thing::Walk0, Thing::Walk1, Thing::Walk2, Thing::Walk3];
+
+/// Bytes that say that something is attached. The library writes 1 alone.
+const ATTACHED: [u8; 4] = [1, 2, 128, 255];
+
+/// What the commands work on, and the structs as a host of the library holds them, to the byte.
+struct Desk {
+    scene: Scene,
+    station: Station,
+    walks: [Walk; SLOTS],
 }
 
 impl Desk {
     fn new() -> Desk {
-        Desk {
-            station: unsafe { cb_new_station() },
-            seat: [0; SEAT_ROOM],
-            lent: 586,
-            walks: [Walk::default(); SLOTS],
-            registers: Vec::new(),
-            stack: Vec::new(),
+        let scene = Scene::default();
+        Desk { station: scene.station.into(), walks: scene.walks.map(Walk::from), scene }
+    }
+
+    /// The host's own bytes, where nothing is looked at or any number says the same. The driver answers nothing.
+    fn write_own(&mut self, random: &mut Random, batch: &mut Batch) {
+        let (attached, rubbish) = (random.choose(&ATTACHED), random.byte());
+        self.station.attached = if self.scene.station.attached { attached } else { 0 };
+        self.station.reserved = [rubbish; 3];
+        for walk in &mut self.walks {
+            walk.reserved = [rubbish; 4];
         }
+        batch.command(Code::HostBytes).byte(self.station.attached).byte(rubbish);
     }
 
-    fn seat_sum(&self) -> usize {
-        let weighted =
-            self.seat.iter().enumerate().map(|(index, &byte)| (index + 1) * byte as usize);
-        weighted.sum::<usize>() % 65521
-    }
-
-    fn station_text(&self) -> String {
-        format!("station {} {} {}", self.station.attached, self.station.length, self.station.number)
-    }
-
-    fn walk_text(&self, slot: u8) -> String {
-        let walk = self.walks[slot as usize];
-        format!(
-            "walk {} {} {} {} {}",
-            walk.number, walk.position, walk.general, walk.vector, walk.overflow
-        )
-    }
-
-    fn answer(&mut self, command: &Command) -> String {
-        match command {
-            Command::Reset => {
-                *self = Desk::new();
-                "reset".to_string()
-            }
-            Command::SeatLength(length) => {
-                self.lent = *length as usize;
-                format!("seat length {length}")
-            }
-            Command::Spoil { index, value } => {
-                self.seat[*index as usize] = *value;
-                format!("spoilt seat {}", self.seat_sum())
-            }
-            Command::FillSeat(value) => {
-                self.seat = [*value; SEAT_ROOM];
-                format!("filled seat {}", self.seat_sum())
-            }
-            Command::StationByHand(station) => {
-                self.station = Station {
-                    attached: u8::from(station.attached),
-                    length: station.length,
-                    number: station.number,
-                };
-                self.station_text()
-            }
-            Command::Registers(image) => {
-                self.registers = image.clone();
-                format!("registers {}", image.len())
-            }
-            Command::Stack(image) => {
-                self.stack = image.clone();
-                format!("stack {}", image.len())
-            }
-            Command::WalkByHand { slot, walk } => {
-                self.walks[*slot as usize] = Walk {
-                    number: walk.number,
-                    position: walk.position as usize,
-                    general: walk.gp_offset as usize,
-                    vector: walk.fp_offset as usize,
-                    overflow: walk.overflow as usize,
-                };
-                self.walk_text(*slot)
-            }
-            _ => self.answer_call(command),
-        }
-    }
-
-    fn answer_call(&mut self, command: &Command) -> String {
+    /// Does what the command says, and expects the same of the driver. Answers a name for it.
+    fn expect(&mut self, command: &Command, batch: &mut Batch) -> &'static str {
+        let Desk { scene, station, walks } = self;
         match command {
             Command::Attach(description) => {
-                let (seat, lent) = (self.seat.as_mut_ptr(), self.lent);
-                let refusal = unsafe {
-                    cb_attach(
-                        &mut self.station,
-                        seat,
-                        lent,
-                        description.as_ptr(),
-                        description.len(),
-                    )
-                };
-                format!(
-                    "attach {} {} seat {}",
-                    told_by(refusal),
-                    self.station_text(),
-                    self.seat_sum()
-                )
+                let seat = &mut scene.seat[..scene.lent];
+                let answer = attach(&mut scene.station, seat, description);
+                *station = left(*station, answer.map(|()| scene.station.into()));
+                self.expect_station(told(&answer), batch);
+                batch.buffer(Thing::Description, description);
+                "cb_attach"
             }
             Command::Detach => {
-                let refusal =
-                    unsafe { cb_detach(&mut self.station, self.seat.as_mut_ptr(), self.lent) };
-                format!(
-                    "detach {} {} seat {}",
-                    told_by(refusal),
-                    self.station_text(),
-                    self.seat_sum()
-                )
+                let answer = detach(&mut scene.station, &mut scene.seat[..scene.lent]);
+                *station = left(*station, answer.map(|()| scene.station.into()));
+                self.expect_station(told(&answer), batch);
+                "cb_detach"
             }
             Command::Open { slot } => {
-                let walk = &mut self.walks[*slot as usize];
-                let refusal =
-                    unsafe { cb_open_walk(&self.station, self.seat.as_ptr(), self.lent, walk) };
-                format!("open {} {}", told_by(refusal), self.walk_text(*slot))
+                let answer = open(&scene.station, &scene.seat[..scene.lent]);
+                scene.walks[*slot as usize] = answer.unwrap_or(scene.walks[*slot as usize]);
+                let walk = &mut walks[*slot as usize];
+                *walk = left(*walk, answer.map(Walk::from));
+                self.expect_walk(told(&answer), *slot, batch);
+                "cb_open_walk"
             }
-            Command::Step { slot, asked, out } => self.answer_step(*slot, *asked, *out),
-            Command::Show { slot, asked } => {
-                let (_, part) = self.shown(*slot, *asked);
-                match part.image {
-                    REGISTERS => format!("show registers {} {}", part.offset, part.length),
-                    STACK => format!("show stack {} {}", part.offset, part.length),
-                    _ => "show none".to_string(),
-                }
+            Command::Step { slot, asked, out } => {
+                self.expect_step(*slot, *asked, *out, batch);
+                "cb_step"
             }
-            Command::Number { slot, asked } => {
-                format!("number {}", told_by(self.shown(*slot, *asked).0))
+            Command::Show { slot, asked } | Command::Number { slot, asked } => {
+                self.expect_shown(*slot, *asked, batch);
+                "cb_show"
             }
-            _ => unreachable!("the other commands are answered above"),
+            _ => {
+                scene.answer(command);
+                self.expect_set(command, batch);
+                "what is set"
+            }
         }
     }
 
-    fn answer_step(&mut self, slot: u8, asked: u8, length: u16) -> String {
-        let mut out = vec![FILLING; length as usize];
-        let refusal = unsafe {
-            cb_step(
-                &self.station,
-                self.seat.as_ptr(),
-                self.lent,
-                &mut self.walks[slot as usize],
-                self.registers.as_ptr(),
-                self.registers.len(),
-                self.stack.as_ptr(),
-                self.stack.len(),
-                asked,
-                out.as_mut_ptr(),
-                out.len(),
-            )
-        };
-        format!("step {} {} {}", told_by(refusal), word_and_hex("out", &out), self.walk_text(slot))
+    fn expect_station(&self, told: Told, batch: &mut Batch) {
+        batch.told(told).record(Thing::Station, &self.station);
+        batch.buffer(Thing::Seat, &self.scene.seat);
     }
 
-    /// The refusal and the part. A refusal must leave the part, which then says that it is nowhere.
-    fn shown(&self, slot: u8, asked: u8) -> (Refusal, Part) {
-        let mut part = Part { offset: 1, length: 2, image: NOWHERE };
-        let refusal = unsafe {
-            cb_show(
-                &self.station,
-                self.seat.as_ptr(),
-                self.lent,
-                &self.walks[slot as usize],
-                self.registers.as_ptr(),
-                self.registers.len(),
-                self.stack.as_ptr(),
-                self.stack.len(),
-                asked,
-                &mut part,
-            )
-        };
-        let written = part != Part { offset: 1, length: 2, image: NOWHERE };
-        assert_eq!(written, refusal.number == 0, "a refusal leaves the part, an answer fills it");
-        (refusal, part)
+    fn expect_walk(&self, told: Told, slot: u8, batch: &mut Batch) {
+        self.expect_station(told, batch);
+        batch.record(WALKS[slot as usize], &self.walks[slot as usize]);
     }
+
+    fn expect_images(&self, told: Told, slot: u8, batch: &mut Batch) {
+        self.expect_walk(told, slot, batch);
+        batch.buffer(Thing::Registers, &self.scene.registers);
+        batch.buffer(Thing::Stack, &self.scene.stack);
+    }
+
+    fn expect_step(&mut self, slot: u8, asked: u8, length: u16, batch: &mut Batch) {
+        let Desk { scene, walks, .. } = self;
+        let mut out = vec![FILLING; length as usize];
+        let answer = step(
+            &scene.station,
+            &scene.seat[..scene.lent],
+            &mut scene.walks[slot as usize],
+            asked,
+            &scene.registers,
+            &scene.stack,
+            &mut out,
+        );
+        let walk = &mut walks[slot as usize];
+        *walk = left(*walk, answer.map(|()| scene.walks[slot as usize].into()));
+        self.expect_images(told(&answer), slot, batch);
+        batch.buffer(Thing::Out, &out);
+    }
+
+    fn expect_shown(&self, slot: u8, asked: u8, batch: &mut Batch) {
+        let scene = &self.scene;
+        let answer = shown_piece(
+            &scene.station,
+            &scene.seat[..scene.lent],
+            &scene.walks[slot as usize],
+            asked,
+            &scene.registers,
+            &scene.stack,
+        );
+        self.expect_images(told(&answer), slot, batch);
+        batch.record(Thing::Record, &left(Part::FILLED, answer.map(part_of)));
+    }
+
+    /// What the commands set that call nothing; a reset calls cb_new_station.
+    fn expect_set(&mut self, command: &Command, batch: &mut Batch) {
+        let Desk { scene, station, walks } = self;
+        match command {
+            Command::SeatLength(length) => batch.number("seat's length", u64::from(*length)),
+            Command::StationByHand(_) => {
+                *station = scene.station.into();
+                batch.record(Thing::Station, station)
+            }
+            Command::WalkByHand { slot, .. } => {
+                let walk = &mut walks[*slot as usize];
+                *walk = scene.walks[*slot as usize].into();
+                batch.record(WALKS[*slot as usize], walk)
+            }
+            Command::Registers(_) => batch.buffer(Thing::Registers, &scene.registers),
+            Command::Stack(_) => batch.buffer(Thing::Stack, &scene.stack),
+            Command::Reset => {
+                *self = Desk::new();
+                batch.record(Thing::Station, &self.station);
+                batch.buffer(Thing::Seat, &self.scene.seat);
+                for (thing, walk) in WALKS.into_iter().zip(&self.walks) {
+                    batch.record(thing, walk);
+                }
+                batch
+            }
+            _ => batch.buffer(Thing::Seat, &scene.seat),
+        };
+    }
+}
+
+fn part_of(piece: Option<Piece>) -> Part {
+    let Some(Piece { image, start, length }) = piece else {
+        return Part::EMPTY;
+    };
+    let image = match image {
+        Image::Registers => REGISTERS,
+        Image::Stack => STACK,
+    };
+    Part::new(image, start.0, length.0)
 }

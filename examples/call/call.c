@@ -1,0 +1,82 @@
+/* call.c: lays a call out, places its values, jumps, and takes the result. */
+#include "call.h"
+
+#include <stdio.h>
+#include <string.h>
+
+static const cb_refusal accepted = {CB_ACCEPTED, 0}, wrong_size = {CB_WRONG_BUFFER, 0};
+
+int call_refused(cb_refusal refusal)
+{
+    if (refusal.number != CB_ACCEPTED) {
+        char line[CB_REFUSAL_ROOM];
+        fprintf(stderr, "refused %s\n", cb_refusal_line(refusal, line));
+    }
+    return refusal.number != CB_ACCEPTED;
+}
+
+size_t call_returned_size(const uint8_t *description, size_t length)
+{
+    cb_extent extent = {0, 0};
+    /* Byte 9 is the type's number. For CB_VOID this is refused, and a refusal leaves the extent as it was. */
+    cb_type_extent(description, length, description[9], &extent);
+    return extent.size;
+}
+
+size_t call_x87(const cb_layout *layout)
+{
+    return (size_t)(layout->return_first == CB_ST0) + (size_t)(layout->return_second == CB_ST1);
+}
+
+/* Packs the values, argument after argument; refused where one has not its type's size. */
+static cb_refusal pack(const cb_layout *layout, const cb_placement *arguments, const call_value *values, size_t count, uint8_t *packed)
+{
+    if (count != layout->arguments) {
+        return wrong_size;
+    }
+    for (size_t i = 0; i < count; i++) {
+        if (values[i].size != arguments[i].size) {
+            return wrong_size;
+        }
+        memcpy(packed, values[i].at, values[i].size);
+        packed += values[i].size;
+    }
+    return accepted;
+}
+
+cb_refusal call_function(call_target function, const uint8_t *description, size_t length, const call_value *values, size_t count,
+                         void *result, size_t result_size)
+{
+    cb_layout layout;
+    cb_placement arguments[CB_MAX_ARGUMENTS];
+    cb_refusal refusal = cb_lay_out(description, length, &layout, arguments, CB_MAX_ARGUMENTS);
+    if (refusal.number != CB_ACCEPTED) {
+        return refusal;
+    }
+
+    _Alignas(16) uint8_t unwanted[CB_MAX_TYPE];
+    size_t size = call_returned_size(description, length);
+    if (result == NULL && result_size == 0) {
+        result = unwanted;
+    } else if (result_size != size) {
+        return wrong_size;
+    }
+
+    uint8_t packed[CB_MAX_VALUES], registers[CB_REGISTER_IMAGE], stack[CB_MAX_AREA];
+    cb_placed placed;
+    refusal = pack(&layout, arguments, values, count, packed);
+    if (refusal.number != CB_ACCEPTED) {
+        return refusal;
+    }
+    refusal = cb_place_values(description, length, (uintptr_t)result, packed, layout.values, registers, sizeof registers, stack,
+                              layout.area, &placed);
+    if (refusal.number != CB_ACCEPTED) {
+        return refusal;
+    }
+
+    uint8_t returned[CB_RETURN_IMAGE] = {0};
+    jump(function, registers, stack, layout.area, placed.vector_registers, returned, call_x87(&layout));
+    /* A value in memory is at its address already, and has length 0 here. */
+    cb_gathered taken;
+    return cb_take_returned(description, length, returned, sizeof returned, result, layout.hidden ? 0 : size, &taken);
+}

@@ -1,0 +1,89 @@
+/* callback.c: gathers the arguments of a callback out of the images, and puts its result. */
+#include "callback.h"
+
+#include <stdlib.h>
+#include <string.h>
+
+typedef struct callback {
+    callback_handler *handler; /* NULL where the entry is free */
+    void *user;
+    cb_layout layout;
+    cb_placement arguments[CB_MAX_ARGUMENTS];
+    size_t returned_size; /* 0 for void and for a value in memory */
+    size_t length;
+    uint8_t description[CB_MAX_DESCRIPTION];
+} callback;
+
+static callback callbacks[CALLBACKS];
+
+/* callback.S */
+extern const uint8_t callback_entries[CALLBACKS][CALLBACK_ENTRY];
+
+call_target callback_make(const uint8_t *description, size_t length, callback_handler *handler, void *user)
+{
+    cb_layout layout;
+    cb_placement arguments[CB_MAX_ARGUMENTS];
+    if (handler == NULL || cb_lay_out(description, length, &layout, arguments, CB_MAX_ARGUMENTS).number != CB_ACCEPTED) {
+        return NULL;
+    }
+    for (size_t i = 0; i < CALLBACKS; i++) {
+        callback *c = &callbacks[i];
+        if (c->handler == NULL) {
+            c->handler = handler;
+            c->user = user;
+            c->layout = layout;
+            memcpy(c->arguments, arguments, layout.arguments * sizeof arguments[0]);
+            c->returned_size = layout.hidden ? 0 : call_returned_size(description, length);
+            c->length = length;
+            memcpy(c->description, description, length);
+            return (call_target)(uintptr_t)callback_entries[i];
+        }
+    }
+    return NULL;
+}
+
+void callback_drop(call_target made)
+{
+    for (size_t i = 0; i < CALLBACKS; i++) {
+        if (made == (call_target)(uintptr_t)callback_entries[i]) {
+            callbacks[i].handler = NULL;
+        }
+    }
+}
+
+/* Copies each value to a place of its own that is aligned to 16, so that a handler may read it by a pointer of its type. */
+static void spread(const callback *c, const uint8_t *packed, uint8_t *room, const void **values)
+{
+    for (size_t i = 0; i < c->layout.arguments; i++) {
+        size_t size = c->arguments[i].size;
+        values[i] = memcpy(room, packed, size);
+        packed += size;
+        room += (size + 15) / 16 * 16;
+    }
+}
+
+/* Called by callback.S. Answers how many numbers go back on the x87 stack. What is refused here cannot be told to the module, and ends
+   the program: a callback that was dropped, or a handler that returns a _Bool that is not 0 or 1. */
+size_t callback_arrived(size_t number, const uint8_t *registers, const uint8_t *stack, uint8_t *returned);
+
+size_t callback_arrived(size_t number, const uint8_t *registers, const uint8_t *stack, uint8_t *returned)
+{
+    const callback *c = &callbacks[number];
+    uint8_t packed[CB_MAX_VALUES];
+    _Alignas(16) uint8_t room[CB_MAX_VALUES + 16 * CB_MAX_ARGUMENTS];
+    _Alignas(16) uint8_t result[32]; /* what does not come back in memory has no more: a complex long double */
+    const void *values[CB_MAX_ARGUMENTS];
+    cb_gathered gathered;
+    if (c->handler == NULL || cb_gather_values(c->description, c->length, registers, CB_REGISTER_IMAGE, stack, c->layout.area, packed,
+                                               c->layout.values, &gathered).number != CB_ACCEPTED) {
+        abort();
+    }
+    spread(c, packed, room, values);
+    memset(result, 0, sizeof result);
+    c->handler(c->user, values, c->layout.hidden ? (void *)(uintptr_t)gathered.hidden : result);
+    if (cb_put_returned(c->description, c->length, gathered.hidden, result, c->returned_size, returned, CB_RETURN_IMAGE).number !=
+        CB_ACCEPTED) {
+        abort();
+    }
+    return call_x87(&c->layout);
+}
