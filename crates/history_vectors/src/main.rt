@@ -55,8 +55,8 @@ fn print_byte(byte: u8) {
     print(&pair);
 }
 
-fn print_bytes(bytes: &[u8]) {
-    print(b" out");
+fn print_bytes(text: &[u8], bytes: &[u8]) {
+    print(text);
     if bytes.len() != 0 {
         print(b" ");
     }
@@ -394,7 +394,7 @@ fn step_into(
     let after = walk::step_by_value(station, seat, walk, registers, stack, asked, out);
     let next = with_walk(state, slot, after.walk);
     print_refusal(b"step ", after.refusal);
-    print_bytes(out);
+    print_bytes(b" out", out);
     print_slot(next, slot);
     next
 }
@@ -410,10 +410,10 @@ fn step(state: State, seat: &[u8], registers: &[u8], stack: &[u8]) -> State {
     step_into(state, seat, registers, stack, slot, asked, &mut out[..n])
 }
 
-// Where the part begins, and how many bytes the part has that is handed out.
-fn print_part(text: &[u8], offset: Bytes, count: usize) {
+// Where the part begins, and the bytes of the part that is handed out: they are those that stand there only where it begins there.
+fn print_part(text: &[u8], offset: Bytes, part: &[u8]) {
     print_number(text, offset.0 as u64);
-    print_number(b" ", count as u64);
+    print_bytes(b" part", part);
     print(b"\n");
 }
 
@@ -423,10 +423,9 @@ fn show<'a>(state: State, seat: &[u8], registers: &'a [u8], stack: &'a [u8]) {
     let asked = read_byte();
     let walk = walk_in(state, slot);
     let part = walk::show(station, seat, walk, registers, stack, asked);
-    let count = part.len();
     match walk::shown_at(station, seat, walk, registers, stack, asked) {
-        ShownAnswer::Registers(place) => print_part(b"show registers ", place.offset, count),
-        ShownAnswer::Stack(place) => print_part(b"show stack ", place.offset, count),
+        ShownAnswer::Registers(place) => print_part(b"show registers ", place.offset, part),
+        ShownAnswer::Stack(place) => print_part(b"show stack ", place.offset, part),
         ShownAnswer::Apart => print(b"show none\n"),
         ShownAnswer::Refused(_) => print(b"show none\n"),
     }

@@ -68,19 +68,30 @@ fn print_classes(d: &[u8], t: u8) {
     }
 }
 
-// Where the run lies, and how many bytes the part has that is handed out for it.
+fn print_member(member: u8) {
+    print_number(b" ", member as u64);
+}
+
+// The bytes of a part, each as a number.
+fn print_part(part: &[u8]) {
+    print(b" part");
+    for i in 0..part.len() {
+        print_member(part[i]);
+    }
+}
+
+// Where the run lies, and the part that is handed out for it: its bytes are those that stand there only where it begins there.
 fn print_run(d: &[u8], t: u8) {
     let part = questions::member_run(d, t);
-    let count = part.len() as u64;
     match questions::run_at(d, t) {
         RunAnswer::Run(offset, _) => {
             print_number(b" run ", offset.0 as u64);
-            print_number(b" ", count);
+            print_part(part);
         }
         RunAnswer::NoRun => {
             print(b" run none");
-            if count != 0 {
-                print_number(b" but a part of ", count);
+            if part.len() != 0 {
+                print_part(part);
             }
         }
         RunAnswer::Refused(refusal) => print_refusal(refusal),

@@ -247,11 +247,12 @@ impl Scene {
         let Ok(Some(piece)) = piece else {
             return "show none".to_string();
         };
-        let image = match piece.image {
-            Image::Registers => "registers",
-            Image::Stack => "stack",
+        let (name, image) = match piece.image {
+            Image::Registers => ("registers", &self.registers),
+            Image::Stack => ("stack", &self.stack),
         };
-        format!("show {image} {} {}", piece.start.0, piece.length.0)
+        let part = &image[piece.start.0..piece.start.0 + piece.length.0];
+        format!("show {name} {} {}", piece.start.0, word_and_hex("part", part))
     }
 
     fn answer_number(&self, slot: u8, asked: u8) -> String {

@@ -123,8 +123,9 @@ pub fn question_line(bytes: &[u8], type_number: u8) -> String {
     let measure = types.measure(type_number);
     let [first, second] = classes_of(&types, type_number);
     let run = run_range(bytes, type_number);
+    let members: String = bytes[run.clone()].iter().map(|member| format!(" {member}")).collect();
     let run_text =
-        if run.is_empty() { "none".to_string() } else { format!("{} {}", run.start, run.len()) };
+        if run.is_empty() { "none".to_string() } else { format!("{} part{members}", run.start) };
     format!(
         "size {} align {} classes {} {} run {run_text}\n",
         measure.size.0,

@@ -8,19 +8,16 @@ use Rattle.history_vectors.proofs.print_bytes.Statement.{statement}
 use Rattle.history_vectors.proofs.print_bytes.Tie as tie
 
 abbrev Inv-loop : tie.InvT-loop
-Inv-loop bytes i₀ i-end i = (i ≤ i-end) × (i-end ≡ length bytes)
+Inv-loop text bytes i₀ i-end i = (i ≤ i-end) × (i-end ≡ length bytes)
 
 abbrev μ-loop : tie.MeasureT-loop
-μ-loop bytes i₀ i-end i = i-end - i
-
-slice-aggregate-print : tie.Need-slice-aggregate-print Inv-loop μ-loop
-slice-aggregate-print c = search needs
+μ-loop text bytes i₀ i-end i = i-end - i
 
 print-requires : tie.Need-print-requires Inv-loop μ-loop
 print-requires c κs = search needs
 
-slice-aggregate-print-2 : tie.Need-slice-aggregate-print-2 Inv-loop μ-loop
-slice-aggregate-print-2 c = search needs
+slice-aggregate-print : tie.Need-slice-aggregate-print Inv-loop μ-loop
+slice-aggregate-print c = search needs
 
 print-requires-2 : tie.Need-print-requires-2 Inv-loop μ-loop
 print-requires-2 c κs = search needs
@@ -52,9 +49,8 @@ print-bytes-spec =
     (tie.spec
     Inv-loop
     μ-loop
-    slice-aggregate-print
     print-requires
-    slice-aggregate-print-2
+    slice-aggregate-print
     print-requires-2
     loop-holds
     shared-slice-read-print-byte
