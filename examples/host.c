@@ -207,21 +207,11 @@ static int gather(const call *c)
     return 0;
 }
 
-/* The size of the returned type, 0 for void: byte 9 of a description is its number. */
-static size_t returned_size(const call *c)
-{
-    cb_extent extent;
-    if (cb_type_extent(c->description, c->length, c->description[9], &extent).number != CB_ACCEPTED) {
-        return 0;
-    }
-    return extent.size;
-}
-
 /* What the module's function would leave, and how the host finds it: a value of the returned type's size. */
 static int bring_back(const call *c)
 {
     uint8_t value[CB_MAX_TYPE], back[CB_MAX_TYPE], image[CB_RETURN_IMAGE];
-    size_t size = c->layout.hidden ? 0 : returned_size(c);
+    size_t size = c->layout.hidden ? 0 : c->layout.return_size;
     cb_gathered taken;
     for (size_t i = 0; i < size; i++) {
         value[i] = (uint8_t)(0x80 + i);

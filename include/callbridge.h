@@ -40,7 +40,8 @@ extern "C" {
 #endif
 
 /* The version of this interface. It counts up where a program must be built anew; compare it with cb_version(). In version 1 a
-   cb_refusal had no type; in version 2 structs had padding, `attached` had to be 0 or 1, and a refused call left a cb_part as it was. */
+   cb_refusal had no type; in version 2 structs had padding, a cb_layout had no return_size, `attached` had to be 0 or 1, and a refused
+   call left a cb_part as it was. */
 #define CB_VERSION 3
 
 /* Sizes that the description's rules fix. */
@@ -216,14 +217,15 @@ typedef struct cb_placement {
 /* A call as a whole.
    Return place: two registers of enum cb_register, return_second CB_NONE for a value in one register; CB_ST0 for a long double, CB_ST0
    and CB_ST1 for a complex one. Both are CB_NONE for void, hidden 0, and for a value in memory, hidden 1: then the host passes the
-   value's address (in rdi), and it comes back in rax. */
+   address of return_size bytes (in rdi), and it comes back in rax. */
 typedef struct cb_layout {
     size_t general_registers;        /* used, 0 to 6, the hidden address included */
     size_t vector_registers;         /* used, 0 to 8 */
     size_t stack_end;                /* where the last stack argument's room ends, a multiple of 8 */
     size_t area;                     /* bytes of the stack image: stack_end rounded up to 16 */
     size_t values;                   /* bytes of all values, packed */
-    size_t named_general_registers;  /* the same three after the named arguments alone: where a walk starts */
+    size_t return_size;              /* bytes of the returned value, 0 for void */
+    size_t named_general_registers;  /* the first three after the named arguments alone: where a walk starts */
     size_t named_vector_registers;
     size_t named_stack_end;
     size_t arguments;                /* how many, 0 to 64 */
@@ -311,9 +313,9 @@ cb_refusal cb_gather_values(const uint8_t *description, size_t description_lengt
                             uint8_t *values, size_t values_length, cb_gathered *gathered);
 
 /* Puts a returned value into the return image, and zeros everywhere else in it: what the called function leaves. A value in memory has
-   length 0 here: rax holds the hidden address, which is looked at in no other case; void has length 0 too. Of each long double ten
-   bytes are put, the other six are zero. Refused 1 to 10, then 11 for a length other than the returned type's size or
-   CB_RETURN_IMAGE, then 12 for a returned _Bool's byte that is not 0 or 1. */
+   length 0 here: rax holds the hidden address, which is looked at in no other case. Any other has the layout's `return_size`, which
+   is 0 for void. Of each long double ten bytes are put, the other six are zero. Refused 1 to 10, then 11 for another length, or one
+   of the image that is not CB_RETURN_IMAGE, then 12 for a returned _Bool's byte that is not 0 or 1. */
 cb_refusal cb_put_returned(const uint8_t *description, size_t description_length, uint64_t hidden,
                            const uint8_t *value, size_t value_length, uint8_t *image, size_t image_length);
 

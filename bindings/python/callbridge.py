@@ -106,6 +106,7 @@ cb_layout = _struct(
     ('stack_end', _size),
     ('area', _size),
     ('values', _size),
+    ('return_size', _size),
     ('named_general_registers', _size),
     ('named_vector_registers', _size),
     ('named_stack_end', _size),
@@ -324,8 +325,8 @@ class Layout(NamedTuple):
     """A call as a whole.
 
     `returned` has the registers of the returned value: none for void, `hidden` false, and for a value in memory, `hidden` true, whose address the
-    host passes in rdi. `area` is the length of the stack image, `values` that of all values, packed; the three `named_` numbers are where a walk
-    starts.
+    host passes in rdi. `area` is the length of the stack image, `values` that of all values, packed, `return_size` that of the returned value, in
+    memory too, and 0 for void; the three `named_` numbers are where a walk starts.
     """
 
     general_registers: int
@@ -333,6 +334,7 @@ class Layout(NamedTuple):
     stack_end: int
     area: int
     values: int
+    return_size: int
     named_general_registers: int
     named_vector_registers: int
     named_stack_end: int
@@ -346,7 +348,7 @@ def _registers(first: int, second: int) -> Tuple[Register, ...]:
 
 
 def _layout(of) -> Layout:
-    numbers = [getattr(of, name) for name in Layout._fields[:9]]
+    numbers = [getattr(of, name) for name in Layout._fields[:10]]
     return Layout(*numbers, _registers(of.return_first, of.return_second), of.hidden != 0)
 
 
@@ -418,9 +420,8 @@ def gather_values(description: Bytes, registers: Bytes, stack: Bytes) -> Gathere
 
 def _returned_length(description: bytes) -> int:
     """Bytes of the returned value in the return image: 0 for void and for a value in memory."""
-    if layout_of(description).returned == ():
-        return 0
-    return type_extent(description, description[9]).size
+    layout = layout_of(description)
+    return 0 if layout.hidden else layout.return_size
 
 
 def put_returned(description: Bytes, value: Bytes, hidden: int = 0) -> bytes:

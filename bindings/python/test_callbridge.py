@@ -139,7 +139,7 @@ class Raw(Case):
     def test_reserved_bytes(self):
         layout, placements = rubbish(callbridge.cb_layout), rubbish(callbridge.cb_placement * 6)
         self.assertEqual(self.library.cb_lay_out(MIXED, len(MIXED), layout, placements, 4).number, 11)
-        self.assertEqual((bytes(layout), bytes(placements)), (b'\xa5' * 80, b'\xa5' * 192))
+        self.assertEqual((bytes(layout), bytes(placements)), (b'\xa5' * 88, b'\xa5' * 192))
         self.assertEqual(self.library.cb_lay_out(MIXED, len(MIXED), layout, placements, 6).number, 0)
         self.assertEqual((bytes(layout.reserved), bytes(placements)[160:]), (bytes(5), b'\xa5' * 32))
         self.assertEqual([bytes(one.reserved) for one in placements[:5]], [bytes(5)] * 5)
@@ -223,7 +223,7 @@ class Layouts(Case):
     def test_places(self):
         layout, placements = callbridge.lay_out(MIXED)
         self.assertEqual(callbridge.layout_of(MIXED), layout)
-        self.assertEqual(layout, (4, 2, 16, 16, 60, 2, 1, 16, 5, (Register.XMM0,), False))
+        self.assertEqual(layout, (4, 2, 16, 16, 60, 8, 2, 1, 16, 5, (Register.XMM0,), False))
         self.assertEqual([str(one.place) for one in placements], ['rdi', 'xmm0 rsi', 'stack 0', 'xmm1', 'rdx rcx'])
         self.assertEqual([one[:3] for one in placements], [(0, 4, 4), (3, 16, 8), (4, 16, 16), (1, 8, 8), (5, 16, 16)])
         self.assertEqual(placements[2].place, ((), 0))
@@ -258,6 +258,7 @@ class Moving(Case):
 
     def test_no_argument_and_no_stack(self):
         nothing = described([INT], [])
+        self.assertEqual(callbridge.layout_of(nothing).return_size, 0)
         placed = callbridge.place_values(nothing, b'')
         self.assertEqual(placed, (bytes(176), b'', 0))
         self.assertEqual(callbridge.gather_values(nothing, placed.registers, b''), (b'', 0))
@@ -278,7 +279,7 @@ class Moving(Case):
     def test_a_value_in_memory(self):
         large = described([DOUBLE, bytes([2, 0, 3, 0])], [0], returns=1, members=bytes([0, 0, 0]))
         layout = callbridge.layout_of(large)
-        self.assertEqual((layout.hidden, layout.returned, layout.general_registers), (True, (), 1))
+        self.assertEqual((layout.hidden, layout.returned, layout.return_size, layout.general_registers), (True, (), 24, 1))
         address = 0xFEDCBA9876543210
         placed = callbridge.place_values(large, bytes(8), address)
         self.assertEqual(placed.registers[:8], address.to_bytes(8, 'little'))

@@ -15,14 +15,6 @@ int call_refused(cb_refusal refusal)
     return refusal.number != CB_ACCEPTED;
 }
 
-size_t call_returned_size(const uint8_t *description, size_t length)
-{
-    cb_extent extent = {0, 0};
-    /* Byte 9 is the type's number. For CB_VOID this is refused, and a refusal leaves the extent as it was. */
-    cb_type_extent(description, length, description[9], &extent);
-    return extent.size;
-}
-
 size_t call_x87(const cb_layout *layout)
 {
     return (size_t)(layout->return_first == CB_ST0) + (size_t)(layout->return_second == CB_ST1);
@@ -55,10 +47,9 @@ cb_refusal call_function(call_target function, const uint8_t *description, size_
     }
 
     _Alignas(16) uint8_t unwanted[CB_MAX_TYPE];
-    size_t size = call_returned_size(description, length);
     if (result == NULL && result_size == 0) {
         result = unwanted;
-    } else if (result_size != size) {
+    } else if (result_size != layout.return_size) {
         return wrong_size;
     }
 
@@ -78,5 +69,5 @@ cb_refusal call_function(call_target function, const uint8_t *description, size_
     jump(function, registers, stack, layout.area, placed.vector_registers, returned, call_x87(&layout));
     /* A value in memory is at its address already, and has length 0 here. */
     cb_gathered taken;
-    return cb_take_returned(description, length, returned, sizeof returned, result, layout.hidden ? 0 : size, &taken);
+    return cb_take_returned(description, length, returned, sizeof returned, result, layout.hidden ? 0 : layout.return_size, &taken);
 }

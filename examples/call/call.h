@@ -33,9 +33,6 @@ cb_refusal call_function(call_target function, const uint8_t *description, size_
 /* Says on standard error why a call was refused; answers 1 where it was, else 0. */
 int call_refused(cb_refusal refusal);
 
-/* The bytes of the type that an accepted description returns, 0 for void. */
-size_t call_returned_size(const uint8_t *description, size_t length);
-
 /* How many numbers come back on the x87 stack: 1 for a long double, 2 for a complex one, else 0. */
 size_t call_x87(const cb_layout *layout);
 

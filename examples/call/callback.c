@@ -9,7 +9,6 @@ typedef struct callback {
     void *user;
     cb_layout layout;
     cb_placement arguments[CB_MAX_ARGUMENTS];
-    size_t returned_size; /* 0 for void and for a value in memory */
     size_t length;
     uint8_t description[CB_MAX_DESCRIPTION];
 } callback;
@@ -33,7 +32,6 @@ call_target callback_make(const uint8_t *description, size_t length, callback_ha
             c->user = user;
             c->layout = layout;
             memcpy(c->arguments, arguments, layout.arguments * sizeof arguments[0]);
-            c->returned_size = layout.hidden ? 0 : call_returned_size(description, length);
             c->length = length;
             memcpy(c->description, description, length);
             return (call_target)(uintptr_t)callback_entries[i];
@@ -81,8 +79,9 @@ size_t callback_arrived(size_t number, const uint8_t *registers, const uint8_t *
     spread(c, packed, room, values);
     memset(result, 0, sizeof result);
     c->handler(c->user, values, c->layout.hidden ? (void *)(uintptr_t)gathered.hidden : result);
-    if (cb_put_returned(c->description, c->length, gathered.hidden, result, c->returned_size, returned, CB_RETURN_IMAGE).number !=
-        CB_ACCEPTED) {
+    /* A value in memory is at its address already, and has length 0 here. */
+    if (cb_put_returned(c->description, c->length, gathered.hidden, result, c->layout.hidden ? 0 : c->layout.return_size, returned,
+                        CB_RETURN_IMAGE).number != CB_ACCEPTED) {
         abort();
     }
     return call_x87(&c->layout);

@@ -165,6 +165,14 @@ static int is_bool(const uint8_t *description, uint8_t type)
     return type < description[5] && description[11 + 4 * type] == CB_BASIC && description[11 + 4 * type + 1] == CB_BOOL;
 }
 
+/* The bytes of the returned type, 0 for void. Byte 9 is its number; for CB_VOID this is refused, and a refusal leaves the extent as it was. */
+static size_t returned_size(const uint8_t *description, size_t length)
+{
+    cb_extent extent = {0, 0};
+    cb_type_extent(description, length, description[9], &extent);
+    return extent.size;
+}
+
 static unsigned long on_stack, in_memory, on_x87;
 
 /* 1 where a call was made. */
@@ -178,7 +186,8 @@ static int call_and_be_called(void)
         return 0;
     }
     expect("the layout", cb_lay_out(description, length, &layout, placements, CB_MAX_ARGUMENTS).number, CB_ACCEPTED);
-    answer_size = call_returned_size(description, length);
+    answer_size = returned_size(description, length);
+    expect("the layout's size of the result", layout.return_size, answer_size);
     fill(sent, layout.values);
     fill(answer, answer_size);
     for (size_t i = 0; i < layout.arguments; i++) {

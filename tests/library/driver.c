@@ -249,6 +249,7 @@ static void answer_layout(const cb_layout *layout)
     field(layout->stack_end);
     field(layout->area);
     field(layout->values);
+    field(layout->return_size);
     field(layout->named_general_registers);
     field(layout->named_vector_registers);
     field(layout->named_stack_end);

@@ -84,10 +84,10 @@ static void sizes(void)
                FIELD(cb_placement, first) + FIELD(cb_placement, second) + FIELD(cb_placement, reserved));
     expect("sizeof(cb_layout)", sizeof(cb_layout),
            FIELD(cb_layout, general_registers) + FIELD(cb_layout, vector_registers) + FIELD(cb_layout, stack_end) +
-               FIELD(cb_layout, area) + FIELD(cb_layout, values) + FIELD(cb_layout, named_general_registers) +
-               FIELD(cb_layout, named_vector_registers) + FIELD(cb_layout, named_stack_end) + FIELD(cb_layout, arguments) +
-               FIELD(cb_layout, return_first) + FIELD(cb_layout, return_second) + FIELD(cb_layout, hidden) +
-               FIELD(cb_layout, reserved));
+               FIELD(cb_layout, area) + FIELD(cb_layout, values) + FIELD(cb_layout, return_size) +
+               FIELD(cb_layout, named_general_registers) + FIELD(cb_layout, named_vector_registers) +
+               FIELD(cb_layout, named_stack_end) + FIELD(cb_layout, arguments) + FIELD(cb_layout, return_first) +
+               FIELD(cb_layout, return_second) + FIELD(cb_layout, hidden) + FIELD(cb_layout, reserved));
     expect("sizeof(cb_placed)", sizeof(cb_placed), FIELD(cb_placed, vector_registers));
     expect("sizeof(cb_gathered)", sizeof(cb_gathered), FIELD(cb_gathered, hidden));
     expect("sizeof(cb_station)", sizeof(cb_station),
@@ -131,7 +131,7 @@ static void questions(void)
 }
 
 /* The fields of a layout, in the header's order, as numbers that tell each from the others over three descriptions. */
-static void layout(const uint8_t *description, size_t length, const size_t should[12])
+static void layout(const uint8_t *description, size_t length, const size_t should[13])
 {
     LENT(cb_layout) whole;
     FRESH(whole);
@@ -142,26 +142,27 @@ static void layout(const uint8_t *description, size_t length, const size_t shoul
     expect("stack_end", whole.value.stack_end, should[2]);
     expect("area", whole.value.area, should[3]);
     expect("values", whole.value.values, should[4]);
-    expect("named_general_registers", whole.value.named_general_registers, should[5]);
-    expect("named_vector_registers", whole.value.named_vector_registers, should[6]);
-    expect("named_stack_end", whole.value.named_stack_end, should[7]);
-    expect("arguments", whole.value.arguments, should[8]);
-    expect("return_first", whole.value.return_first, should[9]);
-    expect("return_second", whole.value.return_second, should[10]);
-    expect("hidden", whole.value.hidden, should[11]);
+    expect("return_size", whole.value.return_size, should[5]);
+    expect("named_general_registers", whole.value.named_general_registers, should[6]);
+    expect("named_vector_registers", whole.value.named_vector_registers, should[7]);
+    expect("named_stack_end", whole.value.named_stack_end, should[8]);
+    expect("arguments", whole.value.arguments, should[9]);
+    expect("return_first", whole.value.return_first, should[10]);
+    expect("return_second", whole.value.return_second, should[11]);
+    expect("hidden", whole.value.hidden, should[12]);
     RESERVED(whole.value);
 }
 
 static void layouts(void)
 {
-    static const size_t of_mixed[12] = {4, 2, 16, 16, 60, 2, 1, 16, 5, CB_XMM0, CB_NONE, 0};
-    static const size_t of_wide[12] = {2, 6, 72, 80, 136, 1, 6, 16, 12, CB_ST0, CB_ST1, 0};
-    static const size_t of_memory[12] = {2, 0, 0, 0, 8, 2, 0, 0, 1, CB_NONE, CB_NONE, 1};
+    static const size_t of_mixed[13] = {4, 2, 16, 16, 60, 8, 2, 1, 16, 5, CB_XMM0, CB_NONE, 0};
+    static const size_t of_wide[13] = {2, 6, 72, 80, 136, 32, 1, 6, 16, 12, CB_ST0, CB_ST1, 0};
+    static const size_t of_memory[13] = {2, 0, 0, 0, 8, 24, 2, 0, 0, 1, CB_NONE, CB_NONE, 1};
     const size_t *const all[3] = {of_mixed, of_wide, of_memory};
     layout(mixed, sizeof mixed, of_mixed);
     layout(wide, sizeof wide, of_wide);
     layout(memory, sizeof memory, of_memory);
-    for (size_t i = 0; i < 12; i++) {
+    for (size_t i = 0; i < 13; i++) {
         for (size_t k = 0; k < i; k++) {
             if (all[0][i] == all[0][k] && all[1][i] == all[1][k] && all[2][i] == all[2][k]) {
                 printf("fields %zu and %zu of cb_layout are not told apart\n", k, i);
@@ -169,9 +170,10 @@ static void layouts(void)
             }
         }
     }
-    printf("cb_layout %zu: %zu %zu %zu %zu %zu %zu %zu %zu %zu %zu %zu %zu reserved %zu\n", sizeof(cb_layout), offsetof(cb_layout, general_registers),
+    printf("cb_layout %zu: %zu %zu %zu %zu %zu %zu %zu %zu %zu %zu %zu %zu %zu reserved %zu\n", sizeof(cb_layout), offsetof(cb_layout, general_registers),
            offsetof(cb_layout, vector_registers), offsetof(cb_layout, stack_end), offsetof(cb_layout, area), offsetof(cb_layout, values),
-           offsetof(cb_layout, named_general_registers), offsetof(cb_layout, named_vector_registers), offsetof(cb_layout, named_stack_end),
+           offsetof(cb_layout, return_size), offsetof(cb_layout, named_general_registers), offsetof(cb_layout, named_vector_registers),
+           offsetof(cb_layout, named_stack_end),
            offsetof(cb_layout, arguments), offsetof(cb_layout, return_first), offsetof(cb_layout, return_second), offsetof(cb_layout, hidden),
            offsetof(cb_layout, reserved));
 }

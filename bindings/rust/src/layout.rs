@@ -107,6 +107,8 @@ pub struct Layout {
     pub area: usize,
     /// Bytes of all values, packed.
     pub values: usize,
+    /// Bytes of the returned value, in memory too; 0 for void.
+    pub return_size: usize,
     pub arguments: usize,
     pub returned: Returned,
 }
@@ -117,6 +119,7 @@ const NO_LAYOUT: raw::Layout = raw::Layout {
     stack_end: 0,
     area: 0,
     values: 0,
+    return_size: 0,
     named_general_registers: 0,
     named_vector_registers: 0,
     named_stack_end: 0,
@@ -149,6 +152,7 @@ fn layout_from(of: &raw::Layout) -> Layout {
         vector_registers: of.vector_registers,
         area: of.area,
         values: of.values,
+        return_size: of.return_size,
         arguments: of.arguments,
         returned,
     }

@@ -108,6 +108,7 @@ pub struct Layout {
     pub stack_end: usize,
     pub area: usize,
     pub values: usize,
+    pub return_size: usize,
     pub named_general_registers: usize,
     pub named_vector_registers: usize,
     pub named_stack_end: usize,

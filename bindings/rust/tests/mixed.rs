@@ -1,6 +1,6 @@
 //! The example of the README, examples/mixed.kcb, through every call.
 
-use callbridge::{Class, Images, Place, Register, Returned, Station};
+use callbridge::{Basic, Builder, Class, Images, Place, Register, Returned, Station};
 
 const MIXED: &[u8] = include_bytes!("../../../examples/mixed.kcb");
 
@@ -81,6 +81,7 @@ fn places() {
     assert_eq!(callbridge::layout(MIXED), Ok(layout));
     assert_eq!((layout.area, layout.values, layout.arguments), (16, 60, 5));
     assert_eq!(layout.returned, Returned::One(Register::Vector(0)));
+    assert_eq!(layout.return_size, 8);
     let texts: Vec<String> = placements.iter().map(|one| one.place.to_string()).collect();
     assert_eq!(texts, ["rdi", "xmm0 rsi", "stack 0", "xmm1", "rdx rcx"]);
     assert_eq!(placements[2].place, Place::Stack(0));
@@ -105,10 +106,22 @@ fn a_returned_value_comes_back() {
     let level = 0.25f64.to_le_bytes();
     callbridge::put_returned(MIXED, 0, &level, &mut image).unwrap();
     assert_eq!(&image[16..24], level);
-    let mut value = [0; 8];
+    let mut value = vec![0; callbridge::layout(MIXED).unwrap().return_size];
     assert_eq!(callbridge::take_returned(MIXED, &image, &mut value), Ok(0));
     assert_eq!(value, level);
     assert_eq!(callbridge::put_returned(MIXED, 0, &[], &mut image).map_err(number), Err(11));
+}
+
+/// A struct of three doubles comes back in memory, which the caller gives; void has no byte.
+#[test]
+fn the_returned_size_is_known_in_memory_too() {
+    let mut builder = Builder::new();
+    let double = builder.basic(Basic::Double);
+    let three = builder.structure(&[double; 3]);
+    let layout = callbridge::layout(&builder.returns(three).finish().unwrap()).unwrap();
+    assert_eq!((layout.returned, layout.return_size), (Returned::Memory, 24));
+    let layout = callbridge::layout(&Builder::new().finish().unwrap()).unwrap();
+    assert_eq!((layout.returned, layout.return_size), (Returned::Void, 0));
 }
 
 #[test]

@@ -30,7 +30,7 @@ fn structs_are_those_of_the_library() {
         "cb_classes" Classes { first second }
         "cb_part" Part { offset length image reserved }
         "cb_layout" Layout {
-            general_registers vector_registers stack_end area values
+            general_registers vector_registers stack_end area values return_size
             named_general_registers named_vector_registers named_stack_end
             arguments return_first return_second hidden reserved
         }

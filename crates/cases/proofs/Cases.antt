@@ -17,7 +17,7 @@ use Rattle.uses.specs.Uses.{wrongNumber, wrongReturn, wrongUse, narrow, narrowU
 use Rattle.places.specs.Shapes.{kindsOf, shapeOf}
 use Rattle.places.specs.Places.{enough, fits, start, place, next, area}
 use Rattle.places.specs.Returns.{returnOf, hiddenBy}
-use Rattle.layout.specs.Arguments.{shapeAt, shapesFrom, isVoid, returnPlace, hidden, usedAt, areaOf}
+use Rattle.layout.specs.Arguments.{shapeAt, shapesFrom, isVoid, returnPlace, returnedSize, hidden, usedAt, areaOf}
 use Rattle.layout.specs.Verdict.{wideArea, verdict}
 use Rattle.layout.specs.Layout.{valuesOf, layoutOf, layoutAnswer}
 use Rattle.layout.specs.Placements.{placementAt}
@@ -34,5 +34,5 @@ abbrev want : Case → LayoutAnswer × List Placement
 want c = (Laid (c .laid), c .records)
 
 pub cases-hold : map got cases ≡ map want cases
-unfolding cases raise kindAt aAt countAt memberAt argumentAt firstFrom tooShort wrongMark wrongVersion wrongCounts wrongLength brokenBasic brokenArray brokenRun brokenRecord wrongRecord basicSize basicAlign alignTy sizeTy offsetAfter endAfter tysFrom tyBy tyAt large tooLarge same isX87 mergeOf mergeAll upAlone settled cleanUp firstClass secondClass gap oneClass basicAt elementsAt classesAt classesOf wrongNumber wrongReturn wrongUse narrow narrowUnnamed kindsOf shapeOf enough fits start place next area returnOf hiddenBy shapeAt shapesFrom isVoid returnPlace hidden usedAt areaOf wideArea verdict valuesOf layoutOf layoutAnswer placementAt
+unfolding cases raise kindAt aAt countAt memberAt argumentAt firstFrom tooShort wrongMark wrongVersion wrongCounts wrongLength brokenBasic brokenArray brokenRun brokenRecord wrongRecord basicSize basicAlign alignTy sizeTy offsetAfter endAfter tysFrom tyBy tyAt large tooLarge same isX87 mergeOf mergeAll upAlone settled cleanUp firstClass secondClass gap oneClass basicAt elementsAt classesAt classesOf wrongNumber wrongReturn wrongUse narrow narrowUnnamed kindsOf shapeOf enough fits start place next area returnOf hiddenBy shapeAt shapesFrom isVoid returnPlace hidden usedAt areaOf wideArea verdict valuesOf returnedSize layoutOf layoutAnswer placementAt
 cases-hold = refl

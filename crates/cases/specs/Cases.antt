@@ -17,14 +17,22 @@ use Rattle.cases.specs.Written.{array, struct, union, written, plain, ch
 abbrev pub used : ℕ → ℕ → ℕ → Used
 used general vector stack = record { general = record { 0 = general }; vector = record { 0 = vector }; stack = record { 0 = stack } }
 
--- a layout: what is used after all arguments, area, length of the values, return place, hidden address, and where a walk starts
-abbrev pub layout : Used → ℕ → ℕ → ReturnPlace → Bool → Used → Layout
-layout all area values returns hidden named =
-    record { used = all; area = record { 0 = area }; values = record { 0 = values }; returns = returns; hidden = hidden; named = named }
+-- a layout: what is used after all arguments, area, length of the values, return place, size of what is returned, hidden address, and where a walk starts
+abbrev pub layout : Used → ℕ → ℕ → ReturnPlace → ℕ → Bool → Used → Layout
+layout all area values returns size hidden named =
+    record {
+      used = all;
+      area = record { 0 = area };
+      values = record { 0 = values };
+      returns = returns;
+      returned = record { 0 = size };
+      hidden = hidden;
+      named = named;
+    }
 
 -- a plain function that returns void: a walk would start behind all arguments
 abbrev pub plainLayout : Used → ℕ → ℕ → Layout
-plainLayout all area values = layout all area values Void false all
+plainLayout all area values = layout all area values Void 0 false all
 
 -- type, size, alignment, place
 abbrev pub placed : ℕ → ℕ → ℕ → Place → Placement
@@ -43,14 +51,14 @@ cases =
     -- the lister's case: int, struct of double and long, long double, unnamed double and __int128; returns double
     record {
       bytes = written 1 3 1 (int ∷ double ∷ long ∷ struct 0 2 ∷ longDouble ∷ int128 ∷ []) (1 ∷ 2 ∷ []) (0 ∷ 3 ∷ 4 ∷ 1 ∷ 5 ∷ []);
-      laid = layout (used 4 2 16) 16 60 (InOne xmm0) false (used 2 1 16);
+      laid = layout (used 4 2 16) 16 60 (InOne xmm0) 8 false (used 2 1 16);
       records = placed 0 4 4 (One rdi) ∷ placed 3 16 8 (Two xmm0 rsi) ∷ placed 4 16 16 (stack 0) ∷ placed 1 8 8 (One xmm1) ∷ placed 5 16 16 (Two rdx rcx) ∷ [];
     }
     ∷
     -- P1: int, double, then unnamed int, long double, double
     record {
       bytes = written 1 2 255 (int ∷ double ∷ longDouble ∷ []) [] (0 ∷ 1 ∷ 0 ∷ 2 ∷ 1 ∷ []);
-      laid = layout (used 2 2 16) 16 40 Void false (used 1 1 0);
+      laid = layout (used 2 2 16) 16 40 Void 0 false (used 1 1 0);
       records = placed 0 4 4 (One rdi) ∷ placed 1 8 8 (One xmm0) ∷ placed 0 4 4 (One rsi) ∷ placed 2 16 16 (stack 0) ∷ placed 1 8 8 (One xmm1) ∷ [];
     }
     ∷
@@ -120,7 +128,7 @@ cases =
     -- P11: returns a struct of 17 chars, takes an int
     record {
       bytes = written 0 1 3 (char ∷ int ∷ array 0 17 ∷ struct 0 1 ∷ []) (2 ∷ []) (1 ∷ []);
-      laid = layout (used 2 0 0) 0 4 InMemory true (used 2 0 0);
+      laid = layout (used 2 0 0) 0 4 InMemory 17 true (used 2 0 0);
       records = placed 1 4 4 (One rsi) ∷ [];
     }
     ∷

@@ -161,6 +161,7 @@ module _ (l : Whole) (n : ℕ) where
     used = l .used;
     area = l .area;
     values = l .values;
+    returned = l .returned;
     named = l .named;
     arguments = n;
     first = pairOf p .first;
@@ -193,6 +194,7 @@ module _ (l : Whole) (n : ℕ) where
     area = l .area;
     values = l .values;
     returns = return-place-meant (l .returns) (l .hidden) h j;
+    returned = l .returned;
     hidden = hidden-meant (l .hidden) j;
     named = l .named;
   }

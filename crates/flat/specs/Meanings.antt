@@ -43,6 +43,7 @@ layoutMeant l = record {
   area = l .area;
   values = l .values;
   returns = returnPlaceMeant l;
+  returned = l .returned;
   hidden = eqb (l .hidden) 1;
   named = l .named;
 }

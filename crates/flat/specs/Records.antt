@@ -48,6 +48,7 @@ layoutOf l arguments = record {
   used = l .used;
   area = l .area;
   values = l .values;
+  returned = l .returned;
   named = l .named;
   arguments = arguments;
   first = pairOf (l .returns) .first;

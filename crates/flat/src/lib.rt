@@ -53,6 +53,7 @@ pub struct Layout {
     pub used: Used,
     pub area: Bytes,
     pub values: Bytes,
+    pub returned: Bytes,
     pub named: Used,
     pub arguments: usize,
     pub first: u8,

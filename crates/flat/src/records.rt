@@ -151,6 +151,7 @@ pub fn layout_of(whole: layout::Layout, arguments: usize) -> Layout
     let used = whole.used;
     let area = whole.area;
     let values = whole.values;
+    let returned = whole.returned;
     let named = whole.named;
     let returns = whole.returns;
     let pair = pair_of(returns);
@@ -159,6 +160,7 @@ pub fn layout_of(whole: layout::Layout, arguments: usize) -> Layout
         used: used,
         area: area,
         values: values,
+        returned: returned,
         named: named,
         arguments: arguments,
         first: pair.first,

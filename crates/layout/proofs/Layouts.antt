@@ -21,7 +21,7 @@ use Rattle.places.specs.declared.Used.{Used}
 use Rattle.places.specs.Places.{eights, fresh, after, area}
 use Rattle.places.specs.Images.{total}
 use Rattle.places.proofs.Prefix.{total-append}
-use Rattle.layout.specs.Arguments.{shapesFrom, returnPlace, hidden, usedAt, areaOf}
+use Rattle.layout.specs.Arguments.{shapesFrom, returnPlace, returnedSize, hidden, usedAt, areaOf}
 use Rattle.layout.specs.Asks.{Before, AskArguments, IsLaid}
 use Rattle.layout.specs.Verdict.{verdict}
 use Rattle.layout.specs.Layout.{valuesOf, layoutOf, layoutAnswer, refusalIn, tableAfter}
@@ -121,11 +121,11 @@ module _ (d : List ℕ) where
             )
 
   pub layout-is : (r : Layout) → r .used ≡ usedAt d (argumentsIn d) → r .area .0 ≡ raise 16 (r .used .stack .0) → r .values .0 ≡ valuesAt (argumentsIn d)
-      → r .returns ≡ returnPlace d → r .hidden ≡ hidden d → r .named ≡ usedAt d (namedIn d) → r ≡ layoutOf d
+      → r .returns ≡ returnPlace d → r .returned .0 ≡ returnedSize d → r .hidden ≡ hidden d → r .named ≡ usedAt d (namedIn d) → r ≡ layoutOf d
   unfolding layoutOf valuesOf valuesAt areaOf area usedAt
-  layout-is r u a v p q n =
+  layout-is r u a v p s q n =
       let area : r .area .0 ≡ areaOf d = a ∙ ap (λ (x : Used). raise 16 (x .stack .0)) u in
-      λ i. record { used = u i; area = record { 0 = area i }; values = record { 0 = v i }; returns = p i; hidden = q i; named = n i }
+      λ i. record { used = u i; area = record { 0 = area i }; values = record { 0 = v i }; returns = p i; returned = record { 0 = s i }; hidden = q i; named = n i }
 
 -- the answer
 answered : (d : List ℕ) (b : Bool) → eqb (verdict d) 0 ≡ b → layoutAnswer d ≡ cond b (Laid (layoutOf d)) (Refused (refusalFor d (verdict d)))

@@ -13,7 +13,7 @@ use Rattle.classes.specs.declared.Class.the-variants.{NoClass}
 use Rattle.classes.proofs.Pairs.{two}
 use Rattle.classify.specs.Classify.{classesOf}
 use Rattle.uses.specs.Uses.{usesRefusal}
-use Rattle.uses.proofs.Uses.{accepted-return, right-below}
+use Rattle.uses.proofs.Uses.{accepted-types, accepted-return, right-below}
 use Rattle.places.specs.declared.Shape.{Shape as Coded}
 use Rattle.places.specs.declared.Used.{Used}
 use Rattle.places.specs.declared.Placed.{Placed}
@@ -26,10 +26,12 @@ use Rattle.places.specs.Returns.{returnOf, hiddenFor}
 use Rattle.places.proofs.Records.{place-is, shape-known}
 use Rattle.places.proofs.Asking.{asking-known}
 use Rattle.types.specs.Table.{IsEntry}
+use Rattle.types.proofs.Table.{known-extent}
+use Rattle.types.proofs.Large.{accepted-sized}
 use Rattle.types.specs.declared.Extent.{Extent}
 use Rattle.classify.specs.Table.{unpackedOf, Tabled}
 use Rattle.classify.proofs.Lengths.{length-classes}
-use Rattle.layout.specs.Arguments.{shapeAt, isVoid, returnClasses, returnPlace, hidden}
+use Rattle.layout.specs.Arguments.{shapeAt, isVoid, returnClasses, returnPlace, returnedSize, hidden}
 use Rattle.layout.specs.Asks.{AskArgument}
 use Rattle.layout.specs.Placements.{stepAt, turnAt}
 use Rattle.layout.specs.declared.placements.Turn.{Turn}
@@ -48,6 +50,17 @@ module _ (d : List ℕ) where
   -- the classes that the table has for the returned type
   pub return-classes : (table : List ℕ) → Tabled d table → usesRefusal d ≡ 0 → (k : ℕ) → k ≡ returnIn d → (returnIn d ≡ 255 → ⊥) → (cs : List Class) → cs ≡ unpackedOf (getD table k 0 / 262144) → cs ≡ returnClasses d
   return-classes table t right k e n cs is = is ∙ t .classes k (omega (arith, e, return-known right n)) ∙ ap (λ (j : ℕ). classesOf (tyAt d j)) e
+
+  -- the size that the table has for it
+  pub size-void : returnIn d ≡ 255 → 0 ≡ returnedSize d
+  unfolding returnedSize isVoid
+  size-void e = rw (eq-eqb (returnIn d) 255 e)
+
+  pub size-known : (table : List ℕ) → Tabled d table → usesRefusal d ≡ 0 → (k : ℕ) → k ≡ returnIn d → (returnIn d ≡ 255 → ⊥) → (r : Extent) → IsEntry (getD table k 0) r → r .size .0 ≡ returnedSize d
+  unfolding returnedSize isVoid
+  size-known table t right k e n r h =
+      rw (ne-eqb (returnIn d) 255 n)
+      (known-extent d table (t .sizes) (returnIn d) (accepted-sized d (accepted-types d right) (returnIn d) (return-known right n)) r (rw (sym e) h) .size)
 
   module _ (n : returnIn d ≡ 255 → ⊥) (cs : List Class) (is : cs ≡ returnClasses d) where
     both : cs ≡ getD cs 0 NoClass ∷ getD cs 1 NoClass ∷ []

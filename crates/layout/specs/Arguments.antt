@@ -4,6 +4,8 @@ use mathlib.Core.List.{List, [], _∷_}
 use Prim.Native.Nat.{ℕ, zero, suc, _+_}
 use lib.Dec.{eqb}
 use Rattle.description.specs.Description.{argumentsIn, returnIn, argumentAt}
+use Rattle.types.specs.Basic.{lp64}
+use Rattle.types.specs.Size.{sizeTy}
 use Rattle.types.specs.Decode.{tyAt}
 use Rattle.classes.specs.declared.Class.{Class}
 use Rattle.classify.specs.Classify.{classesOf}
@@ -36,6 +38,10 @@ returnClasses d = classesOf (tyAt d (returnIn d))
 
 unfoldable pub returnPlace : List ℕ → ReturnPlace
 returnPlace d = cond (isVoid d) Void (returnOf (returnClasses d))
+
+-- the size of the returned type; void has none
+unfoldable pub returnedSize : List ℕ → ℕ
+returnedSize d = cond (isVoid d) 0 (sizeTy lp64 (tyAt d (returnIn d)))
 
 -- "If the return type's class is MEMORY, a hidden address takes rdi first"
 unfoldable pub hidden : List ℕ → Bool

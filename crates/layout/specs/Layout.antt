@@ -1,4 +1,4 @@
--- What a layout answers: registers used, vector count, area, length of the packed values, return place, walk start.
+-- What a layout answers: registers used, vector count, area, length of the packed values, return place, size of the returned value, walk start.
 -- Assumes nothing: these are definitions.
 use mathlib.Core.Bool.{cond}
 use mathlib.Core.List.{List}
@@ -12,7 +12,7 @@ use Rattle.types.specs.Table.{filled, sizesAfter}
 use Rattle.classify.specs.Table.{fullEntry}
 use Rattle.uses.specs.Uses.{usesRefusal}
 use Rattle.places.specs.Images.{total}
-use Rattle.layout.specs.Arguments.{shapes, returnPlace, hidden, usedAt, areaOf}
+use Rattle.layout.specs.Arguments.{shapes, returnPlace, returnedSize, hidden, usedAt, areaOf}
 use Rattle.layout.specs.Verdict.{verdict}
 use Rattle.layout.specs.declared.Layout.{Layout}
 use Rattle.layout.specs.declared.LayoutAnswer.{LayoutAnswer}
@@ -30,6 +30,7 @@ layoutOf d = record {
   area = record { 0 = areaOf d };
   values = record { 0 = valuesOf d };
   returns = returnPlace d;
+  returned = record { 0 = returnedSize d };
   hidden = hidden d;
   named = usedAt d (namedIn d);
 }

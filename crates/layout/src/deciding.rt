@@ -48,11 +48,13 @@ fn lay(d: &[u8], table: &[u32; 64]) -> Layout
     let values = all.values;
     let area = units::raise_to(Bytes(16), used.stack);
     let returns = placements::return_of(d, table);
+    let returned = placements::returned_size(d, table);
     Layout {
         used: used,
         area: area,
         values: values,
         returns: returns,
+        returned: returned,
         hidden: hidden,
         named: start,
     }

@@ -29,6 +29,8 @@ pub struct Layout {
     // All values, packed.
     pub values: Bytes,
     pub returns: ReturnPlace,
+    // The size of the returned type, 0 for void.
+    pub returned: Bytes,
     // Whether a hidden address is in rdi.
     pub hidden: bool,
     // After the named arguments: where a walk starts.

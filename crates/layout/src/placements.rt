@@ -7,7 +7,7 @@ ghost use mathlib.Core.Path.{_≡_};
 ghost use Prim.Native.Nat.{_-_};
 ghost use Rattle.classify.specs.Table.{Tabled};
 ghost use Rattle.uses.specs.Uses.{usesRefusal};
-ghost use Rattle.layout.specs.Arguments.{shapesFrom, returnPlace, hidden};
+ghost use Rattle.layout.specs.Arguments.{shapesFrom, returnPlace, returnedSize, hidden};
 ghost use Rattle.layout.specs.Placements.{stepAt, turnAt};
 ghost use Rattle.layout.specs.Asks.{AskArgument, AskArguments, IsLaid};
 
@@ -50,6 +50,18 @@ pub fn return_of(d: &[u8], table: &[u32; 64]) -> ReturnPlace
     let first = classes[0];
     let second = classes[1];
     places::return_place(first, second)
+}
+
+// The size of the returned type, by the table. Void has none.
+pub fn returned_size(d: &[u8], table: &[u32; 64]) -> Bytes
+    requires { ⌜ (usesRefusal (now d) ≡ 0) × Tabled (now d) (now table) ⌝ }
+    ensures { λ r. ⌜ r .0 ≡ returnedSize (now (d .entry)) ⌝ }
+{
+    let k = description::byte_at(d, 9);
+    if k == 255 {
+        return Bytes(0);
+    }
+    types::extent_in(table, k).size
 }
 
 // Whether a hidden address is passed for it.

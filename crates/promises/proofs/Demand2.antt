@@ -25,7 +25,7 @@ use Rattle.places.specs.Statements.{RoundedUp}
 use Rattle.places.proofs.Offsets.{rounded-up, area-rounded}
 use Rattle.places.proofs.Returning.{return-cases}
 use Rattle.layout.specs.declared.placements.Placement.{Placement}
-use Rattle.layout.specs.Arguments.{shapeAt, shapes, usedFirst, usedAt, areaOf}
+use Rattle.layout.specs.Arguments.{shapeAt, shapes, returnedSize, usedFirst, usedAt, areaOf}
 use Rattle.layout.specs.Layout.{layoutOf}
 use Rattle.layout.specs.Placements.{placementAt}
 use Rattle.layout.specs.Lists.{listRefusal, listCount}
@@ -124,7 +124,15 @@ unfolding layoutOf
 b5 = record { general = general-count; vector = vector-count; few = few }
 
 b6 : B6-Returns
-b6 = record { hidden-exactly = hidden-is; in-memory = hidden-memory; takes-rdi = λ d. refl; return-places = return-cases }
+unfolding layoutOf returnedSize
+b6 = record {
+  hidden-exactly = hidden-is;
+  in-memory = hidden-memory;
+  takes-rdi = λ d. refl;
+  return-places = return-cases;
+  return-size = λ d e. rw e refl;
+  void-size = λ d e. rw e refl;
+}
 
 -- ---- B7
 

@@ -11,7 +11,7 @@ use Prim.Native.Nat.{ℕ, zero, suc, _+_, _*_, _/_, _%_, _≤_, _<_}
 use lib.Dec.{eqb}
 use lib.ListN.{length, getD, set}
 use Rattle.addresses.specs.Addresses.{run}
-use Rattle.description.specs.Description.{argumentsIn, kindAt, aAt, countAt, argumentAt}
+use Rattle.description.specs.Description.{argumentsIn, returnIn, kindAt, aAt, countAt, argumentAt}
 use Rattle.types.specs.Tree.{Ty, basic, array, Tys, none, more, group}
 use Rattle.types.specs.Basic.{lp64, basicSize, basicAlign}
 use Rattle.types.specs.Size.{alignTy, alignTys, sizeTy, offsetAfter, endAfter, endOf, widest}
@@ -237,6 +237,9 @@ pub record B6-Returns : Type 0 where
   pub takes-rdi : (d : List ℕ) → usedFirst d .general .0 ≡ cond (hidden d) 1 0
   -- "rax, rdx; xmm0, xmm1; xmm0 and its upper half; X87 st0; COMPLEX_X87 st0 and st1"
   pub return-places : map returned returnCases ≡ returnCases
+  -- the size of the returned value is its type's; void has none
+  pub return-size : (d : List ℕ) → isVoid d ≡ false → layoutOf d .returned .0 ≡ sizeTy lp64 (tyAt d (returnIn d))
+  pub void-size : (d : List ℕ) → isVoid d ≡ true → layoutOf d .returned .0 ≡ 0
 
 -- ---- B7: "One placement record for each argument goes into the list the caller lends: type, size, alignment, and either its registers in
 -- eightbyte order or its stack offset. Entries past A stay": the list as it is at exit

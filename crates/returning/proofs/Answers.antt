@@ -21,7 +21,7 @@ use Rattle.layout.proofs.Layouts.{laid-accepted, refused-verdict, refused-nonze
 use Rattle.moving.specs.Orders.{brokenByte}
 use Rattle.returning.specs.Image.{lengthFor, returnImage, returnValue, returnedAddress}
 use Rattle.returning.specs.ImageAsks.{Returnable}
-use Rattle.returning.specs.Returned.{returnedSize, returnLength}
+use Rattle.returning.specs.Returned.{returnLength}
 use Rattle.returning.specs.Orders.{wrongLength, wrongBool, putRefusal, takeRefusal}
 use Rattle.returning.specs.Answers.{putAnswer, imageAfter, takeAnswer, valueAfter}
 use Rattle.returning.specs.Asks.{Lent}
@@ -59,16 +59,16 @@ module _ (d : List ℕ) (l : Layout) (laid : layoutAnswer d ≡ Laid l) where
   unfolding layoutOf
   laid-place = ap (λ (x : Layout). x .returns) (laid-accepted d l laid .1)
 
-  laid-length : (size n : ℕ) → size ≡ returnedSize d → n ≡ lengthFor (l .returns) size → n ≡ returnLength d
-  unfolding returnLength
-  laid-length size n e f = f ∙ ap₂ lengthFor laid-place e
+  laid-length : (n : ℕ) → n ≡ lengthFor (l .returns) (l .returned .0) → n ≡ returnLength d
+  unfolding returnLength layoutOf
+  laid-length n f = f ∙ ap₂ lengthFor laid-place (ap (λ (x : Layout). x .returned .0) (laid-accepted d l laid .1))
 
-  module _ (size n : ℕ) (e : size ≡ returnedSize d) (f : n ≡ lengthFor (l .returns) size) (v i : ℕ) (b : Bool) (w : b ≡ wrongLength n v i) where
+  module _ (n : ℕ) (f : n ≡ lengthFor (l .returns) (l .returned .0)) (v i : ℕ) (b : Bool) (w : b ≡ wrongLength n v i) where
     pub laid-wrong : b ≡ true → wrongLength (returnLength d) v i ≡ true
-    laid-wrong t = ap (λ (m : ℕ). wrongLength m v i) (sym (laid-length size n e f)) ∙ sym w ∙ t
+    laid-wrong t = ap (λ (m : ℕ). wrongLength m v i) (sym (laid-length n f)) ∙ sym w ∙ t
 
     pub laid-lent : b ≡ false → Lent d v i
-    laid-lent t = right-lent d v i laid-right (ap (λ (m : ℕ). wrongLength m v i) (sym (laid-length size n e f)) ∙ sym w ∙ t)
+    laid-lent t = right-lent d v i laid-right (ap (λ (m : ℕ). wrongLength m v i) (sym (laid-length n f)) ∙ sym w ∙ t)
 
   -- what moving the value asks
   pub laid-returnable : (v i : ℕ) → Lent d v i → Returnable (l .returns) v

@@ -3,11 +3,9 @@ use mathlib.Core.Path.{_≡_, refl, sym, ap, _∙_}
 use mathlib.Core.Bool.{Bool, true, false, cond, not, _&&_, false≢true}
 use mathlib.Core.List.{List}
 use Prim.Native.Nat.{ℕ, _<_}
-use native.Mathlib.Omega.{arith}
-use borrow.Author.Tests.{eq-eqb, ne-eqb}
-use lib.ListN.{length, getD}
+use borrow.Author.Tests.{ne-eqb}
+use lib.ListN.{length}
 use Rattle.description.specs.Description.{typesIn, returnIn, Whole}
-use Rattle.form.proofs.Form.{accepted-counts}
 use Rattle.classes.specs.declared.Class.{Class}
 use Rattle.classes.specs.Classes.{same, isX87, mergeOf, mergeAll}
 use Rattle.types.specs.Basic.{lp64, basicSize}
@@ -16,13 +14,9 @@ use Rattle.types.specs.Size.{sizeTy}
 use Rattle.types.specs.Decode.{tyAt}
 use Rattle.types.specs.Large.{typesRefusal}
 use Rattle.types.specs.Asks.{Sized}
-use Rattle.types.specs.Table.{IsEntry}
-use Rattle.types.specs.declared.Extent.{Extent}
-use Rattle.types.proofs.Table.{known-extent}
-use Rattle.types.proofs.Large.{accepted-form, accepted-sized}
+use Rattle.types.proofs.Large.{accepted-sized}
 use Rattle.types.proofs.Laws.{type-filled}
 use Rattle.types.proofs.Trees.{at-basic}
-use Rattle.classify.specs.Table.{Tabled}
 use Rattle.classify.specs.Classify.{firstClass, secondClass, gap, oneClass, basicAt, classesAt, classesOf}
 use Rattle.uses.proofs.Uses.{right-below, accepted-types, accepted-return, accepted-typed}
 use Rattle.places.specs.declared.Register.the-variants.{General}
@@ -31,13 +25,13 @@ use Rattle.places.specs.declared.ReturnPlace.the-variants.{Void, Memory, One, T
 use Rattle.places.specs.Shapes.{kindsOf}
 use Rattle.places.specs.Returns.{returnOf, hiddenFor}
 use Rattle.places.proofs.Returning.{hidden-exactly}
-use Rattle.layout.specs.Arguments.{isVoid, returnClasses, returnPlace, hidden}
+use Rattle.layout.specs.Arguments.{isVoid, returnClasses, returnPlace, returnedSize, hidden}
 use Rattle.layout.specs.Verdict.{verdict}
 use Rattle.layout.proofs.Verdict.{accepted-uses}
 use Rattle.returning.specs.Image.{lengthFor, inMemory}
 use Rattle.returning.specs.ImageAsks.{Returnable}
 use Rattle.returning.proofs.Fitting.{type-suits}
-use Rattle.returning.specs.Returned.{returnedSize, returnLength}
+use Rattle.returning.specs.Returned.{returnLength}
 use Rattle.returning.specs.Statements.{MemoryHidden, ReturnsBool}
 
 -- ---- in memory exactly where a hidden address is passed
@@ -92,25 +86,6 @@ module _ (d : List ℕ) (accepted : verdict d ≡ 0) where
       by : (b : Bool) → isVoid d ≡ b → Returnable (returnPlace d) (lengthFor (returnPlace d) (cond b 0 (sizeTy lp64 (tyAt d (returnIn d)))))
       by true e = unfold returnPlace Returnable in rw e refl
       by false e = unfold returnPlace in rw e (type-suits (tyAt d (returnIn d)) (type-filled d (returnIn d) (returned-sized e)))
-
-  -- ---- the size, by the table
-
-  pub size-void : (k : ℕ) → k ≡ returnIn d → k ≡ 255 → 0 ≡ returnedSize d
-  unfolding returnedSize isVoid
-  size-void k e v = rw (eq-eqb (returnIn d) 255 (sym e ∙ v))
-
-  module _ (k : ℕ) (e : k ≡ returnIn d) (some : k ≡ 255 → ⊥) where
-    not-nothing : isVoid d ≡ false
-    unfolding isVoid
-    not-nothing = ne-eqb (returnIn d) 255 (λ v. some (e ∙ v))
-
-    pub entry-there : k < 64
-    entry-there = omega (arith, e, returned-known not-nothing, accepted-counts d (accepted-form d types) .types)
-
-    pub size-known : (table : List ℕ) → Tabled d table → (r : Extent) → IsEntry (getD table k 0) r → r .size .0 ≡ returnedSize d
-    unfolding returnedSize
-    size-known table tabled r h =
-        rw not-nothing (known-extent d table (tabled .sizes) (returnIn d) (returned-sized not-nothing) r (rw (sym e) h) .size)
 
   -- void has no value
   pub void-short : isVoid d ≡ true → returnLength d ≡ 0

@@ -15,13 +15,12 @@ pub fn put_returned(d: &[u8], hidden: u64, value: &[u8], image: &mut [u8]) -> Pu
     ensures { λ r. ⌜ (r ≡ putAnswer (now (d .entry)) (now (value .entry)) (length (now (image .entry))))
         × (now (image .exit) ≡ imageAfter (now (d .entry)) hidden (now (value .entry)) (now (image .entry))) ⌝ }
 {
-    let mut table = [0u32; 64];
-    let answer = layout::layout_with(d, &mut table);
+    let answer = layout::layout_of(d);
     let LayoutAnswer::Laid(layout) = answer else {
         return PutAnswer::Refused(layout::refusal_in(answer));
     };
     let place = layout.returns;
-    let right = return_image::length_for(place, refusals::returned_size(d, &table));
+    let right = return_image::length_for(place, layout.returned);
     if refusals::wrong_length(right, Bytes(value.len()), Bytes(image.len())) {
         return PutAnswer::Refused(form::refusal_of(11));
     }
@@ -37,13 +36,12 @@ pub fn take_returned(d: &[u8], image: &[u8], value: &mut [u8]) -> TakeAnswer
     ensures { λ r. ⌜ (r ≡ takeAnswer (now (d .entry)) (now (image .entry)) (length (now (value .entry))))
         × (now (value .exit) ≡ valueAfter (now (d .entry)) (now (image .entry)) (now (value .entry))) ⌝ }
 {
-    let mut table = [0u32; 64];
-    let answer = layout::layout_with(d, &mut table);
+    let answer = layout::layout_of(d);
     let LayoutAnswer::Laid(layout) = answer else {
         return TakeAnswer::Refused(layout::refusal_in(answer));
     };
     let place = layout.returns;
-    let right = return_image::length_for(place, refusals::returned_size(d, &table));
+    let right = return_image::length_for(place, layout.returned);
     if refusals::wrong_length(right, Bytes(value.len()), Bytes(image.len())) {
         return TakeAnswer::Refused(form::refusal_of(11));
     }

@@ -6,7 +6,7 @@ use independent::classes::{classes_of, Class};
 use independent::history::random_values;
 use independent::listing::listing;
 use independent::moving::{gathering, placing, REGISTER_IMAGE};
-use independent::places::{self, accepted, Place, Register, ReturnPlace, ReturnRegister};
+use independent::places::{self, accepted, Accepted, Place, Register, ReturnPlace, ReturnRegister};
 use independent::random::Random;
 use independent::refusal::{told, Refusal};
 use independent::returning::{putting, taking, value_length, RETURN_IMAGE};
@@ -128,7 +128,18 @@ fn flat(placement: &places::Placement) -> Placement {
     }
 }
 
-fn flat_layout(bytes: &[u8], layout: &places::Layout) -> Layout {
+/// A value in memory has its type's size too: the caller gives it that room.
+fn return_size(accepted: &Accepted) -> usize {
+    match accepted.layout.return_place {
+        ReturnPlace::Void => 0,
+        ReturnPlace::Memory(number) | ReturnPlace::Registers(number, _) => {
+            accepted.types.measure(number).size.0
+        }
+    }
+}
+
+fn flat_layout(bytes: &[u8], accepted: &Accepted) -> Layout {
+    let layout = &accepted.layout;
     let (named, arguments) = (bytes[7] as usize, bytes[8] as usize);
     let (start, end) = (layout.taken[named], layout.taken[arguments]);
     let returned: Vec<u8> = match &layout.return_place {
@@ -144,6 +155,7 @@ fn flat_layout(bytes: &[u8], layout: &places::Layout) -> Layout {
         stack_end: end.stack.0 as u64,
         area: layout.area.0 as u64,
         values: layout.values_length() as u64,
+        return_size: return_size(accepted) as u64,
         named_general_registers: start.general.0 as u64,
         named_vector_registers: start.vector.0 as u64,
         named_stack_end: start.stack.0 as u64,
@@ -156,14 +168,14 @@ fn flat_layout(bytes: &[u8], layout: &places::Layout) -> Layout {
 }
 
 fn ask_layouts(random: &mut Random, bytes: &[u8], batch: &mut Batch) {
-    let answer = accepted(bytes).map(|accepted| accepted.layout);
-    let layout = answer.as_ref().map(|layout| flat_layout(bytes, layout)).map_err(|&why| why);
+    let answer = accepted(bytes);
+    let layout = answer.as_ref().map(|accepted| flat_layout(bytes, accepted)).map_err(|&why| why);
     batch.command(Code::LayoutOf).told(told(&layout));
     batch.record(Thing::Record, &left(Layout::FILLED, layout));
     end("cb_layout_of", bytes, batch);
 
     let placements: Vec<Placement> =
-        answer.map_or(Vec::new(), |layout| layout.placements.iter().map(flat).collect());
+        answer.map_or(Vec::new(), |accepted| accepted.layout.placements.iter().map(flat).collect());
     let count = layout.map_or(3, |_| placements.len());
     for room in [64, count, count.saturating_sub(1), random.below(70)] {
         let answer = layout.and_then(|layout| match room < count {

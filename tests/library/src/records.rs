@@ -83,6 +83,7 @@ structs! {
         stack_end: u64,
         area: u64,
         values: u64,
+        return_size: u64,
         named_general_registers: u64,
         named_vector_registers: u64,
         named_stack_end: u64,

@@ -33,12 +33,15 @@ raise-to-requires c κs = (omega arith, whole-small (now (c .before .before .bef
 return-of-requires : tie.Need-return-of-requires
 return-of-requires c κs = search needs
 
+returned-size-requires : tie.Need-returned-size-requires
+returned-size-requires c κs = search needs
+
 returns : tie.Need-returns
 returns c =
-    let used = whole-used (now (c .before .before .before .before .before .before .before .before .before .before .before .before .args .d)) _ _ (c .before .before .before .before .before .before .before .before .hidden-of .ensures) (c .before .before .before .before .before .before .before .fresh .ensures) (c .before .before .before .before .before .before .lay-more .result) (c .before .before .before .before .lay-more2 .result) _ _ (c .before .before .before .before .before .before .before .before .before .before .byte-at .ensures .0) (c .before .before .before .before .before .before .before .before .before .byte-at2 .ensures .0) (c .before .before .before .before .before .before .lay-more .ensures) (c .before .before .before .before .before .before .before .before .before .before .before .before .pre .0) (c .before .before .before .before .lay-more2 .ensures) in
-    let values = whole-values (now (c .before .before .before .before .before .before .before .before .before .before .before .before .args .d)) _ _ (c .before .before .before .before .before .before .before .before .hidden-of .ensures) (c .before .before .before .before .before .before .before .fresh .ensures) (c .before .before .before .before .before .before .lay-more .result) (c .before .before .before .before .lay-more2 .result) _ _ (c .before .before .before .before .before .before .before .before .before .before .byte-at .ensures .0) (c .before .before .before .before .before .before .before .before .before .byte-at2 .ensures .0) (c .before .before .before .before .before .before .lay-more .ensures) (c .before .before .before .before .before .before .before .before .before .before .before .before .pre .0) (c .before .before .before .before .lay-more2 .ensures) in
-    let named = start-used (now (c .before .before .before .before .before .before .before .before .before .before .before .before .args .d)) _ _ (c .before .before .before .before .before .before .before .before .hidden-of .ensures) (c .before .before .before .before .before .before .before .fresh .ensures) (c .before .before .before .before .before .before .lay-more .result) (c .before .before .before .before .before .before .lay-more .result) _ _ (c .before .before .before .before .before .before .before .before .before .before .byte-at .ensures .0) (c .before .before .before .before .before .before .before .before .before .byte-at2 .ensures .0) (c .before .before .before .before .before .before .lay-more .ensures) in
-    layout-is (now (c .before .before .before .before .before .before .before .before .before .before .before .before .args .d)) _ used (c .before .raise-to .ensures) values (c .return-of .ensures) (c .before .before .before .before .before .before .before .before .hidden-of .ensures) named
+    let used = whole-used (now (c .before .before .before .before .before .before .before .before .before .before .before .before .before .args .d)) _ _ (c .before .before .before .before .before .before .before .before .before .hidden-of .ensures) (c .before .before .before .before .before .before .before .before .fresh .ensures) (c .before .before .before .before .before .before .before .lay-more .result) (c .before .before .before .before .before .lay-more2 .result) _ _ (c .before .before .before .before .before .before .before .before .before .before .before .byte-at .ensures .0) (c .before .before .before .before .before .before .before .before .before .before .byte-at2 .ensures .0) (c .before .before .before .before .before .before .before .lay-more .ensures) (c .before .before .before .before .before .before .before .before .before .before .before .before .before .pre .0) (c .before .before .before .before .before .lay-more2 .ensures) in
+    let values = whole-values (now (c .before .before .before .before .before .before .before .before .before .before .before .before .before .args .d)) _ _ (c .before .before .before .before .before .before .before .before .before .hidden-of .ensures) (c .before .before .before .before .before .before .before .before .fresh .ensures) (c .before .before .before .before .before .before .before .lay-more .result) (c .before .before .before .before .before .lay-more2 .result) _ _ (c .before .before .before .before .before .before .before .before .before .before .before .byte-at .ensures .0) (c .before .before .before .before .before .before .before .before .before .before .byte-at2 .ensures .0) (c .before .before .before .before .before .before .before .lay-more .ensures) (c .before .before .before .before .before .before .before .before .before .before .before .before .before .pre .0) (c .before .before .before .before .before .lay-more2 .ensures) in
+    let named = start-used (now (c .before .before .before .before .before .before .before .before .before .before .before .before .before .args .d)) _ _ (c .before .before .before .before .before .before .before .before .before .hidden-of .ensures) (c .before .before .before .before .before .before .before .before .fresh .ensures) (c .before .before .before .before .before .before .before .lay-more .result) (c .before .before .before .before .before .before .before .lay-more .result) _ _ (c .before .before .before .before .before .before .before .before .before .before .before .byte-at .ensures .0) (c .before .before .before .before .before .before .before .before .before .before .byte-at2 .ensures .0) (c .before .before .before .before .before .before .before .lay-more .ensures) in
+    layout-is (now (c .before .before .before .before .before .before .before .before .before .before .before .before .before .args .d)) _ used (c .before .before .raise-to .ensures) values (c .before .return-of .ensures) (c .returned-size .ensures) (c .before .before .before .before .before .before .before .before .before .hidden-of .ensures) named
 
 pub lay-spec : {M : Type 1} → statement M
 lay-spec =
@@ -52,4 +55,5 @@ lay-spec =
     lay-more-requires-2
     raise-to-requires
     return-of-requires
+    returned-size-requires
     returns)
