@@ -8,6 +8,8 @@ use native.Mathlib.Omega.{arith}
 use borrow.Author.Tests.{ltb-false, leb-true, leb-false}
 use lib.Dec.{leb, ltb}
 use lib.ListN.{getD}
+use Rattle.description.specs.declared.Model.{Model}
+use Rattle.description.specs.declared.Model.the-variants.{Lp64}
 use Rattle.classes.specs.declared.Class.{Class}
 use Rattle.classes.specs.declared.Class.the-variants.{NoClass, Memory}
 use Rattle.classes.specs.Classes.{same, there, isX87, mergeOf, mergeAll}
@@ -15,7 +17,7 @@ use Rattle.classes.specs.CleanUp.{upAlone, settled, cleanUp}
 use Rattle.classes.specs.Ups.{onStack}
 use Rattle.classes.proofs.Ups.{memory-follows, clean-follows, memory-stack}
 use Rattle.types.specs.Tree.{Ty, basic, array, struct, union}
-use Rattle.types.specs.Basic.{lp64, basicSize}
+use Rattle.types.specs.Basic.{basicSize}
 use Rattle.types.specs.Size.{sizeTy}
 use Rattle.types.specs.Filled.{Filled}
 use Rattle.types.proofs.Sizes.{IsAlign, one, two, four, eight, sixteen, align-is}
@@ -34,11 +36,11 @@ zero-aligned eight = refl
 zero-aligned sixteen = refl
 
 -- at most 16 bytes
-small-covered : (t : Ty) → Filled t → sizeTy lp64 t ≤ 16 → onStack (classesAt 2 t 0) ≡ false → (b : ℕ) → b < sizeTy lp64 t → there (getD (classesAt 2 t 0) (b / 8) NoClass) ≡ true
-small-covered t f l s b h = by (type-covered t 0 f (zero-aligned (align-is lp64 t)) (omega arith))
+small-covered : (model : Model) (t : Ty) → Filled t → sizeTy model t ≤ 16 → onStack (classesAt model 2 t 0) ≡ false → (b : ℕ) → b < sizeTy model t → there (getD (classesAt model 2 t 0) (b / 8) NoClass) ≡ true
+small-covered model t f l s b h = by (type-covered model t 0 f (zero-aligned (align-is model t)) (omega arith))
   where
-    by : Covered (classesAt 2 t 0) 0 (0 + sizeTy lp64 t) → there (getD (classesAt 2 t 0) (b / 8) NoClass) ≡ true
-    by (inl y) = absurd (true≢false (sym (memory-stack (classesAt 2 t 0) y) ∙ s))
+    by : Covered (classesAt model 2 t 0) 0 (0 + sizeTy model t) → there (getD (classesAt model 2 t 0) (b / 8) NoClass) ≡ true
+    by (inl y) = absurd (true≢false (sym (memory-stack (classesAt model 2 t 0) y) ∙ s))
     by (inr g) = g b (omega arith) (omega arith)
 
 -- a basic type needs no clean-up
@@ -49,11 +51,15 @@ basic-clean =
     (refl, (refl, (refl, (refl, (refl, (refl, (refl, (refl, (refl, (refl, (refl, (refl, (refl, (refl, (refl, (refl, tt))))))))))))))))
 
 -- only complex long double has more than 16 bytes, and it goes on the stack
-basic-large : (code : ℕ) → code < 16 → (basicSize lp64 code ≤ 16) ⊎ (onStack (basicAt 2 code 0) ≡ true)
+pointer-small : (model : Model) → (basicSize model 15 ≤ 16) ⊎ (onStack (basicAt 2 15 0) ≡ true)
+unfolding basicSize
+pointer-small Lp64 = inl (omega arith)
+
+basic-large : (model : Model) (code : ℕ) → code < 16 → (basicSize model code ≤ 16) ⊎ (onStack (basicAt 2 code 0) ≡ true)
 unfolding basicSize same isX87 mergeOf mergeAll oneClass gap firstClass secondClass basicAt
-basic-large =
-    each-code (λ code. (basicSize lp64 code ≤ 16) ⊎ (onStack (basicAt 2 code 0) ≡ true))
-    (inl (omega arith), (inl (omega arith), (inl (omega arith), (inl (omega arith), (inl (omega arith), (inl (omega arith), (inl (omega arith), (inl (omega arith), (inl (omega arith), (inl (omega arith), (inl (omega arith), (inl (omega arith), (inl (omega arith), (inl (omega arith), (inr refl, (inl (omega arith), tt))))))))))))))))
+basic-large model =
+    each-code (λ code. (basicSize model code ≤ 16) ⊎ (onStack (basicAt 2 code 0) ≡ true))
+    (inl (omega arith), (inl (omega arith), (inl (omega arith), (inl (omega arith), (inl (omega arith), (inl (omega arith), (inl (omega arith), (inl (omega arith), (inl (omega arith), (inl (omega arith), (inl (omega arith), (inl (omega arith), (inl (omega arith), (inl (omega arith), (inr refl, (pointer-small model, tt))))))))))))))))
 
 large-shaped : (size : ℕ) → 1 ≤ size → ClassesCover (Memory ∷ NoClass ∷ []) size
 unfolding same
@@ -64,25 +70,25 @@ large-shaped size l = record { covered = λ s. absurd (true≢false s); ends = b
     behind (suc zero) i = refl
     behind (suc (suc e)) i = refl
 
-small-ends : (t : Ty) → Filled t → Ends (classesAt 2 t 0) (sizeTy lp64 t)
-small-ends t f = λ e i. type-ends t 0 f e (omega arith)
+small-ends : (model : Model) (t : Ty) → Filled t → Ends (classesAt model 2 t 0) (sizeTy model t)
+small-ends model t f = λ e i. type-ends model t 0 f e (omega arith)
 
 -- an aggregate: over 16 bytes MEMORY, else cleaned up
-module _ (t : Ty) (f : Filled t) (cs : List Class) (is : classesAt 2 t 0 ≡ cleanUp cs) where
-  aggregate : (b : Bool) → ltb 16 (sizeTy lp64 t) ≡ b → ClassesCover (cond b (Memory ∷ NoClass ∷ []) (classesAt 2 t 0)) (sizeTy lp64 t)
-  aggregate true e = large-shaped (sizeTy lp64 t) (size-low lp64 t f)
-  aggregate false e = record { covered = λ s b h. small-covered t f (ltb-false 16 (sizeTy lp64 t) e) s b h; ends = small-ends t f; ups = rw is (clean-follows cs) }
+module _ (model : Model) (t : Ty) (f : Filled t) (cs : List Class) (is : classesAt model 2 t 0 ≡ cleanUp cs) where
+  aggregate : (b : Bool) → ltb 16 (sizeTy model t) ≡ b → ClassesCover (cond b (Memory ∷ NoClass ∷ []) (classesAt model 2 t 0)) (sizeTy model t)
+  aggregate true e = large-shaped (sizeTy model t) (size-low model t f)
+  aggregate false e = record { covered = λ s b h. small-covered model t f (ltb-false 16 (sizeTy model t) e) s b h; ends = small-ends model t f; ups = rw is (clean-follows cs) }
 
-pub type-shaped : (t : Ty) → Filled t → ClassesCover (classesOf t) (sizeTy lp64 t)
+pub type-shaped : (model : Model) (t : Ty) → Filled t → ClassesCover (classesOf model t) (sizeTy model t)
 unfolding classesOf classesAt Filled sizeTy
-type-shaped (basic code) f = record { covered = by (basic-large code f); ends = small-ends (basic code) f; ups = rw (← basic-clean code f) (clean-follows (basicAt 2 code 0)) }
+type-shaped model (basic code) f = record { covered = by (basic-large model code f); ends = small-ends model (basic code) f; ups = rw (← basic-clean code f) (clean-follows (basicAt 2 code 0)) }
   where
-    by : (basicSize lp64 code ≤ 16) ⊎ (onStack (basicAt 2 code 0) ≡ true) → onStack (basicAt 2 code 0) ≡ false → (b : ℕ) → b < basicSize lp64 code → there (getD (basicAt 2 code 0) (b / 8) NoClass) ≡ true
-    by (inl l) s b h = small-covered (basic code) f l s b h
+    by : (basicSize model code ≤ 16) ⊎ (onStack (basicAt 2 code 0) ≡ true) → onStack (basicAt 2 code 0) ≡ false → (b : ℕ) → b < basicSize model code → there (getD (basicAt 2 code 0) (b / 8) NoClass) ≡ true
+    by (inl l) s b h = small-covered model (basic code) f l s b h
     by (inr y) s b h = absurd (true≢false (sym y ∙ s))
-type-shaped (array t n) f = aggregate (array t n) f _ refl (ltb 16 (sizeTy lp64 (array t n))) refl
-type-shaped (struct ts) f = aggregate (struct ts) f _ refl (ltb 16 (sizeTy lp64 (struct ts))) refl
-type-shaped (union ts) f = aggregate (union ts) f _ refl (ltb 16 (sizeTy lp64 (union ts))) refl
+type-shaped model (array t n) f = aggregate model (array t n) f _ refl (ltb 16 (sizeTy model (array t n))) refl
+type-shaped model (struct ts) f = aggregate model (struct ts) f _ refl (ltb 16 (sizeTy model (struct ts))) refl
+type-shaped model (union ts) f = aggregate model (union ts) f _ refl (ltb 16 (sizeTy model (union ts))) refl
 
 -- a value that goes in registers: its second class is NO_CLASS exactly where it has at most 8 bytes
 pub second-none : (cs : List Class) (size : ℕ) → ClassesCover cs size → onStack cs ≡ false → (getD cs 1 NoClass ≡ NoClass) ↔ (size ≤ 8)

@@ -6,6 +6,7 @@ use units::Bytes;
 ghost use mathlib.Core.Path.{_≡_};
 ghost use mathlib.Core.Bool.{cond};
 ghost use Prim.Native.Nat.{_+_, _^_, _≤_, max, _<_};
+ghost use Rattle.description.specs.Description.{modelIn};
 ghost use Rattle.classes.specs.Classes.{noClasses};
 ghost use Rattle.types.specs.Decode.{tyAt, tysFrom};
 ghost use Rattle.classify.specs.Classify.{elementsAt, classesAt, membersAt};
@@ -38,7 +39,7 @@ fn look_up(
     done: usize,
 ) -> usize
     requires { ⌜ AskType (now d) k (at .0) × Ready (now d) (now table) (now finished) done ⌝ }
-    ensures { λ r. ⌜ (0 < r → unpackedOf r ≡ classesAt 2 (tyAt (now (d .entry)) k) (at .0)) ⌝ }
+    ensures { λ r. ⌜ (0 < r → unpackedOf r ≡ classesAt (modelIn (now (d .entry))) 2 (tyAt (now (d .entry)) k) (at .0)) ⌝ }
 {
     if done <= k {
         return 0;
@@ -74,7 +75,7 @@ fn classify_type(
     done: usize,
 ) -> [Class; 2]
     requires { ⌜ AskType (now d) k (at .0) × Ready (now d) (now table) (now finished) done ⌝ }
-    ensures { λ r. ⌜ r ≡ classesAt 2 (tyAt (now (d .entry)) k) (at .0) ⌝ }
+    ensures { λ r. ⌜ r ≡ classesAt (modelIn (now (d .entry))) 2 (tyAt (now (d .entry)) k) (at .0) ⌝ }
 {
     let packed = look_up(d, k, at, table, finished, done);
     if 0 < packed {
@@ -93,7 +94,7 @@ pub fn work_out(
     done: usize,
 ) -> [Class; 2]
     requires { ⌜ AskType (now d) k (at .0) × Ready (now d) (now table) (now finished) done ⌝ }
-    ensures { λ r. ⌜ r ≡ classesAt 2 (tyAt (now (d .entry)) k) (at .0) ⌝ }
+    ensures { λ r. ⌜ r ≡ classesAt (modelIn (now (d .entry))) 2 (tyAt (now (d .entry)) k) (at .0) ⌝ }
 {
     let kind = description::kind_at(d, k);
     let a = description::a_at(d, k);
@@ -122,7 +123,7 @@ fn classify_elements(
     done: usize,
 ) -> [Class; 2]
     requires { ⌜ AskElements (now d) k count (size .0) (at .0) × Ready (now d) (now table) (now finished) done ⌝ }
-    ensures { λ r. ⌜ r ≡ elementsAt (classesAt 2 (tyAt (now (d .entry)) k)) (size .0) count (at .0) (noClasses 2) ⌝ }
+    ensures { λ r. ⌜ r ≡ elementsAt (classesAt (modelIn (now (d .entry))) 2 (tyAt (now (d .entry)) k)) (size .0) count (at .0) (noClasses 2) ⌝ }
 {
     let mut merged = [Class::NoClass, Class::NoClass];
     let mut offset = at;
@@ -151,7 +152,7 @@ fn classify_members(
     done: usize,
 ) -> [Class; 2]
     requires { ⌜ AskMembers (now d) k first count union 0 (at .0) × Ready (now d) (now table) (now finished) done ⌝ }
-    ensures { λ r. ⌜ r ≡ membersAt 2 (tysFrom (tyAt (now (d .entry))) (now (d .entry)) first count) union 0 (at .0) (noClasses 2) ⌝ }
+    ensures { λ r. ⌜ r ≡ membersAt (modelIn (now (d .entry))) 2 (tysFrom (tyAt (now (d .entry))) (now (d .entry)) first count) union 0 (at .0) (noClasses 2) ⌝ }
 {
     let mark = mark_for(union);
     let mut merged = [Class::NoClass, Class::NoClass];

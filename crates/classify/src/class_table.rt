@@ -6,7 +6,7 @@ use classes::Class;
 use units::Bytes;
 ghost use mathlib.Core.Path.{_≡_};
 ghost use Prim.Native.Nat.{_<_};
-ghost use Rattle.description.specs.Description.{typesIn, kindAt};
+ghost use Rattle.description.specs.Description.{typesIn, kindAt, modelIn};
 ghost use Rattle.types.specs.Asks.{Sized};
 ghost use Rattle.types.specs.Decode.{tyAt};
 ghost use Rattle.types.specs.Large.{typesRefusal};
@@ -18,7 +18,7 @@ ghost use Rattle.classify.specs.Table.{wordOf, Right, Ready, fullEntry, 
 // The classes of type k and what they ask for, in one number, of an aggregate: "Over 16 bytes: MEMORY".
 fn aggregate_word(d: &[u8], k: usize, table: &[u32; 64], finished: &[u8; 512]) -> u32
     requires { ⌜ AskType (now d) k 0 × (kindAt (now d) k ≡ 0 → ⊥) × Ready (now d) (now table) (now finished) k ⌝ }
-    ensures { λ r. ⌜ r ≡ wordOf (classesOf (tyAt (now (d .entry)) k)) ⌝ }
+    ensures { λ r. ⌜ r ≡ wordOf (classesOf (modelIn (now (d .entry))) (tyAt (now (d .entry)) k)) ⌝ }
 {
     let extent = types::extent_in(table, k);
     if units::over(extent.size, Bytes(16)) {
@@ -31,7 +31,7 @@ fn aggregate_word(d: &[u8], k: usize, table: &[u32; 64], finished: &[u8; 512]) -
 // The same of any type.
 fn word_at(d: &[u8], k: usize, table: &[u32; 64], finished: &[u8; 512]) -> u32
     requires { ⌜ AskType (now d) k 0 × Ready (now d) (now table) (now finished) k ⌝ }
-    ensures { λ r. ⌜ r ≡ wordOf (classesOf (tyAt (now (d .entry)) k)) ⌝ }
+    ensures { λ r. ⌜ r ≡ wordOf (classesOf (modelIn (now (d .entry))) (tyAt (now (d .entry)) k)) ⌝ }
 {
     let kind = description::kind_at(d, k);
     if kind != 0 {
@@ -52,7 +52,7 @@ fn finish_at(d: &[u8], k: usize, at: usize, table: &[u32; 64], finished: &mut [u
 
 // The finished answers for type k: at each offset at which it lies in both eightbytes; a basic type needs none.
 fn finish(d: &[u8], k: usize, table: &[u32; 64], finished: &mut [u8; 512])
-    requires { ⌜ Sized (now d) k × Ready (now d) (now table) (now finished) k ⌝ }
+    requires { ⌜ Sized (modelIn (now d)) (now d) k × Ready (now d) (now table) (now finished) k ⌝ }
     ensures { λ _. ⌜ Right (now (d .entry)) (now (finished .exit)) ⌝ }
 {
     if description::kind_at(d, k) == 0 {
@@ -77,7 +77,7 @@ fn finish(d: &[u8], k: usize, table: &[u32; 64], finished: &mut [u8; 512])
 
 // Works out the classes of each type, from number 0 upward, and puts them into the table.
 pub fn fill_classes(d: &[u8], table: &mut [u32; 64])
-    requires { ⌜ (typesRefusal (now d) ≡ 0) × Sizes (now d) (typesIn (now d)) (now table) ⌝ }
+    requires { ⌜ (typesRefusal (now d) ≡ 0) × Sizes (modelIn (now d)) (now d) (typesIn (now d)) (now table) ⌝ }
     ensures { λ _. ⌜ (now (table .exit) ≡ filled (fullEntry (now (d .entry))) (typesIn (now (d .entry))) (now (table .entry)))
         × Tabled (now (d .entry)) (now (table .exit)) ⌝ }
 {

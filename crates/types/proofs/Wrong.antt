@@ -4,6 +4,7 @@ use mathlib.Core.Bool.{false}
 use mathlib.Core.List.{List, [], _∷_, _++_}
 use Prim.Native.Nat.{ℕ}
 use lib.Dec.{eqb}
+use Rattle.description.specs.Description.{modelIn}
 use Rattle.form.specs.Order.{Rule, rule, first, Without, formOrder, formRefusal}
 use Rattle.form.specs.Reading.{refusalOf}
 use Rattle.form.proofs.Order.{none-till}
@@ -18,9 +19,9 @@ pub judged : (d : List ℕ) (later : List Rule) (n : ℕ) → Without 6 later �
 unfolding formRefusal
 judged d later n other e =
     record {
-      whole = λ six. six-whole d (rule 7 (tooLarge d) ∷ later) ((λ z. omega arith), other) (sym e ∙ six);
-      known = λ six. six-known d (rule 7 (tooLarge d) ∷ later) ((λ z. omega arith), other) (sym e ∙ six);
-      formed = λ seven. none-till (formOrder d) (rule 7 (tooLarge d) ∷ later) 7 no-seven (sym e ∙ seven);
+      whole = λ six. six-whole d (rule 7 (tooLarge (modelIn d) d) ∷ later) ((λ z. omega arith), other) (sym e ∙ six);
+      known = λ six. six-known d (rule 7 (tooLarge (modelIn d) d) ∷ later) ((λ z. omega arith), other) (sym e ∙ six);
+      formed = λ seven. none-till (formOrder d) (rule 7 (tooLarge (modelIn d) d) ∷ later) 7 no-seven (sym e ∙ seven);
     }
   where
     no-seven : Without 7 (formOrder d)

@@ -4,8 +4,10 @@ use crate::table_entries;
 use units::Bytes;
 ghost use mathlib.Core.Path.{_≡_};
 ghost use Prim.Native.Nat.{_<_, _≤_, _^_};
+ghost use Rattle.description.specs.Description.{modelIn};
+ghost use Rattle.description.specs.declared.Model.the-variants.{Lp64};
 ghost use Rattle.types.specs.Size.{offsetAfter, endAfter};
-ghost use Rattle.types.specs.Basic.{lp64, basicSize, basicAlign};
+ghost use Rattle.types.specs.Basic.{basicSize, basicAlign};
 ghost use Rattle.types.specs.Decode.{tyAt, tysFrom};
 ghost use Rattle.types.specs.Asks.{Sized, SizedRun, IsExtent, IsRun};
 ghost use Rattle.types.specs.Table.{Sizes};
@@ -45,7 +47,7 @@ fn number(byte: u8) -> usize
 // Size and alignment of a basic type, from the table.
 fn basic_extent(code: usize) -> Extent
     requires { ⌜ code < 16 ⌝ }
-    ensures { λ r. ⌜ (r .size .0 ≡ basicSize lp64 code) × (r .align .0 ≡ basicAlign lp64 code) ⌝ }
+    ensures { λ r. ⌜ (r .size .0 ≡ basicSize Lp64 code) × (r .align .0 ≡ basicAlign Lp64 code) ⌝ }
 {
     Extent {
         size: Bytes(number(SIZES[code])),
@@ -62,8 +64,8 @@ fn members_extent(
     union: bool,
     table: &[u32; 64],
 ) -> Extent
-    requires { ⌜ SizedRun (now d) k first count 0 1 × Sizes (now d) k (now table) ⌝ }
-    ensures { λ r. ⌜ IsRun (tysFrom (tyAt (now (d .entry))) (now (d .entry)) first count) union 0 1 r ⌝ }
+    requires { ⌜ SizedRun (modelIn (now d)) (now d) k first count 0 1 × Sizes (modelIn (now d)) (now d) k (now table) ⌝ }
+    ensures { λ r. ⌜ IsRun (modelIn (now (d .entry))) (tysFrom (tyAt (now (d .entry))) (now (d .entry)) first count) union 0 1 r ⌝ }
 {
     let mut end = Bytes(0);
     let mut align = Bytes(1);
@@ -85,8 +87,8 @@ fn members_extent(
 
 // Size and alignment of type k, by the table of the types below it.
 pub fn extent_of(d: &[u8], k: usize, table: &[u32; 64]) -> Extent
-    requires { ⌜ Sized (now d) k × Sizes (now d) k (now table) ⌝ }
-    ensures { λ r. ⌜ IsExtent (tyAt (now (d .entry)) k) r ⌝ }
+    requires { ⌜ Sized (modelIn (now d)) (now d) k × Sizes (modelIn (now d)) (now d) k (now table) ⌝ }
+    ensures { λ r. ⌜ IsExtent (modelIn (now (d .entry))) (tyAt (now (d .entry)) k) r ⌝ }
 {
     let kind = description::kind_at(d, k);
     let a = description::a_at(d, k);

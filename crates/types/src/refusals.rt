@@ -7,16 +7,16 @@ ghost use mathlib.Core.Path.{_≡_};
 ghost use Rattle.form.specs.Order.{formRefusal};
 ghost use Rattle.types.specs.Large.{firstLarge, typesRefusal};
 ghost use Rattle.types.specs.Table.{entryAt, filled, Sizes, sizesAfter};
-ghost use Rattle.description.specs.Description.{typesIn};
+ghost use Rattle.description.specs.Description.{typesIn, modelIn};
 ghost use Rattle.types.specs.Wrong.{refusalFor, Judged};
 
 // Works the table out from number 0 upward, up to the first type of more than 4,096 bytes; the answer is that type, or the
 // number of types. Each size that a later type is made of is at most 4,096, so that no sum and no product overflows.
 fn fill_sizes(d: &[u8], table: &mut [u32; 64]) -> usize
     requires { ⌜ formRefusal (now d) ≡ 0 ⌝ }
-    ensures { λ r. ⌜ (r ≡ firstLarge (now (d .entry)))
-        × (now (table .exit) ≡ filled (entryAt (now (d .entry))) (firstLarge (now (d .entry))) (now (table .entry)))
-        × Sizes (now (d .entry)) (firstLarge (now (d .entry))) (now (table .exit)) ⌝ }
+    ensures { λ r. ⌜ (r ≡ firstLarge (modelIn (now (d .entry))) (now (d .entry)))
+        × (now (table .exit) ≡ filled (entryAt (modelIn (now (d .entry))) (now (d .entry))) (firstLarge (modelIn (now (d .entry))) (now (d .entry))) (now (table .entry)))
+        × Sizes (modelIn (now (d .entry))) (now (d .entry)) (firstLarge (modelIn (now (d .entry))) (now (d .entry))) (now (table .exit)) ⌝ }
 {
     table_entries::entries(table);
     let types = description::byte_at(d, 5);
@@ -38,7 +38,7 @@ fn fill_sizes(d: &[u8], table: &mut [u32; 64]) -> usize
 pub fn types_refusal_with(d: &[u8], table: &mut [u32; 64]) -> u8
     ensures { λ r. ⌜ (r ≡ typesRefusal (now (d .entry)))
         × (now (table .exit) ≡ sizesAfter (now (d .entry)) (now (table .entry)))
-        × (typesRefusal (now (d .entry)) ≡ 0 → Sizes (now (d .entry)) (typesIn (now (d .entry))) (now (table .exit))) ⌝ }
+        × (typesRefusal (now (d .entry)) ≡ 0 → Sizes (modelIn (now (d .entry))) (now (d .entry)) (typesIn (now (d .entry))) (now (table .exit))) ⌝ }
 {
     let number = form::form_refusal(d);
     if number != 0 {

@@ -7,6 +7,7 @@ use Prim.Native.Nat.{ℕ, _+_, _*_, _<_}
 use native.Mathlib.Omega.{arith}
 use lib.Dec.{eqb}
 use denote.Ref.{now}
+use Rattle.description.specs.Description.{modelIn}
 use Rattle.classes.specs.declared.Class.{Class}
 use Rattle.classes.specs.Classes.{noClasses}
 use Rattle.classify.specs.Asks.{AskElements, AskMembers}
@@ -112,13 +113,13 @@ abbrev work-out-below : ℕ → In 3 work-out-kinds.ps
 work-out-below t = and 3 work-out-kinds.ps (falls 3 work-out-kinds.ps _<_ μ-work-out t) work-out.Pre
 
 abbrev classify-elements-Inv-loop : classify-elements-lts.InvT-loop
-classify-elements-Inv-loop d k count size table finished done merged₀ offset₀ left₀ merged offset left = AskElements d k left (size .0) (offset .0) × ((r : List Class) → r ≡ elementsAt (classesAt 2 (tyAt d k)) (size .0) left (offset .0) merged → r ≡ elementsAt (classesAt 2 (tyAt d k)) (size .0) count (offset₀ .0) (noClasses 2))
+classify-elements-Inv-loop d k count size table finished done merged₀ offset₀ left₀ merged offset left = AskElements d k left (size .0) (offset .0) × ((r : List Class) → r ≡ elementsAt (classesAt (modelIn d) 2 (tyAt d k)) (size .0) left (offset .0) merged → r ≡ elementsAt (classesAt (modelIn d) 2 (tyAt d k)) (size .0) count (offset₀ .0) (noClasses 2))
 
 abbrev classify-elements-μ-loop : classify-elements-lts.MeasureT-loop
 classify-elements-μ-loop d k count size table finished done merged₀ offset₀ left₀ merged offset left = left
 
 abbrev classify-members-Inv-loop : classify-members-lts.InvT-loop
-classify-members-Inv-loop d k first count union at table finished done mark merged₀ seen₀ end₀ i₀ left₀ merged seen end i left = AskMembers d k i left union (end .0) (at .0) × ((r : List Class) → r ≡ membersAt 2 (tysFrom (tyAt d) d i left) union (end .0) (at .0) merged → r ≡ membersAt 2 (tysFrom (tyAt d) d first count) union 0 (at .0) (noClasses 2)) × Marked d seen union (at .0) merged
+classify-members-Inv-loop d k first count union at table finished done mark merged₀ seen₀ end₀ i₀ left₀ merged seen end i left = AskMembers d k i left union (end .0) (at .0) × ((r : List Class) → r ≡ membersAt (modelIn d) 2 (tysFrom (tyAt d) d i left) union (end .0) (at .0) merged → r ≡ membersAt (modelIn d) 2 (tysFrom (tyAt d) d first count) union 0 (at .0) (noClasses 2)) × Marked d seen union (at .0) merged
 
 abbrev classify-members-μ-loop : classify-members-lts.MeasureT-loop
 classify-members-μ-loop d k first count union at table finished done mark merged₀ seen₀ end₀ i₀ left₀ merged seen end i left = left
@@ -151,10 +152,10 @@ pub +classify-elements+classify-members+classify-type+work-out-spec : {M : Type 
     omega (arith, c .before .before .before .loop-test .taken))
     (λ c. (
       elements-ask (now (c .before .before .before .before .before .before .args .d)) (c .before .before .before .before .before .before .args .k) (c .before .before .before .before .loop .left) (c .before .before .before .before .before .before .args .size .0) (c .before .before .before .before .loop .offset .0) (c .before .before .before .before .loop .inv .0) (c .before .before .before .loop-test .taken) (c .plus .result .0) (c .plus .ensures),
-      λ r h. c .before .before .before .before .loop .inv .1 r (elements-done (classesAt 2 (tyAt (now (c .before .before .before .before .before .before .args .d)) (c .before .before .before .before .before .before .args .k))) (c .before .before .before .before .before .before .args .size .0) (c .before .before .before .before .loop .left) (c .before .before .before .before .loop .offset .0) (c .plus .result .0) (c .before .before .before .before .loop .merged) (c .before .before .classify-type .result) (c .before .merge-both .result) r (c .before .before .before .loop-test .taken) (c .before .before .classify-type .ensures) (c .before .merge-both .ensures) (c .plus .ensures) h),
+      λ r h. c .before .before .before .before .loop .inv .1 r (elements-done (classesAt (modelIn (now (c .before .before .before .before .before .before .args .d))) 2 (tyAt (now (c .before .before .before .before .before .before .args .d)) (c .before .before .before .before .before .before .args .k))) (c .before .before .before .before .before .before .args .size .0) (c .before .before .before .before .loop .left) (c .before .before .before .before .loop .offset .0) (c .plus .result .0) (c .before .before .before .before .loop .merged) (c .before .before .classify-type .result) (c .before .merge-both .result) r (c .before .before .before .loop-test .taken) (c .before .before .classify-type .ensures) (c .before .merge-both .ensures) (c .plus .ensures) h),
     ))
     (λ c.
-    c .before .loop .inv .1 (c .before .loop .merged) (elements-none (classesAt 2 (tyAt (now (c .before .before .before .args .d)) (c .before .before .before .args .k))) (c .before .before .before .args .size .0) (c .before .loop .left) (c .before .loop .offset .0) (c .before .loop .merged) (omega (arith, c .loop-test .left)))))
+    c .before .loop .inv .1 (c .before .loop .merged) (elements-none (classesAt (modelIn (now (c .before .before .before .args .d))) 2 (tyAt (now (c .before .before .before .args .d)) (c .before .before .before .args .k))) (c .before .before .before .args .size .0) (c .before .loop .left) (c .before .loop .offset .0) (c .before .loop .merged) (omega (arith, c .loop-test .left)))))
     (λ t. classify-members-lts.spec (
       mark-for-reads.Asked,
       mark-for-reads.Learnt,

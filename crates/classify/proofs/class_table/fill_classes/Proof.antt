@@ -8,7 +8,7 @@ use lib.ListN.{length}
 use denote.Ref.{now}
 use Rattle.classify.specs.Table.{Right, fullEntry}
 use Rattle.classify.proofs.Table.{right-none, word-small, full-is, full-more, sizes-kept, classes-kept, tabled}
-use Rattle.description.specs.Description.{typesIn}
+use Rattle.description.specs.Description.{typesIn, modelIn}
 use Rattle.form.proofs.Form.{accepted-headed}
 use Rattle.types.specs.Basic.{sizes}
 use Rattle.types.specs.Table.{filled, Sizes}
@@ -72,7 +72,7 @@ loop-again : tie.Need-loop-again Inv-loop μ-loop
 loop-again c =
     let full : length (now (c .before .before .before .before .before .before .before .before .before .before .before .before .before .before .args .table)) ≡ 64 = sym (c .before .before .before .before .before .before .before .before .before .before .before .entries .ensures .1) ∙ c .before .before .before .before .before .before .before .before .before .before .before .entries .ensures .0 in
     let low : c .before .before .before .before .before .before .before .before .before .loop .k < typesIn (now (c .before .before .before .before .before .before .before .before .before .before .before .before .before .before .args .d)) = omega (arith, c .before .before .before .before .before .before .before .before .loop-test .taken, c .before .before .before .before .before .before .before .before .before .loop .inv .3) in
-    let sizes : Sizes (now (c .before .before .before .before .before .before .before .before .before .before .before .before .before .before .args .d)) (typesIn (now (c .before .before .before .before .before .before .before .before .before .before .before .before .before .before .args .d))) (c .before .before .before .before .before .before .before .before .before .loop .table) = rw (c .before .before .before .before .before .before .before .before .before .loop .inv .1) (sizes-kept (now (c .before .before .before .before .before .before .before .before .before .before .before .before .before .before .args .d)) (now (c .before .before .before .before .before .before .before .before .before .before .before .before .before .before .args .table)) (c .before .before .before .before .before .before .before .before .before .before .before .before .before .before .pre .1) full (c .before .before .before .before .before .before .before .before .before .loop .k) (omega (arith, low))) in
+    let sizes : Sizes (modelIn (now (c .before .before .before .before .before .before .before .before .before .before .before .before .before .before .args .d))) (now (c .before .before .before .before .before .before .before .before .before .before .before .before .before .before .args .d)) (typesIn (now (c .before .before .before .before .before .before .before .before .before .before .before .before .before .before .args .d))) (c .before .before .before .before .before .before .before .before .before .loop .table) = rw (c .before .before .before .before .before .before .before .before .before .loop .inv .1) (sizes-kept (now (c .before .before .before .before .before .before .before .before .before .before .before .before .before .before .args .d)) (now (c .before .before .before .before .before .before .before .before .before .before .before .before .before .before .args .table)) (c .before .before .before .before .before .before .before .before .before .before .before .before .before .before .pre .1) full (c .before .before .before .before .before .before .before .before .before .loop .k) (omega (arith, low))) in
     (c .before .before .before .before .before .finish .ensures, full-more (now (c .before .before .before .before .before .before .before .before .before .before .before .before .before .before .args .d)) (now (c .before .before .before .before .before .before .before .before .before .before .before .before .before .before .args .table)) (c .before .before .before .before .before .before .before .before .before .loop .table) (c .before .before .before .before .before .before .before .before .before .loop .k) (c .with-word .result) (c .before .before .before .before .before .before .before .before .before .loop .inv .1) (full-is (now (c .before .before .before .before .before .before .before .before .before .before .before .before .before .before .args .d)) (c .before .before .before .before .before .before .before .before .before .loop .table) sizes (c .before .before .before .before .before .before .before .before .before .loop .k) low (c .before .before .word-at .result) (c .before .before .word-at .ensures) (c .with-word .result) (c .with-word .ensures)), omega (arith, c .before .before .before .before .before .before .before .before .loop-test .taken), c .before .before .before .before .before .before .before .before .before .loop .inv .3)
 
 returns : tie.Need-returns Inv-loop μ-loop

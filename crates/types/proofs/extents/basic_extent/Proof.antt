@@ -2,7 +2,8 @@
 -- Assumes nothing.
 use mathlib.Core.Path.{_∙_}
 use borrow.Author.Needs.{needs}
-use Rattle.types.specs.Basic.{lp64, sizes, aligns, basicSize, basicAlign}
+use Rattle.description.specs.declared.Model.the-variants.{Lp64}
+use Rattle.types.specs.Basic.{sizes, aligns, basicSize, basicAlign}
 use Rattle.types.proofs.Sizes.{default}
 use Rattle.types.proofs.extents.basic_extent.Statement.{statement}
 use Rattle.types.proofs.extents.basic_extent.Tie as tie
@@ -21,7 +22,7 @@ number-requires-2 c κs = search needs
 
 returns : tie.Need-returns
 unfolding basicSize basicAlign
-returns c = (c .before .number .ensures ∙ default (sizes lp64) (c .before .before .args .code) 0 1 (search needs), c .number2 .ensures ∙ default (aligns lp64) (c .before .before .args .code) 0 1 (search needs))
+returns c = (c .before .number .ensures ∙ default (sizes Lp64) (c .before .before .args .code) 0 1 (search needs), c .number2 .ensures ∙ default (aligns Lp64) (c .before .before .args .code) 0 1 (search needs))
 
 pub basic-extent-spec : {M : Type 1} → statement M
 basic-extent-spec =

@@ -1,5 +1,6 @@
 -- `members_extent` meets its contract. The invariant: what answers for the members that are left answers for all of them.
 -- Assumes nothing.
+use Rattle.description.specs.Description.{modelIn}
 use Rattle.types.specs.declared.Extent.{Extent}
 use native.Mathlib.Omega.{arith}
 use borrow.Author.Needs.{needs}
@@ -13,7 +14,7 @@ use Rattle.types.proofs.extents.members_extent.Statement.{statement}
 use Rattle.types.proofs.extents.members_extent.Tie as tie
 
 abbrev Inv-loop : tie.InvT-loop
-Inv-loop d k first count union table end₀ align₀ at₀ left₀ end align at left = SizedRun d k at left (end .0) (align .0) × ((r : Extent) → IsRun (tysFrom (tyAt d) d at left) union (end .0) (align .0) r → IsRun (tysFrom (tyAt d) d first count) union 0 1 r)
+Inv-loop d k first count union table end₀ align₀ at₀ left₀ end align at left = SizedRun (modelIn d) d k at left (end .0) (align .0) × ((r : Extent) → IsRun (modelIn d) (tysFrom (tyAt d) d at left) union (end .0) (align .0) r → IsRun (modelIn d) (tysFrom (tyAt d) d first count) union 0 1 r)
 
 abbrev μ-loop : tie.MeasureT-loop
 μ-loop d k first count union table end₀ align₀ at₀ left₀ end align at left = left

@@ -8,7 +8,6 @@ use borrow.Author.Needs.{needs}
 use borrow.Author.Tests.{ltb-false}
 use lib.ListN.{length}
 use denote.Ref.{now}
-use Rattle.types.specs.Basic.{lp64}
 use Rattle.types.specs.Decode.{tyAt}
 use Rattle.types.specs.Large.{large, firstLarge}
 use Rattle.types.specs.Size.{sizeTy}
@@ -16,7 +15,7 @@ use Rattle.types.specs.Table.{entryAt, filled}
 use Rattle.types.proofs.Large.{small-more, sized-next}
 use Rattle.types.proofs.Sizes.{align-high}
 use Rattle.types.proofs.Table.{filled-none, sizes-filled, extent-entry, filled-more}
-use Rattle.description.specs.Description.{typesIn}
+use Rattle.description.specs.Description.{typesIn, modelIn}
 use Rattle.form.specs.Search.{firstFrom}
 use Rattle.form.proofs.Form.{accepted-headed, accepted-counts}
 use Rattle.form.proofs.Search.{search-stop, search-on, search-end}
@@ -24,7 +23,7 @@ use Rattle.types.proofs.refusals.fill_sizes.Statement.{statement}
 use Rattle.types.proofs.refusals.fill_sizes.Tie as tie
 
 abbrev Inv-loop : tie.InvT-loop
-Inv-loop d table₀ types k₀ table k = (firstFrom (large d) k (types - k) ≡ firstLarge d) × (k ≤ types) × (types ≡ typesIn d) × ((j : ℕ) → j < k → sizeTy lp64 (tyAt d j) ≤ 4096) × (table ≡ filled (entryAt d) k table₀)
+Inv-loop d table₀ types k₀ table k = (firstFrom (large (modelIn d) d) k (types - k) ≡ firstLarge (modelIn d) d) × (k ≤ types) × (types ≡ typesIn d) × ((j : ℕ) → j < k → sizeTy (modelIn d) (tyAt d j) ≤ 4096) × (table ≡ filled (entryAt (modelIn d) d) k table₀)
 
 abbrev μ-loop : tie.MeasureT-loop
 μ-loop d table₀ types k₀ table k = types - k
@@ -36,7 +35,7 @@ byte-at-requires : tie.Need-byte-at-requires Inv-loop μ-loop
 byte-at-requires c κs = omega (arith, accepted-headed (now (c .before .before .before .args .d)) (c .before .before .before .pre))
 
 loop-holds : tie.Need-loop-holds Inv-loop μ-loop
-loop-holds c = (ap (firstFrom (large (now (c .before .before .before .before .args .d))) 0) (omega (arith, c .byte-at .ensures .0)), omega arith, c .byte-at .ensures .0, λ j h. absurd (omega arith), filled-none (entryAt (now (c .before .before .before .before .args .d))) (now (c .before .before .before .before .args .table)))
+loop-holds c = (ap (firstFrom (large (modelIn (now (c .before .before .before .before .args .d))) (now (c .before .before .before .before .args .d))) 0) (omega (arith, c .byte-at .ensures .0)), omega arith, c .byte-at .ensures .0, λ j h. absurd (omega arith), filled-none (entryAt (modelIn (now (c .before .before .before .before .args .d))) (now (c .before .before .before .before .args .d))) (now (c .before .before .before .before .args .table)))
 
 extent-of-requires : tie.Need-extent-of-requires Inv-loop μ-loop
 extent-of-requires c κs =
@@ -54,11 +53,11 @@ unfolding large
 returns c =
     let few = accepted-counts (now (c .before .before .before .before .before .before .before .before .before .before .args .d)) (c .before .before .before .before .before .before .before .before .before .before .pre) .types in
     let full : length (now (c .before .before .before .before .before .before .before .before .before .before .args .table)) ≡ 64 = sym (c .before .before .before .before .before .before .before .entries .ensures .1) ∙ c .before .before .before .before .before .before .before .entries .ensures .0 in
-    let found : c .before .before .before .before .before .loop .k ≡ firstLarge (now (c .before .before .before .before .before .before .before .before .before .before .args .d)) = sym (sym (c .before .before .before .before .before .loop .inv .0) ∙ search-stop (large (now (c .before .before .before .before .before .before .before .before .before .before .args .d))) (c .before .before .before .before .before .loop .k) _ (c .before .before .before .before .loop-test .taken) (rw (← c .before .before .extent-of .ensures .size) (sym (c .before .over .ensures) ∙ c .if1 .taken))) in
+    let found : c .before .before .before .before .before .loop .k ≡ firstLarge (modelIn (now (c .before .before .before .before .before .before .before .before .before .before .args .d))) (now (c .before .before .before .before .before .before .before .before .before .before .args .d)) = sym (sym (c .before .before .before .before .before .loop .inv .0) ∙ search-stop (large (modelIn (now (c .before .before .before .before .before .before .before .before .before .before .args .d))) (now (c .before .before .before .before .before .before .before .before .before .before .args .d))) (c .before .before .before .before .before .loop .k) _ (c .before .before .before .before .loop-test .taken) (rw (← c .before .before .extent-of .ensures .size) (sym (c .before .over .ensures) ∙ c .if1 .taken))) in
     (found, rw (← found) (c .before .before .before .before .before .loop .inv .4), rw (← found, c .before .before .before .before .before .loop .inv .4) (sizes-filled (now (c .before .before .before .before .before .before .before .before .before .before .args .d)) (now (c .before .before .before .before .before .before .before .before .before .before .args .table)) (c .before .before .before .before .before .loop .k) full (omega (arith, few, c .before .before .before .before .loop-test .taken, c .before .before .before .before .before .loop .inv .2)) (c .before .before .before .before .before .loop .inv .3)))
 
 entry-of-requires : tie.Need-entry-of-requires Inv-loop μ-loop
-entry-of-requires c κs = (ltb-false 4096 _ (sym (c .before .over .ensures) ∙ c .if1 .left), omega (arith, c .before .before .extent-of .ensures .align, align-high lp64 (tyAt (now (c .before .before .before .before .before .before .before .before .before .before .args .d)) (c .before .before .before .before .before .loop .k))))
+entry-of-requires c κs = (ltb-false 4096 _ (sym (c .before .over .ensures) ∙ c .if1 .left), omega (arith, c .before .before .extent-of .ensures .align, align-high (modelIn (now (c .before .before .before .before .before .before .before .before .before .before .args .d))) (tyAt (now (c .before .before .before .before .before .before .before .before .before .before .args .d)) (c .before .before .before .before .before .loop .k))))
 
 mul-table : tie.Need-mul-table Inv-loop μ-loop
 mul-table c = search needs
@@ -75,19 +74,19 @@ loop-less c = search needs
 loop-again : tie.Need-loop-again Inv-loop μ-loop
 unfolding large
 loop-again c =
-    let small : large (now (c .before .before .before .before .before .before .before .before .before .before .before .args .d)) (c .before .before .before .before .before .before .loop .k) ≡ false = rw (← c .before .before .before .extent-of .ensures .size) (sym (c .before .before .over .ensures) ∙ c .before .if1 .left) in (
-      search-on (large (now (c .before .before .before .before .before .before .before .before .before .before .before .args .d))) (c .before .before .before .before .before .before .loop .k) _ (c .before .before .before .before .before .loop-test .taken) small ∙ c .before .before .before .before .before .before .loop .inv .0,
+    let small : large (modelIn (now (c .before .before .before .before .before .before .before .before .before .before .before .args .d))) (now (c .before .before .before .before .before .before .before .before .before .before .before .args .d)) (c .before .before .before .before .before .before .loop .k) ≡ false = rw (← c .before .before .before .extent-of .ensures .size) (sym (c .before .before .over .ensures) ∙ c .before .if1 .left) in (
+      search-on (large (modelIn (now (c .before .before .before .before .before .before .before .before .before .before .before .args .d))) (now (c .before .before .before .before .before .before .before .before .before .before .before .args .d))) (c .before .before .before .before .before .before .loop .k) _ (c .before .before .before .before .before .loop-test .taken) small ∙ c .before .before .before .before .before .before .loop .inv .0,
       omega (arith, c .before .before .before .before .before .loop-test .taken),
       c .before .before .before .before .before .before .loop .inv .2,
-      small-more (now (c .before .before .before .before .before .before .before .before .before .before .before .args .d)) (c .before .before .before .before .before .before .loop .k) (c .before .before .before .before .before .before .loop .inv .3) small,
-      filled-more (now (c .before .before .before .before .before .before .before .before .before .before .before .args .d)) (now (c .before .before .before .before .before .before .before .before .before .before .before .args .table)) (c .before .before .before .before .before .before .loop .table) (c .before .before .before .before .before .before .loop .k) (c .entry-of .result) (c .before .before .before .before .before .before .loop .inv .4) (c .entry-of .ensures ∙ extent-entry (now (c .before .before .before .before .before .before .before .before .before .before .before .args .d)) (c .before .before .before .before .before .before .loop .k) (c .before .before .before .extent-of .result) (c .before .before .before .extent-of .ensures)),
+      small-more (modelIn (now (c .before .before .before .before .before .before .before .before .before .before .before .args .d))) (now (c .before .before .before .before .before .before .before .before .before .before .before .args .d)) (c .before .before .before .before .before .before .loop .k) (c .before .before .before .before .before .before .loop .inv .3) small,
+      filled-more (modelIn (now (c .before .before .before .before .before .before .before .before .before .before .before .args .d))) (now (c .before .before .before .before .before .before .before .before .before .before .before .args .d)) (now (c .before .before .before .before .before .before .before .before .before .before .before .args .table)) (c .before .before .before .before .before .before .loop .table) (c .before .before .before .before .before .before .loop .k) (c .entry-of .result) (c .before .before .before .before .before .before .loop .inv .4) (c .entry-of .ensures ∙ extent-entry (now (c .before .before .before .before .before .before .before .before .before .before .before .args .d)) (c .before .before .before .before .before .before .loop .k) (c .before .before .before .extent-of .result) (c .before .before .before .extent-of .ensures)),
     )
 
 returns-2 : tie.Need-returns-2 Inv-loop μ-loop
 returns-2 c =
     let few = accepted-counts (now (c .before .before .before .before .before .before .args .d)) (c .before .before .before .before .before .before .pre) .types in
     let full : length (now (c .before .before .before .before .before .before .args .table)) ≡ 64 = sym (c .before .before .before .entries .ensures .1) ∙ c .before .before .before .entries .ensures .0 in
-    let found : c .before .loop .k ≡ firstLarge (now (c .before .before .before .before .before .before .args .d)) = sym (sym (c .before .loop .inv .0) ∙ search-end (large (now (c .before .before .before .before .before .before .args .d))) (c .before .loop .k) _ (c .loop-test .left)) in
+    let found : c .before .loop .k ≡ firstLarge (modelIn (now (c .before .before .before .before .before .before .args .d))) (now (c .before .before .before .before .before .before .args .d)) = sym (sym (c .before .loop .inv .0) ∙ search-end (large (modelIn (now (c .before .before .before .before .before .before .args .d))) (now (c .before .before .before .before .before .before .args .d))) (c .before .loop .k) _ (c .loop-test .left)) in
     (found, rw (← found) (c .before .loop .inv .4), rw (← found, c .before .loop .inv .4) (sizes-filled (now (c .before .before .before .before .before .before .args .d)) (now (c .before .before .before .before .before .before .args .table)) (c .before .loop .k) full (omega (arith, few, c .before .loop .inv .1, c .before .loop .inv .2)) (c .before .loop .inv .3)))
 
 pub fill-sizes-spec : {M : Type 1} → statement M

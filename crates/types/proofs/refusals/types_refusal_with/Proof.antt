@@ -8,7 +8,7 @@ use denote.Ref.{now}
 use Rattle.types.specs.Large.{large, firstLarge, tooLarge}
 use Rattle.types.proofs.Large.{types-form, types-seven, types-right, accepted-form}
 use Rattle.types.proofs.Table.{sizes-refused, sizes-worked}
-use Rattle.description.specs.Description.{typesIn}
+use Rattle.description.specs.Description.{typesIn, modelIn}
 use Rattle.form.specs.Order.{formRefusal}
 use Rattle.form.proofs.Form.{accepted-headed}
 use Rattle.form.proofs.Search.{first-bound}
@@ -33,15 +33,15 @@ returns-2 : tie.Need-returns-2
 unfolding tooLarge
 returns-2 c =
     let form : formRefusal (now (c .before .before .before .before .before .before .before .args .d)) ≡ 0 = sym (c .before .before .before .before .before .form-refusal .ensures) ∙ c .before .before .before .before .if1 .left in
-    let seven = types-seven (now (c .before .before .before .before .before .before .before .args .d)) form (lt-ltb (firstLarge (now (c .before .before .before .before .before .before .before .args .d))) (typesIn (now (c .before .before .before .before .before .before .before .args .d))) (omega (arith, c .before .fill-sizes .ensures .0, c .before .before .before .byte-at .ensures .0, c .if2 .taken))) in
+    let seven = types-seven (now (c .before .before .before .before .before .before .before .args .d)) form (lt-ltb (firstLarge (modelIn (now (c .before .before .before .before .before .before .before .args .d))) (now (c .before .before .before .before .before .before .before .args .d))) (typesIn (now (c .before .before .before .before .before .before .before .args .d))) (omega (arith, c .before .fill-sizes .ensures .0, c .before .before .before .byte-at .ensures .0, c .if2 .taken))) in
     (sym seven, c .before .fill-sizes .ensures .1 ∙ sizes-worked (now (c .before .before .before .before .before .before .before .args .d)) (now (c .before .before .before .before .before .before .before .args .table)) form, λ e. absurd (omega (arith, seven, e)))
 
 returns-3 : tie.Need-returns-3
 unfolding tooLarge
 returns-3 c =
     let form : formRefusal (now (c .before .before .before .before .before .before .before .args .d)) ≡ 0 = sym (c .before .before .before .before .before .form-refusal .ensures) ∙ c .before .before .before .before .if1 .left in
-    let all : firstLarge (now (c .before .before .before .before .before .before .before .args .d)) ≡ typesIn (now (c .before .before .before .before .before .before .before .args .d)) = omega (arith, first-bound (large (now (c .before .before .before .before .before .before .before .args .d))) 0 (typesIn (now (c .before .before .before .before .before .before .before .args .d))), c .before .fill-sizes .ensures .0, c .before .before .before .byte-at .ensures .0, c .if2 .left) in
-    (sym (types-right (now (c .before .before .before .before .before .before .before .args .d)) form (le-ltb (firstLarge (now (c .before .before .before .before .before .before .before .args .d))) (typesIn (now (c .before .before .before .before .before .before .before .args .d))) (omega (arith, all)))), c .before .fill-sizes .ensures .1 ∙ sizes-worked (now (c .before .before .before .before .before .before .before .args .d)) (now (c .before .before .before .before .before .before .before .args .table)) form, λ e. rw (← all) (c .before .fill-sizes .ensures .2))
+    let all : firstLarge (modelIn (now (c .before .before .before .before .before .before .before .args .d))) (now (c .before .before .before .before .before .before .before .args .d)) ≡ typesIn (now (c .before .before .before .before .before .before .before .args .d)) = omega (arith, first-bound (large (modelIn (now (c .before .before .before .before .before .before .before .args .d))) (now (c .before .before .before .before .before .before .before .args .d))) 0 (typesIn (now (c .before .before .before .before .before .before .before .args .d))), c .before .fill-sizes .ensures .0, c .before .before .before .byte-at .ensures .0, c .if2 .left) in
+    (sym (types-right (now (c .before .before .before .before .before .before .before .args .d)) form (le-ltb (firstLarge (modelIn (now (c .before .before .before .before .before .before .before .args .d))) (now (c .before .before .before .before .before .before .before .args .d))) (typesIn (now (c .before .before .before .before .before .before .before .args .d))) (omega (arith, all)))), c .before .fill-sizes .ensures .1 ∙ sizes-worked (now (c .before .before .before .before .before .before .before .args .d)) (now (c .before .before .before .before .before .before .before .args .table)) form, λ e. rw (← all) (c .before .fill-sizes .ensures .2))
 
 pub types-refusal-with-spec : {M : Type 1} → statement M
 types-refusal-with-spec =
