@@ -6,7 +6,7 @@ use mathlib.Core.List.{List, _++_}
 use Prim.Native.Nat.{ℕ, _+_, _<_}
 use lib.Dec.{ltb}
 use lib.ListN.{length, getD}
-use Rattle.description.specs.Description.{argumentsIn, kindAt, aAt, countAt, memberStart}
+use Rattle.description.specs.Description.{argumentsIn, kindAt, aAt, countAt, memberStart, modelIn}
 use Rattle.form.specs.declared.Refusal.{Refusal}
 use Rattle.form.specs.Reading.{refusalOf}
 use Rattle.types.specs.Wrong.{refusalFor}
@@ -59,12 +59,12 @@ pub record Tells {A : Type 0} (o : Outcome A) (d : List ℕ) (n : ℕ) (new : A)
 
 -- cb_type_extent, cb_type_classes, cb_member_run
 abbrev pub ExtentTold : Type 0
-ExtentTold = (d : List ℕ) (t : ℕ) → Tells (extentGiven (extentAnswer d t)) d (questionRefusal d t) (extentOf (tyAt d t))
+ExtentTold = (d : List ℕ) (t : ℕ) → Tells (extentGiven (extentAnswer d t)) d (questionRefusal d t) (extentOf (modelIn d) (tyAt d t))
 
 abbrev pub ClassesTold : Type 0
 ClassesTold = (d : List ℕ) (t : ℕ)
     → Tells (classesGiven (classesAnswer d t)) d (questionRefusal d t)
-    (record { first = codeOf (getD (classesOf (tyAt d t)) 0 NoClass); second = codeOf (getD (classesOf (tyAt d t)) 1 NoClass) })
+    (record { first = codeOf (getD (classesOf (modelIn d) (tyAt d t)) 0 NoClass); second = codeOf (getD (classesOf (modelIn d) (tyAt d t)) 1 NoClass) })
 
 -- "or as the empty part for .. another kind"
 unfoldable pub runOf : List ℕ → ℕ → Part

@@ -4,6 +4,7 @@ use mathlib.Core.Bool.{Bool, true, false, cond, true≢false, false≢true}
 use mathlib.Core.List.{List, [], _∷_}
 use mathlib.Core.Logic.{_⊎_, inl, inr, _↔_}
 use Prim.Native.Nat.{ℕ, zero, suc, _+_, _*_, _/_, _%_, _≤_, _<_}
+use native.Mathlib.Nat.{zero-mod}
 use native.Mathlib.Omega.{arith}
 use borrow.Author.Tests.{ltb-false, leb-true, leb-false}
 use lib.Dec.{leb, ltb}
@@ -18,9 +19,8 @@ use Rattle.classes.specs.Ups.{onStack}
 use Rattle.classes.proofs.Ups.{memory-follows, clean-follows, memory-stack}
 use Rattle.types.specs.Tree.{Ty, basic, array, struct, union}
 use Rattle.types.specs.Basic.{basicSize}
-use Rattle.types.specs.Size.{sizeTy}
+use Rattle.types.specs.Size.{sizeTy, alignTy}
 use Rattle.types.specs.Filled.{Filled}
-use Rattle.types.proofs.Sizes.{IsAlign, one, two, four, eight, sixteen, align-is}
 use Rattle.types.proofs.Codes.{each-code}
 use Rattle.types.proofs.Laws.{size-low}
 use Rattle.classify.specs.Classify.{firstClass, secondClass, gap, oneClass, basicAt, classesAt, isAggregate, classesOf}
@@ -28,16 +28,9 @@ use Rattle.classify.specs.Coverage.{Covered, Ends, ClassesCover}
 use Rattle.classify.proofs.Covered.{type-covered}
 use Rattle.classify.proofs.Ends.{type-ends}
 
-zero-aligned : {a : ℕ} → IsAlign a → 0 % a ≡ 0
-zero-aligned one = refl
-zero-aligned two = refl
-zero-aligned four = refl
-zero-aligned eight = refl
-zero-aligned sixteen = refl
-
 -- at most 16 bytes
 small-covered : (model : Model) (t : Ty) → Filled t → sizeTy model t ≤ 16 → onStack (classesAt model 2 t 0) ≡ false → (b : ℕ) → b < sizeTy model t → there (getD (classesAt model 2 t 0) (b / 8) NoClass) ≡ true
-small-covered model t f l s b h = by (type-covered model t 0 f (zero-aligned (align-is model t)) (omega arith))
+small-covered model t f l s b h = by (type-covered model t 0 f (zero-mod (alignTy model t)) (omega arith))
   where
     by : Covered (classesAt model 2 t 0) 0 (0 + sizeTy model t) → there (getD (classesAt model 2 t 0) (b / 8) NoClass) ≡ true
     by (inl y) = absurd (true≢false (sym (memory-stack (classesAt model 2 t 0) y) ∙ s))

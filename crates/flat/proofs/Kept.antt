@@ -8,7 +8,7 @@ use borrow.Author.Tests.{ne-eqb}
 use lib.Dec.{eqb}
 use lib.ListN.{length, getD, length-append}
 use Rattle.units.specs.declared.Bytes.{Bytes}
-use Rattle.description.specs.Description.{returnIn}
+use Rattle.description.specs.Description.{returnIn, modelIn}
 use Rattle.types.specs.Decode.{tyAt}
 use Rattle.classes.specs.declared.Class.{Class}
 use Rattle.classes.specs.declared.Class.the-variants.{NoClass, Integer, Sse, SseUp, X87, X87Up, ComplexX87, Memory}
@@ -148,7 +148,7 @@ described-sound d = by (isVoid d)
   where
     by : (b : Bool) → Sound (cond b Void (returnOf (returnClasses d))) (not b && hiddenFor (returnClasses d))
     by true = refl
-    by false = return-sound (returnClasses d) (length-classes (tyAt d (returnIn d)))
+    by false = return-sound (returnClasses d) (length-classes (modelIn d) (tyAt d (returnIn d)))
 
 hidden-meant : (b : Bool) → eqb (cond b 1 0) 1 ≡ b
 hidden-meant true = refl

@@ -3,9 +3,8 @@ use mathlib.Core.Path.{_≡_, refl, ap, ap₂, _∙_}
 use mathlib.Core.List.{List, _++_}
 use Prim.Native.Nat.{ℕ, zero, suc, _+_, _≤_, _<_}
 use native.Mathlib.Omega.{arith}
-use Rattle.description.specs.Description.{argumentsIn, IsBytes}
+use Rattle.description.specs.Description.{argumentsIn, IsBytes, modelIn}
 use Rattle.form.proofs.Form.{accepted-length}
-use Rattle.types.specs.Basic.{lp64}
 use Rattle.types.specs.Decode.{tyAt}
 use Rattle.types.proofs.Large.{accepted-form, accepted-small, accepted-sized}
 use Rattle.types.proofs.Laws.{size-low, align-divides, type-filled}
@@ -51,9 +50,9 @@ accepted-bounded d bytes v =
     let all = asks-at d right (argumentsIn d) (argumentsIn d) (omega arith) (omega arith) in
     record {
       short = accepted-length d (accepted-form d types) bytes;
-      filled = λ k l. size-low lp64 (tyAt d k) (type-filled d k (accepted-sized d types k l));
+      filled = λ k l. size-low (modelIn d) (tyAt d k) (type-filled d k (accepted-sized d types k l));
       small = λ k l. accepted-small d types k l;
-      whole = λ k l. align-divides lp64 (tyAt d k);
+      whole = λ k l. align-divides (modelIn d) (tyAt d k);
       aligned = λ i l. argument-shaped d right i l .aligned;
       general = all .before .general;
       vector = all .before .vector;

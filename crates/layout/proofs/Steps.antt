@@ -6,7 +6,7 @@ use Prim.Native.Nat.{ℕ, _/_, _<_}
 use native.Mathlib.Omega.{arith}
 use borrow.Author.Tests.{eq-eqb, ne-eqb}
 use lib.ListN.{length, getD}
-use Rattle.description.specs.Description.{typesIn, returnIn, argumentAt}
+use Rattle.description.specs.Description.{typesIn, returnIn, argumentAt, modelIn}
 use Rattle.types.specs.Decode.{tyAt}
 use Rattle.classes.specs.declared.Class.{Class}
 use Rattle.classes.specs.declared.Class.the-variants.{NoClass}
@@ -49,7 +49,7 @@ module _ (d : List ℕ) where
 
   -- the classes that the table has for the returned type
   pub return-classes : (table : List ℕ) → Tabled d table → usesRefusal d ≡ 0 → (k : ℕ) → k ≡ returnIn d → (returnIn d ≡ 255 → ⊥) → (cs : List Class) → cs ≡ unpackedOf (getD table k 0 / 262144) → cs ≡ returnClasses d
-  return-classes table t right k e n cs is = is ∙ t .classes k (omega (arith, e, return-known right n)) ∙ ap (λ (j : ℕ). classesOf (tyAt d j)) e
+  return-classes table t right k e n cs is = is ∙ t .classes k (omega (arith, e, return-known right n)) ∙ ap (λ (j : ℕ). classesOf (modelIn d) (tyAt d j)) e
 
   -- the size that the table has for it
   pub size-void : returnIn d ≡ 255 → 0 ≡ returnedSize d
@@ -64,7 +64,7 @@ module _ (d : List ℕ) where
 
   module _ (n : returnIn d ≡ 255 → ⊥) (cs : List Class) (is : cs ≡ returnClasses d) where
     both : cs ≡ getD cs 0 NoClass ∷ getD cs 1 NoClass ∷ []
-    both = two NoClass cs (ap length is ∙ length-classes (tyAt d (returnIn d)))
+    both = two NoClass cs (ap length is ∙ length-classes (modelIn d) (tyAt d (returnIn d)))
 
     pub return-some : (p : ReturnPlace) → p ≡ returnOf (getD cs 0 NoClass ∷ getD cs 1 NoClass ∷ []) → p ≡ returnPlace d
     unfolding returnPlace isVoid
@@ -75,9 +75,9 @@ module _ (d : List ℕ) where
     hidden-some b e = rw (ne-eqb (returnIn d) 255 n) (e ∙ ap hiddenFor (sym both ∙ is))
 
 -- one argument
-pub shape-of-argument : (d : List ℕ) (i k : ℕ) (s : Coded) → k ≡ argumentAt d i → asked s ≡ shapeOf (tyAt d k) → asked s ≡ shapeAt d i
+pub shape-of-argument : (d : List ℕ) (i k : ℕ) (s : Coded) → k ≡ argumentAt d i → asked s ≡ shapeOf (modelIn d) (tyAt d k) → asked s ≡ shapeAt d i
 unfolding shapeAt
-shape-of-argument d i k s e f = f ∙ ap (λ (j : ℕ). shapeOf (tyAt d j)) e
+shape-of-argument d i k s e f = f ∙ ap (λ (j : ℕ). shapeOf (modelIn d) (tyAt d j)) e
 
 pub step-is : (d : List ℕ) (u : Used) (i k : ℕ) (s : Coded) (p : Placed) → k ≡ argumentAt d i → asked s ≡ shapeAt d i
     → IsPlaced (place eights u (asked s)) (next eights u (asked s)) p
@@ -97,7 +97,7 @@ module _ (d t : List ℕ) (w : Tabled d t) (u : Used) (i : ℕ) (a : AskArgument
 
   entry-shape : shapeIn (getD t k 0) ≡ shapeAt d i
   unfolding shapeAt
-  entry-shape = shape-known d t w k known ∙ ap (λ (j : ℕ). shapeOf (tyAt d j)) e
+  entry-shape = shape-known d t w k known ∙ ap (λ (j : ℕ). shapeOf (modelIn d) (tyAt d j)) e
 
   pub turn-low : k < 64
   turn-low = omega (arith, known, types-few d (a .right))

@@ -3,8 +3,7 @@ use mathlib.Core.Bool.{Bool, cond, not, _&&_}
 use mathlib.Core.List.{List, [], _∷_}
 use Prim.Native.Nat.{ℕ, zero, suc, _+_}
 use lib.Dec.{eqb}
-use Rattle.description.specs.Description.{argumentsIn, returnIn, argumentAt}
-use Rattle.types.specs.Basic.{lp64}
+use Rattle.description.specs.Description.{argumentsIn, returnIn, argumentAt, modelIn}
 use Rattle.types.specs.Size.{sizeTy}
 use Rattle.types.specs.Decode.{tyAt}
 use Rattle.classes.specs.declared.Class.{Class}
@@ -18,7 +17,7 @@ use Rattle.places.specs.Returns.{returnOf, hiddenFor}
 
 -- what places argument i
 unfoldable pub shapeAt : List ℕ → ℕ → Shape
-shapeAt d i = shapeOf (tyAt d (argumentAt d i))
+shapeAt d i = shapeOf (modelIn d) (tyAt d (argumentAt d i))
 
 -- the same of n arguments from the i-th on
 unfoldable pub shapesFrom : List ℕ → ℕ → ℕ → List Shape
@@ -34,14 +33,14 @@ unfoldable pub isVoid : List ℕ → Bool
 isVoid d = eqb (returnIn d) 255
 
 abbrev pub returnClasses : List ℕ → List Class
-returnClasses d = classesOf (tyAt d (returnIn d))
+returnClasses d = classesOf (modelIn d) (tyAt d (returnIn d))
 
 unfoldable pub returnPlace : List ℕ → ReturnPlace
 returnPlace d = cond (isVoid d) Void (returnOf (returnClasses d))
 
 -- the size of the returned type; void has none
 unfoldable pub returnedSize : List ℕ → ℕ
-returnedSize d = cond (isVoid d) 0 (sizeTy lp64 (tyAt d (returnIn d)))
+returnedSize d = cond (isVoid d) 0 (sizeTy (modelIn d) (tyAt d (returnIn d)))
 
 -- "If the return type's class is MEMORY, a hidden address takes rdi first"
 unfoldable pub hidden : List ℕ → Bool

@@ -3,11 +3,10 @@ use mathlib.Core.Path.{_≡_}
 use mathlib.Core.List.{List, [], _++_}
 use Prim.Native.Nat.{ℕ, zero, suc, _+_, _*_, _%_, _≤_, _<_}
 use lib.ListN.{length}
-use Rattle.description.specs.Description.{typesIn, argumentsIn}
-use Rattle.types.specs.Basic.{lp64}
+use Rattle.description.specs.Description.{typesIn, argumentsIn, modelIn}
 use Rattle.types.specs.Size.{sizeTy, alignTy}
 use Rattle.types.specs.Decode.{tyAt}
-use Rattle.places.specs.Shapes.{Alignment}
+use Rattle.types.specs.Alignments.{Alignment}
 use Rattle.places.specs.Images.{bytesOf}
 use Rattle.places.specs.Recorded.{placeOf}
 use Rattle.layout.specs.Arguments.{shapeAt, usedAt, areaOf}
@@ -17,9 +16,9 @@ use Rattle.layout.specs.Placements.{placementAt}
 -- the bounds of all that an accepted description can ask for
 pub record Bounded (d : List ℕ) : Type 0 where
   pub short : length d ≤ 586
-  pub filled : (k : ℕ) → k < typesIn d → 1 ≤ sizeTy lp64 (tyAt d k)
-  pub small : (k : ℕ) → k < typesIn d → sizeTy lp64 (tyAt d k) ≤ 4096
-  pub whole : (k : ℕ) → k < typesIn d → sizeTy lp64 (tyAt d k) % alignTy lp64 (tyAt d k) ≡ 0
+  pub filled : (k : ℕ) → k < typesIn d → 1 ≤ sizeTy (modelIn d) (tyAt d k)
+  pub small : (k : ℕ) → k < typesIn d → sizeTy (modelIn d) (tyAt d k) ≤ 4096
+  pub whole : (k : ℕ) → k < typesIn d → sizeTy (modelIn d) (tyAt d k) % alignTy (modelIn d) (tyAt d k) ≡ 0
   pub aligned : (i : ℕ) → i < argumentsIn d → Alignment (shapeAt d i .align)
   pub general : usedAt d (argumentsIn d) .general .0 ≤ 6
   pub vector : usedAt d (argumentsIn d) .vector .0 ≤ 8

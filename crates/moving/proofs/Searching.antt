@@ -8,10 +8,9 @@ use native.Mathlib.Omega.{arith}
 use borrow.Author.Tests.{ltb-true, ltb-false}
 use lib.Dec.{ltb}
 use lib.ListN.{length, getD}
-use Rattle.description.specs.Description.{typesIn, argumentsIn, argumentAt}
+use Rattle.description.specs.Description.{typesIn, argumentsIn, argumentAt, modelIn}
 use Rattle.form.specs.Search.{firstFrom}
 use Rattle.form.proofs.Search.{search-stop, search-on, search-end, first-bound, first-holds, first-least}
-use Rattle.types.specs.Basic.{lp64}
 use Rattle.types.specs.Size.{sizeTy}
 use Rattle.types.specs.Decode.{tyAt}
 use Rattle.layout.specs.Arguments.{shapeAt}
@@ -51,9 +50,9 @@ module _ (d vals : List ℕ) where
         pub searching-stop : brokenByte d k byte ≡ true → i ≡ firstBroken d vals
         searching-stop t = sym (search-stop (brokenBool d vals) i (argumentsIn d) l (sym same-test ∙ t)) ∙ h .same
 
-        module _ (size : ℕ) (g : size ≡ sizeTy lp64 (tyAt d k)) where
+        module _ (size : ℕ) (g : size ≡ sizeTy (modelIn d) (tyAt d k)) where
           size-right : size ≡ shapeAt d i .size
-          size-right = g ∙ ap (λ (n : ℕ). sizeTy lp64 (tyAt d n)) e ∙ size-is d (h .accepted) i
+          size-right = g ∙ ap (λ (n : ℕ). sizeTy (modelIn d) (tyAt d n)) e ∙ size-is d (h .accepted) i
 
           pub searching-room : start + size ≤ 2 ^ 63
           searching-room = omega (arith, size-right, h .begins, value-inside d (h .accepted) i l, values-small d (h .accepted))

@@ -6,8 +6,7 @@ use native.Mathlib.Numerals.{add-one}
 use native.Mathlib.Omega.{arith}
 use lib.ListN.{getD}
 use Rattle.units.proofs.Raise.{raise-not-below}
-use Rattle.description.specs.Description.{typesIn, argumentsIn, argumentAt, Whole}
-use Rattle.types.specs.Basic.{lp64}
+use Rattle.description.specs.Description.{typesIn, argumentsIn, argumentAt, Whole, modelIn}
 use Rattle.types.specs.Size.{sizeTy}
 use Rattle.types.specs.Decode.{tyAt}
 use Rattle.types.specs.Asks.{Sized}
@@ -78,7 +77,7 @@ module _ (d : List ℕ) where
     pub known : (i : ℕ) → i < argumentsIn d → argumentAt d i < typesIn d
     known i h = argument-known d right i h
 
-    pub sized : (k : ℕ) → k < typesIn d → Sized d k
+    pub sized : (k : ℕ) → k < typesIn d → Sized (modelIn d) d k
     sized k h = accepted-sized d (accepted-types d right) k h
 
     start-small : (i : ℕ) → i ≤ argumentsIn d → valueStart d i ≤ 4096 * i
@@ -97,9 +96,9 @@ module _ (d : List ℕ) where
     unfolding shapeAt shapeOf
     value-some i h =
         let k = argumentAt d i in
-        size-low lp64 (tyAt d k) (type-filled d k (sized k (known i h)))
+        size-low (modelIn d) (tyAt d k) (type-filled d k (sized k (known i h)))
 
-    pub size-is : (i : ℕ) → sizeTy lp64 (tyAt d (argumentAt d i)) ≡ shapeAt d i .size
+    pub size-is : (i : ℕ) → sizeTy (modelIn d) (tyAt d (argumentAt d i)) ≡ shapeAt d i .size
     unfolding shapeAt shapeOf
     size-is i = refl
 
@@ -141,7 +140,7 @@ module _ (d : List ℕ) where
     module _ (table : List ℕ) (tabled : Tabled d table) (a : verdict d ≡ 0) (n : ℕ) (e : n ≡ argumentAt d i) where
       turn-shape : shapeIn (getD table n 0) ≡ shapeAt d i
       unfolding shapeAt
-      turn-shape = shape-known d table tabled n (omega (arith, e, known a i l)) ∙ ap (λ (j : ℕ). shapeOf (tyAt d j)) e
+      turn-shape = shape-known d table tabled n (omega (arith, e, known a i l)) ∙ ap (λ (j : ℕ). shapeOf (modelIn d) (tyAt d j)) e
 
       pub turn-room-left : Room u
       turn-room-left = before-room i u (omega (arith, arguments-few d (right a))) (turn-asks a .before)

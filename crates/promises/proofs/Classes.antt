@@ -6,11 +6,12 @@ use Prim.Native.Nat.{ℕ, zero, suc, _+_, _/_, _≤_, _<_}
 use native.Mathlib.Nat.{add-zero}
 use borrow.Author.Tests.{le-ltb}
 use lib.ListN.{getD, set}
+use Rattle.description.specs.declared.Model.{Model}
 use Rattle.units.specs.Raise.{raise}
 use Rattle.addresses.specs.Addresses.{run}
 use Rattle.description.specs.Description.{kindAt, aAt, countAt, memberAt}
 use Rattle.types.specs.Tree.{Ty, basic, array, Tys, none, more, group}
-use Rattle.types.specs.Basic.{lp64, basicSize, basicAlign}
+use Rattle.types.specs.Basic.{basicSize, basicAlign}
 use Rattle.types.specs.Size.{alignTy, sizeTy, offsetAfter, endAfter}
 use Rattle.types.specs.Decode.{tysFrom, tyBy, tyAt}
 use Rattle.types.proofs.Codes.{each-code}
@@ -26,9 +27,9 @@ use Rattle.promises.specs.Demand2.{classTable, pieces, piecesAt, before,
 
 -- ---- the table
 
-pub class-table : map (λ code. classesOf (basic code)) (run 0 16) ≡ classTable
+pub class-table : (model : Model) → map (λ code. classesOf model (basic code)) (run 0 16) ≡ classTable
 unfolding classesOf classesAt basicAt oneClass firstClass secondClass gap mergeAll mergeOf same
-class-table = refl
+class-table model = refl
 
 -- NO_CLASS put among two changes nothing, and nothing is merged by it
 set-none : (k : ℕ) → set (NoClass ∷ NoClass ∷ []) k NoClass ≡ NoClass ∷ NoClass ∷ []
@@ -51,10 +52,10 @@ two : (o g : ℕ) (a b : Class) → mergeAll (oneClass 2 o a) (oneClass 2 (o + g
 unfolding oneClass
 two o g a b = rw (merge-nothing ((o + g) / 8) b, add-zero) refl
 
-pub basic-at : (code o : ℕ) → code < 16 → classesAt 2 (basic code) o ≡ piecesAt o (getD pieces code [])
+pub basic-at : (model : Model) (code o : ℕ) → code < 16 → classesAt model 2 (basic code) o ≡ piecesAt o (getD pieces code [])
 unfolding classesAt basicAt firstClass secondClass gap
-basic-at code o h =
-    each-code (λ k. classesAt 2 (basic k) o ≡ piecesAt o (getD pieces k [])) (
+basic-at model code o h =
+    each-code (λ k. classesAt model 2 (basic k) o ≡ piecesAt o (getD pieces k [])) (
       one o Integer,
       (
         one o Integer,
@@ -163,26 +164,26 @@ unfolding elementsAt
 elements f s zero o sofar = refl
 elements f s (suc n) o sofar = elements f s n (o + s) (mergeAll sofar (f o))
 
-pub array-at : (t : Ty) (n o : ℕ) → classesAt 2 (array t n) o ≡ cleanUp (mergedIn (NoClass ∷ NoClass ∷ []) (map (classesAt 2 t) (elementOffsets (sizeTy lp64 t) n o)))
+pub array-at : (model : Model) (t : Ty) (n o : ℕ) → classesAt model 2 (array t n) o ≡ cleanUp (mergedIn (NoClass ∷ NoClass ∷ []) (map (classesAt model 2 t) (elementOffsets (sizeTy model t) n o)))
 unfolding classesAt
-array-at t n o = ap cleanUp (elements (classesAt 2 t) (sizeTy lp64 t) n o (NoClass ∷ NoClass ∷ []))
+array-at model t n o = ap cleanUp (elements (classesAt model 2 t) (sizeTy model t) n o (NoClass ∷ NoClass ∷ []))
 
-members-merged : (u : Bool) (ts : Tys) (o x : ℕ) (sofar : List Class) → membersAt 2 ts u x o sofar ≡ mergedIn sofar (memberClasses u ts o x)
+members-merged : (model : Model) (u : Bool) (ts : Tys) (o x : ℕ) (sofar : List Class) → membersAt model 2 ts u x o sofar ≡ mergedIn sofar (memberClasses model u ts o x)
 unfolding membersAt memberClasses
-members-merged u none o x sofar = refl
-members-merged u (more t ts) o x sofar =
-    members-merged u ts o (endAfter u x (alignTy lp64 t) (sizeTy lp64 t)) (mergeAll sofar (classesAt 2 t (o + offsetAfter u x (alignTy lp64 t))))
+members-merged model u none o x sofar = refl
+members-merged model u (more t ts) o x sofar =
+    members-merged model u ts o (endAfter u x (alignTy model t) (sizeTy model t)) (mergeAll sofar (classesAt model 2 t (o + offsetAfter u x (alignTy model t))))
 
-pub group-at : (u : Bool) (ts : Tys) (o : ℕ) → classesAt 2 (group u ts) o ≡ cleanUp (mergedIn (NoClass ∷ NoClass ∷ []) (memberClasses u ts o 0))
+pub group-at : (model : Model) (u : Bool) (ts : Tys) (o : ℕ) → classesAt model 2 (group u ts) o ≡ cleanUp (mergedIn (NoClass ∷ NoClass ∷ []) (memberClasses model u ts o 0))
 unfolding classesAt
-group-at true ts o = ap cleanUp (members-merged true ts o 0 (NoClass ∷ NoClass ∷ []))
-group-at false ts o = ap cleanUp (members-merged false ts o 0 (NoClass ∷ NoClass ∷ []))
+group-at model true ts o = ap cleanUp (members-merged model true ts o 0 (NoClass ∷ NoClass ∷ []))
+group-at model false ts o = ap cleanUp (members-merged model false ts o 0 (NoClass ∷ NoClass ∷ []))
 
-pub small-classes : (t : Ty) → sizeTy lp64 t ≤ 16 → classesOf t ≡ classesAt 2 t 0
+pub small-classes : (model : Model) (t : Ty) → sizeTy model t ≤ 16 → classesOf model t ≡ classesAt model 2 t 0
 unfolding classesOf
-small-classes t h = rw (le-ltb 16 (sizeTy lp64 t) h) (by (isAggregate t))
+small-classes model t h = rw (le-ltb 16 (sizeTy model t) h) (by (isAggregate t))
   where
-    by : (b : Bool) → cond (b && false) (Memory ∷ NoClass ∷ []) (classesAt 2 t 0) ≡ classesAt 2 t 0
+    by : (b : Bool) → cond (b && false) (Memory ∷ NoClass ∷ []) (classesAt model 2 t 0) ≡ classesAt model 2 t 0
     by true = refl
     by false = refl
 

@@ -5,18 +5,18 @@ use mathlib.Core.List.{List}
 use Prim.Native.Nat.{ℕ, _<_}
 use borrow.Author.Tests.{ne-eqb}
 use lib.ListN.{length}
-use Rattle.description.specs.Description.{typesIn}
+use Rattle.description.specs.Description.{typesIn, modelIn}
 use Rattle.form.specs.Order.{formRefusal}
 use Rattle.form.specs.Reading.{refusalAt, refusalBy, refusalOf}
 use Rattle.types.specs.Wrong.{refusalFor}
-use Rattle.types.specs.Basic.{lp64}
 use Rattle.types.specs.Size.{alignTy}
 use Rattle.types.specs.Decode.{tyAt}
 use Rattle.types.specs.Large.{typesRefusal}
 use Rattle.questions.specs.Questions.{questionRefusal}
 use Rattle.uses.specs.Uses.{usesRefusal}
 use Rattle.uses.proofs.Uses.{accepted-types}
-use Rattle.places.specs.Shapes.{shapeOf, Alignment}
+use Rattle.types.specs.Alignments.{Alignment}
+use Rattle.places.specs.Shapes.{shapeOf}
 use Rattle.places.proofs.Guaranteed.{accepted-shaped}
 use Rattle.layout.specs.Verdict.{verdict}
 use Rattle.layout.specs.Placements.{placementAt}
@@ -110,7 +110,7 @@ a3 = record {
 
 -- ---- A6, A7
 
-aligned : (d : List ℕ) → verdict d ≡ 0 → (t : ℕ) → t < typesIn d → Alignment (alignTy lp64 (tyAt d t))
+aligned : (d : List ℕ) → verdict d ≡ 0 → (t : ℕ) → t < typesIn d → Alignment (alignTy (modelIn d) (tyAt d t))
 unfolding shapeOf
 aligned d v t l = accepted-shaped d (accepted-types d (accepted-uses d v)) t l .aligned
 

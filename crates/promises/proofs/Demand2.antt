@@ -1,14 +1,17 @@
 -- Demand 2 is met: each line cites a law. Assumes nothing.
 use mathlib.Core.Path.{_≡_, refl, ap}
 use mathlib.Core.Bool.{Bool, true, false}
-use mathlib.Core.List.{List, [], _∷_}
+use mathlib.Core.List.{List, [], _∷_, map}
 use Prim.Native.Nat.{ℕ, _<_, _≤_}
 use native.Mathlib.Omega.{arith}
 use borrow.Author.Tests.{lt-ltb, eq-eqb}
 use lib.ListN.{length, getD}
-use Rattle.description.specs.Description.{argumentsIn}
+use Rattle.description.specs.declared.Model.{Model}
+use Rattle.description.specs.declared.Model.the-variants.{Lp64}
+use Rattle.description.specs.Description.{argumentsIn, modelIn}
+use Rattle.addresses.specs.Addresses.{run}
 use Rattle.types.specs.Tree.{Ty, Tys, group}
-use Rattle.types.specs.Basic.{lp64, basicSize, basicAlign}
+use Rattle.types.specs.Basic.{basicSize, basicAlign}
 use Rattle.types.specs.Size.{alignTy, alignTys, sizeTy, offsetAfter, endOf}
 use Rattle.types.proofs.Sizes.{aligns-low}
 use Rattle.types.proofs.Laws.{struct-end, union-end, align-divides}
@@ -40,7 +43,7 @@ use Rattle.moving.proofs.Theorems.{places-all, address-unseen, gathers-placed, 
 use Rattle.station.specs.Paper.{kcb}
 use Rattle.walk.proofs.Steps.{step-done}
 use Rattle.walk.proofs.Agreement.{none-used}
-use Rattle.promises.specs.Demand2.{listAfter, B1-Sizes, B2-Classes, B3-Registers, B4-Stack, B5-Counts, B6-Returns, B7-Records, B8-B12-Moving, B13-Steps, B14-Cases, Demand2}
+use Rattle.promises.specs.Demand2.{extents, listAfter, B1-Sizes, B2-Classes, B3-Registers, B4-Stack, B5-Counts, B6-Returns, B7-Records, B8-B12-Moving, B13-Steps, B14-Cases, Demand2}
 use Rattle.promises.proofs.Merging.{merges}
 use Rattle.promises.proofs.Classes.{class-table, basic-at, cleans-up, array-at, group-at, small-classes, all-classed}
 use Rattle.promises.proofs.Placements.{general-count, vector-count, generals-in-row, vectors-in-row, in-registers, lacks-exactly, takes-none, lowest, room, fetches, moves, hidden-is, hidden-memory}
@@ -48,32 +51,37 @@ use Rattle.places.specs.Places.{eights}
 
 -- ---- B1
 
-size-rounded : (isUnion : Bool) (ts : Tys) → RoundedUp (alignTys lp64 ts) (endOf lp64 ts isUnion 0) (sizeTy lp64 (group isUnion ts))
+size-rounded : (m : Model) (isUnion : Bool) (ts : Tys) → RoundedUp (alignTys m ts) (endOf m ts isUnion 0) (sizeTy m (group isUnion ts))
 unfolding sizeTy
-size-rounded true ts = rounded-up (alignTys lp64 ts) (endOf lp64 ts true 0) (aligns-low lp64 ts)
-size-rounded false ts = rounded-up (alignTys lp64 ts) (endOf lp64 ts false 0) (aligns-low lp64 ts)
+size-rounded m true ts = rounded-up (alignTys m ts) (endOf m ts true 0) (aligns-low m ts)
+size-rounded m false ts = rounded-up (alignTys m ts) (endOf m ts false 0) (aligns-low m ts)
+
+extents-are : (m : Model) → map (λ code. (basicSize m code, basicAlign m code)) (run 0 16) ≡ extents m
+unfolding basicSize basicAlign
+extents-are Lp64 = refl
 
 b1 : B1-Sizes
-unfolding basicSize basicAlign alignTy sizeTy offsetAfter
+unfolding modelIn alignTy sizeTy offsetAfter
 b1 = record {
-  table = refl;
+  model = λ d. refl;
+  table = extents-are;
   is-basic = λ d t a. at-basic d t (answered-sized d t a);
   is-array = λ d t a. at-array d t (answered-sized d t a);
   is-group = λ d t a. at-group d t (answered-sized d t a);
-  array-size = λ t n. (refl, refl);
+  array-size = λ m t n. (refl, refl);
   member = λ x a h. rounded-up a x h;
   member-end = λ x a s h. struct-end x a h s;
   union-member = λ x a. refl;
-  union-end = union-end lp64;
+  union-end = union-end;
   size = size-rounded;
-  whole = align-divides lp64;
+  whole = align-divides;
 }
 
 -- ---- B2
 
-large-memory : (t : Ty) → isAggregate t ≡ true → 16 < sizeTy lp64 t → classesOf t ≡ Memory ∷ NoClass ∷ []
+large-memory : (m : Model) (t : Ty) → isAggregate t ≡ true → 16 < sizeTy m t → classesOf m t ≡ Memory ∷ NoClass ∷ []
 unfolding classesOf
-large-memory t a l = rw (a, lt-ltb 16 (sizeTy lp64 t) l) refl
+large-memory m t a l = rw (a, lt-ltb 16 (sizeTy m t) l) refl
 
 b2 : B2-Classes
 b2 = record {

@@ -12,11 +12,10 @@ use base.Stored.{codedList}
 use denote.Ref.{now}
 use Rattle.tightness.proofs.Laws.{result, bytes, told}
 use Rattle.addresses.specs.Addresses.{gather}
-use Rattle.description.specs.Description.{argumentsIn, kindAt, aAt, countAt, memberStart, IsBytes}
+use Rattle.description.specs.Description.{argumentsIn, kindAt, aAt, countAt, memberStart, IsBytes, modelIn}
 use Rattle.form.specs.declared.Refusal.{Refusal}
 use Rattle.form.specs.Order.{Rule}
 use Rattle.form.specs.Reading.{refusalAt, refusalBy, refusalOf}
-use Rattle.types.specs.Basic.{lp64}
 use Rattle.types.specs.Size.{sizeTy, alignTy}
 use Rattle.types.specs.Decode.{tyAt}
 use Rattle.types.specs.Wrong.{refusalFor}
@@ -153,7 +152,7 @@ gives-part read d rules v p r n new m t e a f h = record {
 -- ---- questions and the layout
 
 extent-fills : (d : List ℕ) (t : ℕ) (old : Extent)
-    → Fills extentRead d (questionOrder d t) (sizeTy lp64 (tyAt d t), alignTy lp64 (tyAt d t)) old (refusalIn (extentGiven (extentAnswer d t))) (leftIn (extentGiven (extentAnswer d t)) old)
+    → Fills extentRead d (questionOrder d t) (sizeTy (modelIn d) (tyAt d t), alignTy (modelIn d) (tyAt d t)) old (refusalIn (extentGiven (extentAnswer d t))) (leftIn (extentGiven (extentAnswer d t)) old)
 extent-fills d t old =
     fills extentRead d _ _ old _ (questionRefusal d t) _ _ (extent-told d t) (λ z. refl) (demand-1 .questions .type-extent d t) (extent-means d t) (wrong-type .question d t)
 
@@ -161,7 +160,7 @@ classes-fill : (d : List ℕ) (t : ℕ) (old : Classes)
     → Fills classesRead d (questionOrder d t) (classPair d t) old (refusalIn (classesGiven (classesAnswer d t))) (leftIn (classesGiven (classesAnswer d t)) old)
 classes-fill d t old =
     fills classesRead d _ _ old _ (questionRefusal d t) _ _ (classes-told d t)
-    (λ z j. (class-meant (getD (classesOf (tyAt d t)) 0 NoClass) j, class-meant (getD (classesOf (tyAt d t)) 1 NoClass) j)) (demand-1 .questions .type-classes d t) (classes-means d t) (wrong-type .question d t)
+    (λ z j. (class-meant (getD (classesOf (modelIn d) (tyAt d t)) 0 NoClass) j, class-meant (getD (classesOf (modelIn d) (tyAt d t)) 1 NoClass) j)) (demand-1 .questions .type-classes d t) (classes-means d t) (wrong-type .question d t)
 
 run-read : (d : List ℕ) (t : ℕ) → membersRead (runOf d t) ≡ members d t
 unfolding runOf

@@ -5,13 +5,12 @@ use mathlib.Core.List.{List, _++_}
 use Prim.Native.Nat.{ℕ, _+_}
 use lib.Dec.{ltb, eqb}
 use lib.ListN.{length, getD}
-use Rattle.description.specs.Description.{argumentsIn, kindAt, aAt, countAt, memberStart, headerOf}
+use Rattle.description.specs.Description.{argumentsIn, kindAt, aAt, countAt, memberStart, headerOf, modelIn}
 use Rattle.form.specs.Order.{formRefusal}
 use Rattle.form.specs.Conditions.{firstBroken}
 use Rattle.form.specs.Reading.{refusalAt, refusalBy, readingOf}
 use Rattle.types.specs.Wrong.{refusalFor}
 use Rattle.form.specs.declared.Reading.the-variants.{Accepted, Refused as NotRead}
-use Rattle.types.specs.Basic.{lp64}
 use Rattle.types.specs.Size.{sizeTy, alignTy}
 use Rattle.types.specs.Decode.{tyAt}
 use Rattle.classes.specs.declared.Class.the-variants.{NoClass}
@@ -57,25 +56,25 @@ unfolding readingOf refusalAt
 reading-means d = decided ofReading (Accepted (headerOf d)) (λ n. NotRead (refusalAt n (cond (eqb n 6) (firstBroken d) 0))) (headerOf d) refl (λ n. refl) (formRefusal d)
 
 module _ (d : List ℕ) (t : ℕ) where
-  pub extent-means : ofExtent (extentAnswer d t) ≡ outcome (questionRefusal d t) (sizeTy lp64 (tyAt d t), alignTy lp64 (tyAt d t))
+  pub extent-means : ofExtent (extentAnswer d t) ≡ outcome (questionRefusal d t) (sizeTy (modelIn d) (tyAt d t), alignTy (modelIn d) (tyAt d t))
   unfolding extentAnswer refusalFor refusalBy refusalAt
   extent-means =
-      decided ofExtent (Known (extentOf (tyAt d t))) (λ n. NoExtent (refusalFor d n)) (sizeTy lp64 (tyAt d t), alignTy lp64 (tyAt d t)) refl (λ n. refl) (questionRefusal d t)
+      decided ofExtent (Known (extentOf (modelIn d) (tyAt d t))) (λ n. NoExtent (refusalFor d n)) (sizeTy (modelIn d) (tyAt d t), alignTy (modelIn d) (tyAt d t)) refl (λ n. refl) (questionRefusal d t)
 
-  pub size-means : ofSize (sizeAnswer (extentAnswer d t)) ≡ outcome (questionRefusal d t) (sizeTy lp64 (tyAt d t))
+  pub size-means : ofSize (sizeAnswer (extentAnswer d t)) ≡ outcome (questionRefusal d t) (sizeTy (modelIn d) (tyAt d t))
   unfolding extentAnswer refusalFor refusalBy refusalAt
   size-means =
-      decided (λ x. ofSize (sizeAnswer x)) (Known (extentOf (tyAt d t))) (λ n. NoExtent (refusalFor d n)) (sizeTy lp64 (tyAt d t)) refl (λ n. refl) (questionRefusal d t)
+      decided (λ x. ofSize (sizeAnswer x)) (Known (extentOf (modelIn d) (tyAt d t))) (λ n. NoExtent (refusalFor d n)) (sizeTy (modelIn d) (tyAt d t)) refl (λ n. refl) (questionRefusal d t)
 
-  pub align-means : ofAlign (alignAnswer (extentAnswer d t)) ≡ outcome (questionRefusal d t) (alignTy lp64 (tyAt d t))
+  pub align-means : ofAlign (alignAnswer (extentAnswer d t)) ≡ outcome (questionRefusal d t) (alignTy (modelIn d) (tyAt d t))
   unfolding extentAnswer refusalFor refusalBy refusalAt
   align-means =
-      decided (λ x. ofAlign (alignAnswer x)) (Known (extentOf (tyAt d t))) (λ n. NoExtent (refusalFor d n)) (alignTy lp64 (tyAt d t)) refl (λ n. refl) (questionRefusal d t)
+      decided (λ x. ofAlign (alignAnswer x)) (Known (extentOf (modelIn d) (tyAt d t))) (λ n. NoExtent (refusalFor d n)) (alignTy (modelIn d) (tyAt d t)) refl (λ n. refl) (questionRefusal d t)
 
-  pub classes-means : ofClasses (classesAnswer d t) ≡ outcome (questionRefusal d t) (getD (classesOf (tyAt d t)) 0 NoClass, getD (classesOf (tyAt d t)) 1 NoClass)
+  pub classes-means : ofClasses (classesAnswer d t) ≡ outcome (questionRefusal d t) (getD (classesOf (modelIn d) (tyAt d t)) 0 NoClass, getD (classesOf (modelIn d) (tyAt d t)) 1 NoClass)
   unfolding classesAnswer refusalFor refusalBy refusalAt
   classes-means =
-      decided ofClasses (pairOf (classesOf (tyAt d t))) (λ n. NoClasses (refusalFor d n)) (getD (classesOf (tyAt d t)) 0 NoClass, getD (classesOf (tyAt d t)) 1 NoClass) refl (λ n. refl) (questionRefusal d t)
+      decided ofClasses (pairOf (classesOf (modelIn d) (tyAt d t))) (λ n. NoClasses (refusalFor d n)) (getD (classesOf (modelIn d) (tyAt d t)) 0 NoClass, getD (classesOf (modelIn d) (tyAt d t)) 1 NoClass) refl (λ n. refl) (questionRefusal d t)
 
   run-by : (b : Bool) → ofRun (cond b NoRun (Run (record { 0 = memberStart d + aAt d t }) (countAt d t))) ≡ accepted (cond b none (run (memberStart d + aAt d t) (countAt d t)))
   run-by true = refl

@@ -7,7 +7,7 @@ use Prim.Native.Nat.{ℕ, zero, suc}
 use native.Mathlib.Omega.{arith}
 use borrow.Author.Tests.{eq-eqb, ne-eqb, ltb-true}
 use lib.Dec.{eqb}
-use Rattle.description.specs.Description.{typesIn, headerOf}
+use Rattle.description.specs.Description.{typesIn, headerOf, modelIn}
 use Rattle.form.specs.Conditions.{wrongRecord, firstBroken}
 use Rattle.form.specs.Order.{Rule, rule, first, formRefusal}
 use Rattle.form.specs.Reading.{refusalAt, refusalBy, refusalOf, readingOf}
@@ -45,7 +45,7 @@ holds n (rule m false ∷ rules) z e = rest (eqb m n) (holds n rules z e)
     rest false h = h
 
 -- any call whose order has 6 and 7 for those two conditions alone
-module _ (d : List ℕ) (rules : List Rule) (six : holding 6 rules ≡ true → wrongRecord d ≡ true) (seven : holding 7 rules ≡ true → tooLarge d ≡ true) where
+module _ (d : List ℕ) (rules : List Rule) (six : holding 6 rules ≡ true → wrongRecord d ≡ true) (seven : holding 7 rules ≡ true → tooLarge (modelIn d) d ≡ true) where
   names : Names d (refusalFor d (first rules))
   unfolding refusalFor refusalBy refusalAt wrongRecord tooLarge
   names = record {
@@ -58,11 +58,11 @@ module _ (d : List ℕ) (rules : List Rule) (six : holding 6 rules ≡ true → 
         }
         );
     seven = λ e. rw (e) (
-        let b : tooLarge d ≡ true = seven (holds 7 rules (λ z. omega arith) e) in
+        let b : tooLarge (modelIn d) d ≡ true = seven (holds 7 rules (λ z. omega arith) e) in
         record {
-          known = ltb-true (firstLarge d) (typesIn d) b;
-          breaks = large-first d b;
-          lower = λ j l q. omega (arith, q, large-least d j l);
+          known = ltb-true (firstLarge (modelIn d) d) (typesIn d) b;
+          breaks = large-first (modelIn d) d b;
+          lower = λ j l q. omega (arith, q, large-least (modelIn d) d j l);
         }
         );
     other = λ p q. rw (ne-eqb (first rules) 6 p, ne-eqb (first rules) 7 q);
@@ -110,16 +110,16 @@ pub wrong-type : WrongType
 unfolding kcb verdict questionRefusal listRefusal placeRefusal gatherRefusal putRefusal takeRefusal attachRefusal openRefusal stepRefusal showRefusal
 wrong-type = record {
   read-form = read-names;
-  check = λ d. names d (checkOrder d) (alone (wrongRecord d)) (alone (tooLarge d));
-  question = λ d t. names d (questionOrder d t) (alone (wrongRecord d)) (alone (tooLarge d));
-  lay-out = λ d room. names d (layoutOrder d room) (alone (wrongRecord d)) (alone (tooLarge d));
-  place-values = λ d values registers stack. names d (placeOrder d values registers stack) (alone (wrongRecord d)) (alone (tooLarge d));
-  gather-values = λ d values registers stack. names d (gatherOrder d values registers stack) (alone (wrongRecord d)) (alone (tooLarge d));
-  put-returned = λ d value image. names d (putOrder d value image) (alone (wrongRecord d)) (alone (tooLarge d));
-  take-returned = λ d image value. names d (takeOrder d image value) (alone (wrongRecord d)) (alone (tooLarge d));
-  attach = λ s seat d. seated d _ (names d (attachOrder s seat d) (alone (wrongRecord d)) (alone (tooLarge d)));
+  check = λ d. names d (checkOrder d) (alone (wrongRecord d)) (alone (tooLarge (modelIn d) d));
+  question = λ d t. names d (questionOrder d t) (alone (wrongRecord d)) (alone (tooLarge (modelIn d) d));
+  lay-out = λ d room. names d (layoutOrder d room) (alone (wrongRecord d)) (alone (tooLarge (modelIn d) d));
+  place-values = λ d values registers stack. names d (placeOrder d values registers stack) (alone (wrongRecord d)) (alone (tooLarge (modelIn d) d));
+  gather-values = λ d values registers stack. names d (gatherOrder d values registers stack) (alone (wrongRecord d)) (alone (tooLarge (modelIn d) d));
+  put-returned = λ d value image. names d (putOrder d value image) (alone (wrongRecord d)) (alone (tooLarge (modelIn d) d));
+  take-returned = λ d image value. names d (takeOrder d image value) (alone (wrongRecord d)) (alone (tooLarge (modelIn d) d));
+  attach = λ s seat d. seated d _ (names d (attachOrder s seat d) (alone (wrongRecord d)) (alone (tooLarge (modelIn d) d)));
   detach = detach-names;
-  open-walk = λ s seat. seated (described s seat) _ (names (described s seat) (openOrder s seat) (alone (wrongRecord (described s seat))) (alone (tooLarge (described s seat))));
-  step = λ s seat w a. seated (described s seat) _ (names (described s seat) (stepOrder s seat w a) (alone (wrongRecord (described s seat))) (alone (tooLarge (described s seat))));
-  show = λ s seat w a. seated (described s seat) _ (names (described s seat) (showOrder s seat w a) (alone (wrongRecord (described s seat))) (alone (tooLarge (described s seat))));
+  open-walk = λ s seat. seated (described s seat) _ (names (described s seat) (openOrder s seat) (alone (wrongRecord (described s seat))) (alone (tooLarge (modelIn (described s seat)) (described s seat))));
+  step = λ s seat w a. seated (described s seat) _ (names (described s seat) (stepOrder s seat w a) (alone (wrongRecord (described s seat))) (alone (tooLarge (modelIn (described s seat)) (described s seat))));
+  show = λ s seat w a. seated (described s seat) _ (names (described s seat) (showOrder s seat w a) (alone (wrongRecord (described s seat))) (alone (tooLarge (modelIn (described s seat)) (described s seat))));
 }

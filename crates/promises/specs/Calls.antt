@@ -5,8 +5,7 @@ use denote.Ref.{now}
 use denote.Triple.Entry.{Res}
 use denote.Triple.Clauses.{Ended, Lasts}
 use Rattle.tightness.specs.Tight.{Contract, Call, Admits}
-use Rattle.description.specs.Description.{headerOf}
-use Rattle.types.specs.Basic.{lp64}
+use Rattle.description.specs.Description.{headerOf, modelIn}
 use Rattle.types.specs.Size.{sizeTy, alignTy}
 use Rattle.types.specs.Decode.{tyAt}
 use Rattle.walk.specs.Orders.{asking}
@@ -24,9 +23,9 @@ Ensures T C P = (c : Call T) (r : Res (T .signature) (c .lifetimes)) (w : Lasts 
 pub record Calls : Type 2 where
   pub reads : Ensures read_form.ended (λ M. read_form.clauses {M = M}) (λ c r w. Answered (ofReading r) (formOrder (now (c .passed .0))) (headerOf (now (c .passed .0))))
   pub sizes : Ensures type_size.ended (λ M. type_size.clauses {M = M})
-      (λ c r w. Answered (ofSize r) (questionOrder (now (c .passed .0)) (c .passed .1 .0)) (sizeTy lp64 (tyAt (now (c .passed .0)) (c .passed .1 .0))))
+      (λ c r w. Answered (ofSize r) (questionOrder (now (c .passed .0)) (c .passed .1 .0)) (sizeTy (modelIn (now (c .passed .0))) (tyAt (now (c .passed .0)) (c .passed .1 .0))))
   pub aligns : Ensures type_align.ended (λ M. type_align.clauses {M = M})
-      (λ c r w. Answered (ofAlign r) (questionOrder (now (c .passed .0)) (c .passed .1 .0)) (alignTy lp64 (tyAt (now (c .passed .0)) (c .passed .1 .0))))
+      (λ c r w. Answered (ofAlign r) (questionOrder (now (c .passed .0)) (c .passed .1 .0)) (alignTy (modelIn (now (c .passed .0))) (tyAt (now (c .passed .0)) (c .passed .1 .0))))
   pub shows : Ensures show_number.ended (λ M. show_number.clauses {M = M})
       (λ c r w. Answered (ofRefusal r) (showOrder (c .passed .0) (now (c .passed .1 .0)) (c .passed .1 .1 .0)
       (asking (now (c .passed .1 .1 .1 .0)) (now (c .passed .1 .1 .1 .1 .0)) (c .passed .1 .1 .1 .1 .1 .0) [])) tt)

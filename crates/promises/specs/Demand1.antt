@@ -11,11 +11,10 @@ use mathlib.Core.List.{List, [], _++_}
 use Prim.Native.Nat.{ℕ, _+_, _*_, _≤_, _<_}
 use lib.Dec.{ltb}
 use lib.ListN.{length, getD, take, drop}
-use Rattle.description.specs.Description.{IsBytes, typesIn, kindAt, aAt, countAt, headerOf, argumentsIn}
+use Rattle.description.specs.Description.{IsBytes, typesIn, kindAt, aAt, countAt, headerOf, argumentsIn, modelIn}
 use Rattle.form.specs.Order.{formRefusal}
 use Rattle.form.specs.Reading.{refusalOf, readingOf}
 use Rattle.types.specs.Wrong.{refusalFor}
-use Rattle.types.specs.Basic.{lp64}
 use Rattle.types.specs.Size.{sizeTy, alignTy}
 use Rattle.types.specs.Decode.{tyAt}
 use Rattle.types.specs.Large.{typesRefusal}
@@ -25,7 +24,7 @@ use Rattle.classify.specs.Classify.{classesOf}
 use Rattle.questions.specs.Questions.{questionRefusal, extentAnswer, sizeAnswer, alignAnswer}
 use Rattle.questions.specs.Runs.{classesAnswer, runAnswer, runIn}
 use Rattle.uses.specs.Uses.{usesRefusal}
-use Rattle.places.specs.Shapes.{Alignment}
+use Rattle.types.specs.Alignments.{Alignment}
 use Rattle.layout.specs.declared.placements.Placement.{Placement}
 use Rattle.layout.specs.Arguments.{usedAt, returnPlace}
 use Rattle.layout.specs.Verdict.{verdict}
@@ -68,13 +67,13 @@ abbrev pub members : List ℕ → ℕ → Members
 members d t = cond (ltb (kindAt d t) 2) none (run (11 + 4 * typesIn d + aAt d t) (countAt d t))
 
 abbrev pub classPair : List ℕ → ℕ → Class × Class
-classPair d t = (getD (classesOf (tyAt d t)) 0 NoClass, getD (classesOf (tyAt d t)) 1 NoClass)
+classPair d t = (getD (classesOf (modelIn d) (tyAt d t)) 0 NoClass, getD (classesOf (modelIn d) (tyAt d t)) 1 NoClass)
 
 pub record A2-Questions : Type 0 where
   pub question-refusal : (d : List ℕ) (t : ℕ) → Answered (ofNumber (questionRefusal d t)) (questionOrder d t) tt
-  pub type-extent : (d : List ℕ) (t : ℕ) → Answered (ofExtent (extentAnswer d t)) (questionOrder d t) (sizeTy lp64 (tyAt d t), alignTy lp64 (tyAt d t))
-  pub type-size : (d : List ℕ) (t : ℕ) → Answered (ofSize (sizeAnswer (extentAnswer d t))) (questionOrder d t) (sizeTy lp64 (tyAt d t))
-  pub type-align : (d : List ℕ) (t : ℕ) → Answered (ofAlign (alignAnswer (extentAnswer d t))) (questionOrder d t) (alignTy lp64 (tyAt d t))
+  pub type-extent : (d : List ℕ) (t : ℕ) → Answered (ofExtent (extentAnswer d t)) (questionOrder d t) (sizeTy (modelIn d) (tyAt d t), alignTy (modelIn d) (tyAt d t))
+  pub type-size : (d : List ℕ) (t : ℕ) → Answered (ofSize (sizeAnswer (extentAnswer d t))) (questionOrder d t) (sizeTy (modelIn d) (tyAt d t))
+  pub type-align : (d : List ℕ) (t : ℕ) → Answered (ofAlign (alignAnswer (extentAnswer d t))) (questionOrder d t) (alignTy (modelIn d) (tyAt d t))
   pub type-classes : (d : List ℕ) (t : ℕ) → Answered (ofClasses (classesAnswer d t)) (questionOrder d t) (classPair d t)
   pub run-at : (d : List ℕ) (t : ℕ) → Answered (ofRun (runAnswer d t)) (questionOrder d t) (members d t)
 
@@ -123,7 +122,7 @@ pub record A3-Frame : Type 0 where
 
 pub record A6-Bounds : Type 0 where
   pub bounded : (d : List ℕ) → IsBytes d → verdict d ≡ 0 → Bounded d
-  pub aligned : (d : List ℕ) → verdict d ≡ 0 → (t : ℕ) → t < typesIn d → Alignment (alignTy lp64 (tyAt d t))
+  pub aligned : (d : List ℕ) → verdict d ≡ 0 → (t : ℕ) → t < typesIn d → Alignment (alignTy (modelIn d) (tyAt d t))
 
 -- ---- A7: "answered as the part of the lent description that holds the run, or as the empty part for a refusal or another kind"
 

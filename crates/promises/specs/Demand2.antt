@@ -11,9 +11,11 @@ use Prim.Native.Nat.{ℕ, zero, suc, _+_, _*_, _/_, _%_, _≤_, _<_}
 use lib.Dec.{eqb}
 use lib.ListN.{length, getD, set}
 use Rattle.addresses.specs.Addresses.{run}
-use Rattle.description.specs.Description.{argumentsIn, returnIn, kindAt, aAt, countAt, argumentAt}
+use Rattle.description.specs.declared.Model.{Model}
+use Rattle.description.specs.declared.Model.the-variants.{Lp64}
+use Rattle.description.specs.Description.{argumentsIn, returnIn, kindAt, aAt, countAt, argumentAt, modelIn}
 use Rattle.types.specs.Tree.{Ty, basic, array, Tys, none, more, group}
-use Rattle.types.specs.Basic.{lp64, basicSize, basicAlign}
+use Rattle.types.specs.Basic.{basicSize, basicAlign}
 use Rattle.types.specs.Size.{alignTy, alignTys, sizeTy, offsetAfter, endAfter, endOf, widest}
 use Rattle.types.specs.Decode.{tysFrom, tyAt}
 use Rattle.classes.specs.declared.Class.{Class}
@@ -55,29 +57,30 @@ use Rattle.walk.specs.Steps.{movedOn, bytesAt, stepWalk, stepOut}
 -- ---- B1: sizes and alignments, which `type_size`, `type_align` and every record give
 
 -- the table, code by code: size and alignment
-abbrev pub extents : List (ℕ × ℕ)
-extents =
+abbrev pub extents : Model → List (ℕ × ℕ)
+extents Lp64 =
     (1, 1) ∷ (1, 1) ∷ (2, 2) ∷ (4, 4) ∷ (8, 8) ∷ (16, 16) ∷ (4, 4) ∷ (8, 8) ∷ (16, 16) ∷ (16, 16) ∷ (8, 8) ∷ (16, 16) ∷ (8, 4) ∷ (16, 8) ∷ (32, 16) ∷ (8, 8)
     ∷ []
 
 pub record B1-Sizes : Type 0 where
-  pub table : map (λ code. (basicSize lp64 code, basicAlign lp64 code)) (run 0 16) ≡ extents
+  pub model : (d : List ℕ) → modelIn d ≡ Lp64
+  pub table : (m : Model) → map (λ code. (basicSize m code, basicAlign m code)) (run 0 16) ≡ extents m
   -- what a type number means, by its record's kind
   pub is-basic : (d : List ℕ) (t : ℕ) → questionRefusal d t ≡ 0 → kindAt d t ≡ 0 → tyAt d t ≡ basic (aAt d t)
   pub is-array : (d : List ℕ) (t : ℕ) → questionRefusal d t ≡ 0 → kindAt d t ≡ 1 → tyAt d t ≡ array (tyAt d (aAt d t)) (countAt d t)
   pub is-group : (d : List ℕ) (t : ℕ) → questionRefusal d t ≡ 0 → 2 ≤ kindAt d t
       → tyAt d t ≡ group (eqb (kindAt d t) 3) (tysFrom (tyAt d) d (aAt d t) (countAt d t))
   -- "An array takes its element's alignment"
-  pub array-size : (t : Ty) (n : ℕ) → (sizeTy lp64 (array t n) ≡ sizeTy lp64 t * n) × (alignTy lp64 (array t n) ≡ alignTy lp64 t)
+  pub array-size : (m : Model) (t : Ty) (n : ℕ) → (sizeTy m (array t n) ≡ sizeTy m t * n) × (alignTy m (array t n) ≡ alignTy m t)
   -- "A struct member has the lowest aligned offset after the one before": of the end so far and the member's alignment
   pub member : (end align : ℕ) → 0 < align → RoundedUp align end (offsetAfter false end align)
   pub member-end : (end align size : ℕ) → 0 < align → endAfter false end align size ≡ offsetAfter false end align + size
   -- "A union's members are at 0"
   pub union-member : (end align : ℕ) → offsetAfter true end align ≡ 0
-  pub union-end : (ts : Tys) → endOf lp64 ts true 0 ≡ widest lp64 ts
+  pub union-end : (m : Model) (ts : Tys) → endOf m ts true 0 ≡ widest m ts
   -- "size is rounded up to the alignment", of a union, or else of a struct
-  pub size : (isUnion : Bool) (ts : Tys) → RoundedUp (alignTys lp64 ts) (endOf lp64 ts isUnion 0) (sizeTy lp64 (group isUnion ts))
-  pub whole : (t : Ty) → sizeTy lp64 t % alignTy lp64 t ≡ 0
+  pub size : (m : Model) (isUnion : Bool) (ts : Tys) → RoundedUp (alignTys m ts) (endOf m ts isUnion 0) (sizeTy m (group isUnion ts))
+  pub whole : (m : Model) (t : Ty) → sizeTy m t % alignTy m t ≡ 0
 
 -- ---- B2: classes, which `type_classes` gives
 
@@ -148,34 +151,34 @@ elementOffsets s zero o = []
 elementOffsets s (suc n) o = o ∷ elementOffsets s n (o + s)
 
 -- the classes of each member of a union, or else of a struct, at its own offset in the whole; the aggregate lies at o, and those before end at x
-unfoldable pub memberClasses : Bool → Tys → ℕ → ℕ → List (List Class)
-memberClasses u none o x = []
-memberClasses u (more t ts) o x =
-    classesAt 2 t (o + offsetAfter u x (alignTy lp64 t)) ∷ memberClasses u ts o (endAfter u x (alignTy lp64 t) (sizeTy lp64 t))
+unfoldable pub memberClasses : Model → Bool → Tys → ℕ → ℕ → List (List Class)
+memberClasses m u none o x = []
+memberClasses m u (more t ts) o x =
+    classesAt m 2 t (o + offsetAfter u x (alignTy m t)) ∷ memberClasses m u ts o (endAfter u x (alignTy m t) (sizeTy m t))
 
 -- what the definitions say of a case's type
 abbrev pub classed : ClassCase → ClassCase
-classed (classCase t a b) = classCase t (getD (classesOf t) 0 NoClass) (getD (classesOf t) 1 NoClass)
+classed (classCase t a b) = classCase t (getD (classesOf Lp64 t) 0 NoClass) (getD (classesOf Lp64 t) 1 NoClass)
 
 pub record B2-Classes : Type 0 where
   -- the table, code by code; and a basic type wherever it lies
-  pub table : map (λ code. classesOf (basic code)) (run 0 16) ≡ classTable
-  pub basic-at : (code o : ℕ) → code < 16 → classesAt 2 (basic code) o ≡ piecesAt o (getD pieces code [])
+  pub table : (m : Model) → map (λ code. classesOf m (basic code)) (run 0 16) ≡ classTable
+  pub basic-at : (m : Model) (code o : ℕ) → code < 16 → classesAt m 2 (basic code) o ≡ piecesAt o (getD pieces code [])
   pub merges : (a b : Class) → Merges a b
   pub cleans-up : (cs : List Class) → CleansUp cs
   pub whole-memory : (a b : Class) → memoryOf (a ∷ b ∷ []) ≡ Memory ∷ NoClass ∷ []
   -- "A type's classes come from its members', each at its offset in the whole, and theirs again from the types they name; an inner aggregate is cleaned up
   -- before it merges": an array's elements and a struct's or union's members, in their order, each with what these equations give it
-  pub array-at : (t : Ty) (n o : ℕ) → classesAt 2 (array t n) o ≡ cleanUp (mergedIn (NoClass ∷ NoClass ∷ []) (map (classesAt 2 t) (elementOffsets (sizeTy lp64 t) n o)))
-  pub group-at : (u : Bool) (ts : Tys) (o : ℕ) → classesAt 2 (group u ts) o ≡ cleanUp (mergedIn (NoClass ∷ NoClass ∷ []) (memberClasses u ts o 0))
+  pub array-at : (m : Model) (t : Ty) (n o : ℕ) → classesAt m 2 (array t n) o ≡ cleanUp (mergedIn (NoClass ∷ NoClass ∷ []) (map (classesAt m 2 t) (elementOffsets (sizeTy m t) n o)))
+  pub group-at : (m : Model) (u : Bool) (ts : Tys) (o : ℕ) → classesAt m 2 (group u ts) o ≡ cleanUp (mergedIn (NoClass ∷ NoClass ∷ []) (memberClasses m u ts o 0))
   -- "Over 16 bytes: MEMORY. Otherwise there are one or two eightbytes"
-  pub large : (t : Ty) → isAggregate t ≡ true → 16 < sizeTy lp64 t → classesOf t ≡ Memory ∷ NoClass ∷ []
-  pub small : (t : Ty) → sizeTy lp64 t ≤ 16 → classesOf t ≡ classesAt 2 t 0
+  pub large : (m : Model) (t : Ty) → isAggregate t ≡ true → 16 < sizeTy m t → classesOf m t ≡ Memory ∷ NoClass ∷ []
+  pub small : (m : Model) (t : Ty) → sizeTy m t ≤ 16 → classesOf m t ≡ classesAt m 2 t 0
   -- each byte of a value that goes in registers lies in an eightbyte that has a class, and there is no class behind it
-  pub shaped : (d : List ℕ) (t : ℕ) → questionRefusal d t ≡ 0 → ClassesCover (classesOf (tyAt d t)) (sizeTy lp64 (tyAt d t))
+  pub shaped : (d : List ℕ) (t : ℕ) → questionRefusal d t ≡ 0 → ClassesCover (classesOf (modelIn d) (tyAt d t)) (sizeTy (modelIn d) (tyAt d t))
   -- "A lone class .. with NO_CLASS second"
-  pub second : (d : List ℕ) (t : ℕ) → questionRefusal d t ≡ 0 → goesOnStack (classesOf (tyAt d t)) ≡ false
-      → (getD (classesOf (tyAt d t)) 1 NoClass ≡ NoClass) ↔ (sizeTy lp64 (tyAt d t) ≤ 8)
+  pub second : (d : List ℕ) (t : ℕ) → questionRefusal d t ≡ 0 → goesOnStack (classesOf (modelIn d) (tyAt d t)) ≡ false
+      → (getD (classesOf (modelIn d) (tyAt d t)) 1 NoClass ≡ NoClass) ↔ (sizeTy (modelIn d) (tyAt d t) ≤ 8)
   -- the types of P2 to P6 and P9, and others that a wrong bridge gets wrong
   pub class-cases : map classed classCases ≡ classCases
 
@@ -238,7 +241,7 @@ pub record B6-Returns : Type 0 where
   -- "rax, rdx; xmm0, xmm1; xmm0 and its upper half; X87 st0; COMPLEX_X87 st0 and st1"
   pub return-places : map returned returnCases ≡ returnCases
   -- the size of the returned value is its type's; void has none
-  pub return-size : (d : List ℕ) → isVoid d ≡ false → layoutOf d .returned .0 ≡ sizeTy lp64 (tyAt d (returnIn d))
+  pub return-size : (d : List ℕ) → isVoid d ≡ false → layoutOf d .returned .0 ≡ sizeTy (modelIn d) (tyAt d (returnIn d))
   pub void-size : (d : List ℕ) → isVoid d ≡ true → layoutOf d .returned .0 ≡ 0
 
 -- ---- B7: "One placement record for each argument goes into the list the caller lends: type, size, alignment, and either its registers in
@@ -254,8 +257,8 @@ pub record B7-Records : Type 0 where
       → getD (listAfter d list) i x ≡ getD list i x
   pub long : (d : List ℕ) (list : List Placement) → length (listAfter d list) ≡ length list
   pub type : (d : List ℕ) (i : ℕ) → placementAt d i .ty ≡ argumentAt d i
-  pub size : (d : List ℕ) (i : ℕ) → placementAt d i .size .0 ≡ sizeTy lp64 (tyAt d (argumentAt d i))
-  pub align : (d : List ℕ) (i : ℕ) → placementAt d i .align .0 ≡ alignTy lp64 (tyAt d (argumentAt d i))
+  pub size : (d : List ℕ) (i : ℕ) → placementAt d i .size .0 ≡ sizeTy (modelIn d) (tyAt d (argumentAt d i))
+  pub align : (d : List ℕ) (i : ℕ) → placementAt d i .align .0 ≡ alignTy (modelIn d) (tyAt d (argumentAt d i))
 
 -- ---- B8 to B12: placing and gathering, which moving/specs/Statements.antt states of what the two calls answer and leave
 

@@ -13,10 +13,9 @@ use denote.Triple.Entry.{Res}
 use denote.Triple.Clauses.{Ended, Lasts}
 use Rattle.tightness.specs.Tight.{Call as Made, Admits}
 use Rattle.addresses.specs.Addresses.{gather}
-use Rattle.description.specs.Description.{argumentsIn}
+use Rattle.description.specs.Description.{argumentsIn, modelIn}
 use Rattle.form.specs.declared.Refusal.{Refusal}
 use Rattle.form.specs.Order.{Rule}
-use Rattle.types.specs.Basic.{lp64}
 use Rattle.types.specs.Size.{sizeTy, alignTy}
 use Rattle.types.specs.Decode.{tyAt}
 use Rattle.types.specs.declared.Extent.{Extent}
@@ -197,7 +196,7 @@ pub record Exports : Type 2 where
   pub check : Ensures cb_check.ended (λ M. cb_check.clauses {M = M}) (λ c r w. Checks (now (c .passed .0)) r)
   pub type-extent : Ensures cb_type_extent.ended (λ M. cb_type_extent.clauses {M = M})
       (λ c r w. Fills extentRead (now (c .passed .0)) (questionOrder (now (c .passed .0)) (c .passed .1 .0))
-      (sizeTy lp64 (tyAt (now (c .passed .0)) (c .passed .1 .0)), alignTy lp64 (tyAt (now (c .passed .0)) (c .passed .1 .0))) (now (c .passed .1 .1 .0)) r (w .1 .1 .0))
+      (sizeTy (modelIn (now (c .passed .0))) (tyAt (now (c .passed .0)) (c .passed .1 .0)), alignTy (modelIn (now (c .passed .0))) (tyAt (now (c .passed .0)) (c .passed .1 .0))) (now (c .passed .1 .1 .0)) r (w .1 .1 .0))
   pub type-classes : Ensures cb_type_classes.ended (λ M. cb_type_classes.clauses {M = M})
       (λ c r w. Fills classesRead (now (c .passed .0)) (questionOrder (now (c .passed .0)) (c .passed .1 .0)) (classPair (now (c .passed .0)) (c .passed .1 .0))
       (now (c .passed .1 .1 .0)) r (w .1 .1 .0))

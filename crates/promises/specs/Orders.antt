@@ -5,6 +5,7 @@ use mathlib.Core.List.{List, [], _∷_, _++_}
 use Prim.Native.Nat.{ℕ}
 use lib.Dec.{leb}
 use lib.ListN.{length}
+use Rattle.description.specs.Description.{modelIn}
 use Rattle.form.specs.Conditions.{tooShort, wrongMark, wrongVersion, wrongCounts, wrongLength, wrongRecord}
 use Rattle.form.specs.Order.{Rule, rule}
 use Rattle.types.specs.Large.{tooLarge}
@@ -28,7 +29,7 @@ formOrder d =
     rule 1 (tooShort d) ∷ rule 2 (wrongMark d) ∷ rule 3 (wrongVersion d) ∷ rule 4 (wrongCounts d) ∷ rule 5 (wrongLength d) ∷ rule 6 (wrongRecord d) ∷ []
 
 abbrev pub typesOrder : List ℕ → List Rule
-typesOrder d = formOrder d ++ rule 7 (tooLarge d) ∷ []
+typesOrder d = formOrder d ++ rule 7 (tooLarge (modelIn d) d) ∷ []
 
 abbrev pub usesOrder : List ℕ → List Rule
 usesOrder d = typesOrder d ++ rule 8 (wrongUse d) ∷ rule 9 (narrowUnnamed d) ∷ []

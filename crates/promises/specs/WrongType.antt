@@ -7,13 +7,12 @@ use mathlib.Core.Bool.{true}
 use mathlib.Core.List.{List}
 use Prim.Native.Nat.{ℕ, _<_}
 use lib.ListN.{length}
-use Rattle.description.specs.Description.{typesIn}
+use Rattle.description.specs.Description.{typesIn, modelIn}
 use Rattle.form.specs.declared.Refusal.{Refusal}
 use Rattle.form.specs.declared.Reading.{Reading}
 use Rattle.form.specs.declared.Reading.the-variants.{Accepted, Refused as NotRead}
 use Rattle.form.specs.Reading.{refusalOf, readingOf}
 use Rattle.form.specs.Conditions.{brokenRecord}
-use Rattle.types.specs.Basic.{lp64}
 use Rattle.types.specs.Size.{sizeTy}
 use Rattle.types.specs.Decode.{tyAt}
 use Rattle.types.specs.Wrong.{refusalFor}
@@ -39,7 +38,7 @@ pub record Names (d : List ℕ) (r : Refusal) : Type 0 where
   -- 6: "a type record that breaks its kind's rule"
   pub six : r .number ≡ 6 → Lowest (λ k. brokenRecord d k ≡ true) (typesIn d) (r .ty)
   -- 7: "a type over 4,096 bytes"
-  pub seven : r .number ≡ 7 → Lowest (λ k. 4096 < sizeTy lp64 (tyAt d k)) (typesIn d) (r .ty)
+  pub seven : r .number ≡ 7 → Lowest (λ k. 4096 < sizeTy (modelIn d) (tyAt d k)) (typesIn d) (r .ty)
   pub other : r .number ≢ 6 → r .number ≢ 7 → r .ty ≡ 0
 
 -- the refusal of a form that is read, none where it is accepted

@@ -1,6 +1,6 @@
 // Which refusal a question about one type gets (document 01, "A question about one type"): any bytes, any number, 1 to 7, then 8.
 ghost use mathlib.Core.Path.{_≡_};
-ghost use Rattle.description.specs.Description.{typesIn};
+ghost use Rattle.description.specs.Description.{typesIn, modelIn};
 ghost use Rattle.types.specs.Table.{sizesAfter, Sizes};
 ghost use Rattle.questions.specs.Questions.{questionRefusal};
 
@@ -8,7 +8,7 @@ ghost use Rattle.questions.specs.Questions.{questionRefusal};
 pub fn question_refusal_with(d: &[u8], t: u8, table: &mut [u32; 64]) -> u8
     ensures { λ r. ⌜ (r ≡ questionRefusal (now (d .entry)) t)
         × (now (table .exit) ≡ sizesAfter (now (d .entry)) (now (table .entry)))
-        × (questionRefusal (now (d .entry)) t ≡ 0 → Sizes (now (d .entry)) (typesIn (now (d .entry))) (now (table .exit))) ⌝ }
+        × (questionRefusal (now (d .entry)) t ≡ 0 → Sizes (modelIn (now (d .entry))) (now (d .entry)) (typesIn (now (d .entry))) (now (table .exit))) ⌝ }
 {
     let number = types::types_refusal_with(d, table);
     if number != 0 {

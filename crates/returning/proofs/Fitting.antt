@@ -6,11 +6,11 @@ use mathlib.Core.List.{List, [], _∷_}
 use Prim.Native.Nat.{ℕ, _+_, _*_, _≤_, _<_}
 use native.Mathlib.Omega.{arith}
 use lib.ListN.{length, getD}
+use Rattle.description.specs.declared.Model.{Model}
 use Rattle.classes.specs.declared.Class.{Class}
 use Rattle.classes.specs.declared.Class.the-variants.{NoClass, Integer, Sse, SseUp, X87, X87Up, ComplexX87, Memory}
 use Rattle.classes.specs.Classes.{same}
 use Rattle.types.specs.Tree.{Ty}
-use Rattle.types.specs.Basic.{lp64}
 use Rattle.types.specs.Size.{sizeTy}
 use Rattle.types.specs.Filled.{Filled}
 use Rattle.classify.specs.Classify.{classesOf}
@@ -63,9 +63,9 @@ kinds-suit (vector ∷ general ∷ l ∷ ks) c size led few room out = absurd (o
 kinds-suit (vector ∷ vector ∷ l ∷ ks) c size led few room out = absurd (omega arith)
 kinds-suit (vector ∷ upper ∷ l ∷ ks) c size led few room out = absurd (omega arith)
 
-pub type-suits : (t : Ty) → Filled t → Suits (returnOf (classesOf t)) (sizeTy lp64 t)
+pub type-suits : (model : Model) (t : Ty) → Filled t → Suits (returnOf (classesOf model t)) (sizeTy model t)
 unfolding returnOf shapeOf
-type-suits t f =
-    let s = shape-shaped t f in
-    kinds-suit (kindsOf (classesOf t)) (getD (classesOf t) 0 NoClass) (sizeTy lp64 t) (s .led) (s .few) (s .room)
-    (outside-suits (getD (classesOf t) 0 NoClass) (sizeTy lp64 t) (x87-size t f) (complex-size t f))
+type-suits model t f =
+    let s = shape-shaped model t f in
+    kinds-suit (kindsOf (classesOf model t)) (getD (classesOf model t) 0 NoClass) (sizeTy model t) (s .led) (s .few) (s .room)
+    (outside-suits (getD (classesOf model t) 0 NoClass) (sizeTy model t) (x87-size model t f) (complex-size model t f))

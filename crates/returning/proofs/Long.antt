@@ -11,6 +11,7 @@ use native.Mathlib.Omega.{arith}
 use borrow.Author.Tests.{ltb-false, leb-true, eqb-true}
 use lib.Dec.{leb, ltb, eqb}
 use lib.ListN.{getD, set, List·getD-eq-default}
+use Rattle.description.specs.declared.Model.{Model}
 use Rattle.classes.specs.declared.Class.{Class}
 use Rattle.classes.specs.declared.Class.the-variants.{NoClass, X87, ComplexX87, Memory}
 use Rattle.classes.specs.Classes.{same, isX87, noClasses, mergeOf, mergeAll}
@@ -18,7 +19,7 @@ use Rattle.classes.specs.CleanUp.{anyMemory, anyUpAlone, settled, settleAll, me
 use Rattle.classes.proofs.Laws.{each-two, if-left, all-at, or-cases}
 use Rattle.classes.proofs.Ups.{memory-behind, settle-at}
 use Rattle.types.specs.Tree.{Ty, Tys, basic, array, struct, union, none, more}
-use Rattle.types.specs.Basic.{lp64, basicSize, basicAlign}
+use Rattle.types.specs.Basic.{basicSize, basicAlign}
 use Rattle.types.specs.Size.{sizeTy, alignTy, alignTys, endOf, offsetAfter, endAfter}
 use Rattle.types.specs.Filled.{Filled}
 use Rattle.types.proofs.Codes.{EachFrom, each-code}
@@ -50,7 +51,7 @@ none-at zero i = refl
 none-at (suc n) zero = refl
 none-at (suc n) (suc i) = none-at n i
 
-module _ (c : Class) (m : ℕ) (f : Ty → ℕ) (r : Brought c m f) where
+module _ (model : Model) (c : Class) (m : ℕ) (f : Ty → ℕ) (r : Brought c m f) where
   -- it stands in eightbyte i
   abbrev Has : List Class → ℕ → Type 0
   Has cs i = same (getD cs i NoClass) c ≡ true
@@ -133,19 +134,19 @@ module _ (c : Class) (m : ℕ) (f : Ty → ℕ) (r : Brought c m f) where
   mutual
     unfolding classesAt membersAt
 
-    has-type : (t : Ty) (o i : ℕ) → Has (classesAt 2 t o) i → m ≤ f t
+    has-type : (t : Ty) (o i : ℕ) → Has (classesAt model 2 t o) i → m ≤ f t
     has-type (basic code) o i h = r .codes code (has-basic code o i h)
     has-type (array t n) o i h =
-        let e = none-or i _ (has-elements (classesAt 2 t) (sizeTy lp64 t) i (m ≤ f t) (λ q g. has-type t q i g) n o (noClasses 2) (has-cleaned _ i h)) in
+        let e = none-or i _ (has-elements (classesAt model 2 t) (sizeTy model t) i (m ≤ f t) (λ q g. has-type t q i g) n o (noClasses 2) (has-cleaned _ i h)) in
         r .arrays t n (e .0) (e .1)
     has-type (struct ts) o i h = r .structs ts (none-or i _ (has-types ts false 0 o (noClasses 2) i (has-cleaned _ i h)))
     has-type (union ts) o i h = r .unions ts (none-or i _ (has-types ts true 0 o (noClasses 2) i (has-cleaned _ i h)))
 
-    has-types : (ts : Tys) (u : Bool) (x o : ℕ) (cs : List Class) (i : ℕ) → Has (membersAt 2 ts u x o cs) i → Has cs i ⊎ Somewhere (λ t. m ≤ f t) ts
+    has-types : (ts : Tys) (u : Bool) (x o : ℕ) (cs : List Class) (i : ℕ) → Has (membersAt model 2 ts u x o cs) i → Has cs i ⊎ Somewhere (λ t. m ≤ f t) ts
     has-types none u x o cs i h = inl h
     has-types (more t ts) u x o cs i h =
-        has-member cs (classesAt 2 t (o + offsetAfter u x (alignTy lp64 t))) i (m ≤ f t) (Somewhere (λ t. m ≤ f t) ts) (λ g. has-type t (o + offsetAfter u x (alignTy lp64 t)) i g)
-        (has-types ts u (endAfter u x (alignTy lp64 t) (sizeTy lp64 t)) o (mergeAll cs (classesAt 2 t (o + offsetAfter u x (alignTy lp64 t)))) i h)
+        has-member cs (classesAt model 2 t (o + offsetAfter u x (alignTy model t))) i (m ≤ f t) (Somewhere (λ t. m ≤ f t) ts) (λ g. has-type t (o + offsetAfter u x (alignTy model t)) i g)
+        (has-types ts u (endAfter u x (alignTy model t) (sizeTy model t)) o (mergeAll cs (classesAt model 2 t (o + offsetAfter u x (alignTy model t)))) i h)
 
 -- ---- X87: aligned to 16
 
@@ -162,106 +163,106 @@ no-code : (c : Class) → same NoClass c ≡ false → (code : ℕ) → 16 ≤ c
 unfolding firstClass secondClass
 no-code c e code l h = false≢true (sym (rw (List·getD-eq-default firsts NoClass {n = code} l, List·getD-eq-default seconds NoClass {n = code} l, e)) ∙ h)
 
-some-align : (m : ℕ) (ts : Tys) → Somewhere (λ t. m ≤ alignTy lp64 t) ts → m ≤ alignTys lp64 ts
+some-align : (model : Model) (m : ℕ) (ts : Tys) → Somewhere (λ t. m ≤ alignTy model t) ts → m ≤ alignTys model ts
 unfolding alignTys
-some-align m none h = absurd h
-some-align m (more t ts) (inl h) = omega arith
-some-align m (more t ts) (inr h) = omega (arith, some-align m ts h)
+some-align model m none h = absurd h
+some-align model m (more t ts) (inl h) = omega arith
+some-align model m (more t ts) (inr h) = omega (arith, some-align model m ts h)
 
-x87-brought : Brought X87 16 (alignTy lp64)
+x87-brought : (model : Model) → Brought X87 16 (alignTy model)
 unfolding same isX87 mergeOf settled alignTy firstClass secondClass basicAlign
-x87-brought = record {
+x87-brought model = record {
   nothing = refl;
   memory = refl;
   merged = λ a b. if-left (same (mergeOf a b) X87) (same a X87 || same b X87) (each-two (λ x y. not (same (mergeOf x y) X87) || (same x X87 || same y X87)) refl a b);
   settles = λ p a. if-left (same (settled p a) X87) (same a X87) (each-two (λ x y. not (same (settled x y) X87) || same y X87) refl p a);
   codes =
-      codes-by (λ code. (same (firstClass code) X87 || same (secondClass code) X87) ≡ true → 16 ≤ basicAlign lp64 code)
-      (λ code l h. leb-true 16 (basicAlign lp64 code) (if-left _ _ (low code l) h)) (λ code l h. absurd (no-code X87 refl code l h));
+      codes-by (λ code. (same (firstClass code) X87 || same (secondClass code) X87) ≡ true → 16 ≤ basicAlign model code)
+      (λ code l h. leb-true 16 (basicAlign model code) (if-left _ _ (low code l) h)) (λ code l h. absurd (no-code X87 refl code l h));
   arrays = λ t n l h. h;
-  structs = λ ts h. some-align 16 ts h;
-  unions = λ ts h. some-align 16 ts h;
+  structs = λ ts h. some-align model 16 ts h;
+  unions = λ ts h. some-align model 16 ts h;
 }
   where
-    low : (code : ℕ) → code < 16 → (not (same (firstClass code) X87 || same (secondClass code) X87) || leb 16 (basicAlign lp64 code)) ≡ true
+    low : (code : ℕ) → code < 16 → (not (same (firstClass code) X87 || same (secondClass code) X87) || leb 16 (basicAlign model code)) ≡ true
     low =
-        each-code (λ code. (not (same (firstClass code) X87 || same (secondClass code) X87) || leb 16 (basicAlign lp64 code)) ≡ true)
+        each-code (λ code. (not (same (firstClass code) X87 || same (secondClass code) X87) || leb 16 (basicAlign model code)) ≡ true)
         (refl, (refl, (refl, (refl, (refl, (refl, (refl, (refl, (refl, (refl, (refl, (refl, (refl, (refl, (refl, (refl, tt))))))))))))))))
 
 -- ---- COMPLEX_X87: 32 bytes
 
-some-size : (m : ℕ) (ts : Tys) (u : Bool) (x : ℕ) → Somewhere (λ t. m ≤ sizeTy lp64 t) ts → m ≤ endOf lp64 ts u x
+some-size : (model : Model) (m : ℕ) (ts : Tys) (u : Bool) (x : ℕ) → Somewhere (λ t. m ≤ sizeTy model t) ts → m ≤ endOf model ts u x
 unfolding endOf
-some-size m none u x h = absurd h
-some-size m (more t ts) u x (inl h) =
-    omega (arith, end-member u x (alignTy lp64 t) (sizeTy lp64 t), ends-low lp64 ts u (endAfter u x (alignTy lp64 t) (sizeTy lp64 t)))
-some-size m (more t ts) u x (inr h) = some-size m ts u (endAfter u x (alignTy lp64 t) (sizeTy lp64 t)) h
+some-size model m none u x h = absurd h
+some-size model m (more t ts) u x (inl h) =
+    omega (arith, end-member u x (alignTy model t) (sizeTy model t), ends-low model ts u (endAfter u x (alignTy model t) (sizeTy model t)))
+some-size model m (more t ts) u x (inr h) = some-size model m ts u (endAfter u x (alignTy model t) (sizeTy model t)) h
 
-complex-brought : Brought ComplexX87 32 (sizeTy lp64)
+complex-brought : (model : Model) → Brought ComplexX87 32 (sizeTy model)
 unfolding same isX87 mergeOf settled sizeTy firstClass secondClass basicSize
-complex-brought = record {
+complex-brought model = record {
   nothing = refl;
   memory = refl;
   merged =
       λ a b. if-left (same (mergeOf a b) ComplexX87) (same a ComplexX87 || same b ComplexX87) (each-two (λ x y. not (same (mergeOf x y) ComplexX87) || (same x ComplexX87 || same y ComplexX87)) refl a b);
   settles = λ p a. if-left (same (settled p a) ComplexX87) (same a ComplexX87) (each-two (λ x y. not (same (settled x y) ComplexX87) || same y ComplexX87) refl p a);
   codes =
-      codes-by (λ code. (same (firstClass code) ComplexX87 || same (secondClass code) ComplexX87) ≡ true → 32 ≤ basicSize lp64 code)
-      (λ code l h. leb-true 32 (basicSize lp64 code) (if-left _ _ (low code l) h)) (λ code l h. absurd (no-code ComplexX87 refl code l h));
+      codes-by (λ code. (same (firstClass code) ComplexX87 || same (secondClass code) ComplexX87) ≡ true → 32 ≤ basicSize model code)
+      (λ code l h. leb-true 32 (basicSize model code) (if-left _ _ (low code l) h)) (λ code l h. absurd (no-code ComplexX87 refl code l h));
   arrays = λ t n l h. mul-le-mul {n₁ = 32} {m₁ = 1} h l;
-  structs = λ ts h. omega (arith, size-after lp64 ts false, some-size 32 ts false 0 h);
-  unions = λ ts h. omega (arith, size-after lp64 ts true, some-size 32 ts true 0 h);
+  structs = λ ts h. omega (arith, size-after model ts false, some-size model 32 ts false 0 h);
+  unions = λ ts h. omega (arith, size-after model ts true, some-size model 32 ts true 0 h);
 }
   where
-    low : (code : ℕ) → code < 16 → (not (same (firstClass code) ComplexX87 || same (secondClass code) ComplexX87) || leb 32 (basicSize lp64 code)) ≡ true
+    low : (code : ℕ) → code < 16 → (not (same (firstClass code) ComplexX87 || same (secondClass code) ComplexX87) || leb 32 (basicSize model code)) ≡ true
     low =
-        each-code (λ code. (not (same (firstClass code) ComplexX87 || same (secondClass code) ComplexX87) || leb 32 (basicSize lp64 code)) ≡ true)
+        each-code (λ code. (not (same (firstClass code) ComplexX87 || same (secondClass code) ComplexX87) || leb 32 (basicSize model code)) ≡ true)
         (refl, (refl, (refl, (refl, (refl, (refl, (refl, (refl, (refl, (refl, (refl, (refl, (refl, (refl, (refl, (refl, tt))))))))))))))))
 
 -- ---- the whole
 
 -- a basic type's first class says its size
-basic-first : (c : Class) (size : ℕ)
-    → EachFrom (λ code. (not (same (getD (basicAt 2 code 0) 0 NoClass) c) || eqb (basicSize lp64 code) size) ≡ true) 0 16
-    → (code : ℕ) → code < 16 → same (getD (basicAt 2 code 0) 0 NoClass) c ≡ true → basicSize lp64 code ≡ size
-basic-first c size e code l h =
-    eqb-true (basicSize lp64 code) size (if-left _ _ (each-code (λ code. (not (same (getD (basicAt 2 code 0) 0 NoClass) c) || eqb (basicSize lp64 code) size) ≡ true) e code l) h)
+basic-first : (model : Model) (c : Class) (size : ℕ)
+    → EachFrom (λ code. (not (same (getD (basicAt 2 code 0) 0 NoClass) c) || eqb (basicSize model code) size) ≡ true) 0 16
+    → (code : ℕ) → code < 16 → same (getD (basicAt 2 code 0) 0 NoClass) c ≡ true → basicSize model code ≡ size
+basic-first model c size e code l h =
+    eqb-true (basicSize model code) size (if-left _ _ (each-code (λ code. (not (same (getD (basicAt 2 code 0) 0 NoClass) c) || eqb (basicSize model code) size) ≡ true) e code l) h)
 
 -- an aggregate, which is MEMORY where it has over 16 bytes
-aggregate-first : (c : Class) (t : Ty) → same Memory c ≡ false → isAggregate t ≡ true → same (getD (classesOf t) 0 NoClass) c ≡ true
-    → (sizeTy lp64 t ≤ 16) × (same (getD (classesAt 2 t 0) 0 NoClass) c ≡ true)
+aggregate-first : (model : Model) (c : Class) (t : Ty) → same Memory c ≡ false → isAggregate t ≡ true → same (getD (classesOf model t) 0 NoClass) c ≡ true
+    → (sizeTy model t ≤ 16) × (same (getD (classesAt model 2 t 0) 0 NoClass) c ≡ true)
 unfolding classesOf
-aggregate-first c t m a h = by (ltb 16 (sizeTy lp64 t)) refl (rw a at h)
+aggregate-first model c t m a h = by (ltb 16 (sizeTy model t)) refl (rw a at h)
   where
-    by : (b : Bool) → ltb 16 (sizeTy lp64 t) ≡ b → same (getD (cond b (Memory ∷ NoClass ∷ []) (classesAt 2 t 0)) 0 NoClass) c ≡ true
-        → (sizeTy lp64 t ≤ 16) × (same (getD (classesAt 2 t 0) 0 NoClass) c ≡ true)
+    by : (b : Bool) → ltb 16 (sizeTy model t) ≡ b → same (getD (cond b (Memory ∷ NoClass ∷ []) (classesAt model 2 t 0)) 0 NoClass) c ≡ true
+        → (sizeTy model t ≤ 16) × (same (getD (classesAt model 2 t 0) 0 NoClass) c ≡ true)
     by true e g = absurd (false≢true (sym m ∙ g))
-    by false e g = (ltb-false 16 (sizeTy lp64 t) e, g)
+    by false e g = (ltb-false 16 (sizeTy model t) e, g)
 
-x87-aggregate : (t : Ty) → Filled t → isAggregate t ≡ true → same (getD (classesOf t) 0 NoClass) X87 ≡ true → sizeTy lp64 t ≡ 16
+x87-aggregate : (model : Model) (t : Ty) → Filled t → isAggregate t ≡ true → same (getD (classesOf model t) 0 NoClass) X87 ≡ true → sizeTy model t ≡ 16
 unfolding same
-x87-aggregate t f a h =
-    let p = aggregate-first X87 t refl a h in
-    omega (arith, p .0, align-within lp64 t f, has-type X87 16 (alignTy lp64) x87-brought t 0 0 (p .1))
+x87-aggregate model t f a h =
+    let p = aggregate-first model X87 t refl a h in
+    omega (arith, p .0, align-within model t f, has-type model X87 16 (alignTy model) (x87-brought model) t 0 0 (p .1))
 
-complex-aggregate : (t : Ty) → isAggregate t ≡ true → same (getD (classesOf t) 0 NoClass) ComplexX87 ≡ true → ⊥
+complex-aggregate : (model : Model) (t : Ty) → isAggregate t ≡ true → same (getD (classesOf model t) 0 NoClass) ComplexX87 ≡ true → ⊥
 unfolding same
-complex-aggregate t a h =
-    let p = aggregate-first ComplexX87 t refl a h in
-    omega (arith, p .0, has-type ComplexX87 32 (sizeTy lp64) complex-brought t 0 0 (p .1))
+complex-aggregate model t a h =
+    let p = aggregate-first model ComplexX87 t refl a h in
+    omega (arith, p .0, has-type model ComplexX87 32 (sizeTy model) (complex-brought model) t 0 0 (p .1))
 
-pub x87-size : (t : Ty) → Filled t → same (getD (classesOf t) 0 NoClass) X87 ≡ true → sizeTy lp64 t ≡ 16
+pub x87-size : (model : Model) (t : Ty) → Filled t → same (getD (classesOf model t) 0 NoClass) X87 ≡ true → sizeTy model t ≡ 16
 unfolding same isX87 mergeOf mergeAll oneClass gap firstClass secondClass basicAt basicSize Filled sizeTy classesOf classesAt
-x87-size (basic code) f h =
-    basic-first X87 16 (refl, (refl, (refl, (refl, (refl, (refl, (refl, (refl, (refl, (refl, (refl, (refl, (refl, (refl, (refl, (refl, tt)))))))))))))))) code f h
-x87-size (array t n) f h = x87-aggregate (array t n) f refl h
-x87-size (struct ts) f h = x87-aggregate (struct ts) f refl h
-x87-size (union ts) f h = x87-aggregate (union ts) f refl h
+x87-size model (basic code) f h =
+    basic-first model X87 16 (refl, (refl, (refl, (refl, (refl, (refl, (refl, (refl, (refl, (refl, (refl, (refl, (refl, (refl, (refl, (refl, tt)))))))))))))))) code f h
+x87-size model (array t n) f h = x87-aggregate model (array t n) f refl h
+x87-size model (struct ts) f h = x87-aggregate model (struct ts) f refl h
+x87-size model (union ts) f h = x87-aggregate model (union ts) f refl h
 
-pub complex-size : (t : Ty) → Filled t → same (getD (classesOf t) 0 NoClass) ComplexX87 ≡ true → sizeTy lp64 t ≡ 32
+pub complex-size : (model : Model) (t : Ty) → Filled t → same (getD (classesOf model t) 0 NoClass) ComplexX87 ≡ true → sizeTy model t ≡ 32
 unfolding same isX87 mergeOf mergeAll oneClass gap firstClass secondClass basicAt basicSize Filled sizeTy classesOf classesAt
-complex-size (basic code) f h =
-    basic-first ComplexX87 32 (refl, (refl, (refl, (refl, (refl, (refl, (refl, (refl, (refl, (refl, (refl, (refl, (refl, (refl, (refl, (refl, tt)))))))))))))))) code f h
-complex-size (array t n) f h = absurd (complex-aggregate (array t n) refl h)
-complex-size (struct ts) f h = absurd (complex-aggregate (struct ts) refl h)
-complex-size (union ts) f h = absurd (complex-aggregate (union ts) refl h)
+complex-size model (basic code) f h =
+    basic-first model ComplexX87 32 (refl, (refl, (refl, (refl, (refl, (refl, (refl, (refl, (refl, (refl, (refl, (refl, (refl, (refl, (refl, (refl, tt)))))))))))))))) code f h
+complex-size model (array t n) f h = absurd (complex-aggregate model (array t n) refl h)
+complex-size model (struct ts) f h = absurd (complex-aggregate model (struct ts) refl h)
+complex-size model (union ts) f h = absurd (complex-aggregate model (union ts) refl h)

@@ -5,10 +5,10 @@ use mathlib.Core.List.{List}
 use Prim.Native.Nat.{ℕ, _<_}
 use borrow.Author.Tests.{ne-eqb}
 use lib.ListN.{length}
-use Rattle.description.specs.Description.{typesIn, returnIn, Whole}
+use Rattle.description.specs.Description.{typesIn, returnIn, Whole, modelIn}
 use Rattle.classes.specs.declared.Class.{Class}
 use Rattle.classes.specs.Classes.{same, isX87, mergeOf, mergeAll}
-use Rattle.types.specs.Basic.{lp64, basicSize}
+use Rattle.types.specs.Basic.{basicSize}
 use Rattle.types.specs.Tree.{basic}
 use Rattle.types.specs.Size.{sizeTy}
 use Rattle.types.specs.Decode.{tyAt}
@@ -75,7 +75,7 @@ module _ (d : List ℕ) (accepted : verdict d ≡ 0) where
   unfolding isVoid
   returned-known e = right-below d (returnIn d) (accepted-return d (accepted-uses d accepted) e)
 
-  returned-sized : isVoid d ≡ false → Sized d (returnIn d)
+  returned-sized : isVoid d ≡ false → Sized (modelIn d) d (returnIn d)
   returned-sized e = accepted-sized d types (returnIn d) (returned-known e)
 
   -- its place and its length suit one another
@@ -83,9 +83,9 @@ module _ (d : List ℕ) (accepted : verdict d ≡ 0) where
   unfolding returnPlace returnLength returnedSize
   accepted-returnable = by (isVoid d) refl
     where
-      by : (b : Bool) → isVoid d ≡ b → Returnable (returnPlace d) (lengthFor (returnPlace d) (cond b 0 (sizeTy lp64 (tyAt d (returnIn d)))))
+      by : (b : Bool) → isVoid d ≡ b → Returnable (returnPlace d) (lengthFor (returnPlace d) (cond b 0 (sizeTy (modelIn d) (tyAt d (returnIn d)))))
       by true e = unfold returnPlace Returnable in rw e refl
-      by false e = unfold returnPlace in rw e (type-suits (tyAt d (returnIn d)) (type-filled d (returnIn d) (returned-sized e)))
+      by false e = unfold returnPlace in rw e (type-suits (modelIn d) (tyAt d (returnIn d)) (type-filled d (returnIn d) (returned-sized e)))
 
   -- void has no value
   pub void-short : isVoid d ≡ true → returnLength d ≡ 0

@@ -7,7 +7,7 @@ use native.Mathlib.Omega.{arith}
 use lib.Dec.{eqb}
 use lib.ListN.{length, getD, take}
 use Rattle.addresses.specs.Addresses.{run}
-use Rattle.description.specs.Description.{variadicIn, namedIn, argumentsIn, argumentAt}
+use Rattle.description.specs.Description.{variadicIn, namedIn, argumentsIn, argumentAt, modelIn}
 use Rattle.form.specs.Conditions.{firstBroken}
 use Rattle.form.specs.Order.{Rule, first, Positive}
 use Rattle.form.specs.Reading.{refusalBy}
@@ -67,7 +67,7 @@ kcb = record {
   order = checkOrder;
   counted = λ d. (omega arith, (omega arith, (omega arith, (omega arith, (omega arith, (omega arith, (omega arith, (omega arith, (omega arith, (omega arith, tt))))))))));
   broken = firstBroken;
-  large = firstLarge;
+  large = λ d. firstLarge (modelIn d) d;
   variadic = λ d. eqb (variadicIn d) 1;
   first = usedFirst;
   address = λ d. cond (hidden d) (run 0 8) [];

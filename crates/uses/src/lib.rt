@@ -1,6 +1,6 @@
 // What a call may use of a description's types (document 01, "Refusal numbers", 8 and 9), and which of 1 to 9 refuses any bytes.
 ghost use mathlib.Core.Path.{_≡_};
-ghost use Rattle.description.specs.Description.{Whole, typesIn};
+ghost use Rattle.description.specs.Description.{Whole, typesIn, modelIn};
 ghost use Rattle.uses.specs.Uses.{wrongNumber, wrongReturn, firstWrong, narrow, firstNarrow, Typed, usesRefusal};
 ghost use Prim.Native.Nat.{_<_};
 ghost use Rattle.types.specs.Table.{sizesAfter, Sizes};
@@ -89,7 +89,7 @@ fn first_narrow(d: &[u8]) -> usize
 pub fn uses_refusal_with(d: &[u8], table: &mut [u32; 64]) -> u8
     ensures { λ r. ⌜ (r ≡ usesRefusal (now (d .entry)))
         × (now (table .exit) ≡ sizesAfter (now (d .entry)) (now (table .entry)))
-        × (usesRefusal (now (d .entry)) ≡ 0 → Sizes (now (d .entry)) (typesIn (now (d .entry))) (now (table .exit))) ⌝ }
+        × (usesRefusal (now (d .entry)) ≡ 0 → Sizes (modelIn (now (d .entry))) (now (d .entry)) (typesIn (now (d .entry))) (now (table .exit))) ⌝ }
 {
     let number = types::types_refusal_with(d, table);
     if number != 0 {

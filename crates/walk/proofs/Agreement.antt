@@ -4,21 +4,23 @@ use mathlib.Core.Path.{_≡_, refl, sym, ap, ap₂, _∙_}
 use mathlib.Core.Bool.{Bool, true, false, _&&_, cond, false≢true}
 use mathlib.Core.List.{List, [], _∷_, _++_, map}
 use Prim.Native.Nat.{ℕ, _+_, _*_, _-_, _%_, _≤_, max}
+use native.Mathlib.Nat.{max-eq-left, max-eq-right}
 use native.Mathlib.Omega.{arith}
 use lib.Dec.{leb, ltb}
 use lib.ListN.{length}
-use borrow.Author.Tests.{leb-true, leb-false}
+use borrow.Author.Tests.{ltb-true, ltb-false, leb-true, leb-false}
 use Rattle.units.specs.Raise.{raise}
 use Rattle.addresses.specs.Addresses.{All}
 use Rattle.places.specs.declared.Kind.{Kind}
 use Rattle.places.specs.declared.Kind.the-variants.{General as general, Vector as vector, Upper as upper}
 use Rattle.places.specs.declared.Used.{Used}
-use Rattle.places.specs.Shapes.{Shape, some?, Led, Alignment, one, two, four, eight, sixteen, Shaped}
+use Rattle.places.specs.Shapes.{Shape, some?, Led, Shaped}
 use Rattle.places.specs.Places.{Slot, fours, eights, wide, Place, inRegisters, onStack, generals, vectors, registersFor, enough, fits, start, placeIf, nextIf, place, next, places, after}
 use Rattle.places.specs.Images.{slots, bytesOf}
 use Rattle.places.proofs.Returning.{kinds-few}
 use Rattle.places.proofs.Prefix.{places-append}
-use Rattle.places.proofs.Offsets.{next-slotted, after-slotted}
+use Rattle.places.proofs.Fits.{wide-some}
+use Rattle.places.proofs.Offsets.{rounded-up, next-slotted, after-slotted}
 use Rattle.walk.specs.Offsets.{Offsets, Source, fromRegisters, fromStack, holds, reads, raised, readIf, stepIf, readAt, step, bytesFrom, walkAt, sourceIn, visits, steps}
 
 leb-same : (a b c d : ℕ) → (a ≤ b → c ≤ d) → (c ≤ d → a ≤ b) → leb a b ≡ leb c d
@@ -54,18 +56,14 @@ reads-slots (upper ∷ ks) true g f x y l v p q =
 reads-slots (upper ∷ ks) false g f x y l v p q = absurd l
 
 -- "raised to 16 where the alignment exceeds 8": the lowest multiple of the slot and of the alignment
-raised-start : (slot : Slot) (a t : ℕ) → Alignment a → t % wide slot ≡ 0 → cond (ltb (wide slot) a) (raise a t) t ≡ raise (max (wide slot) a) t
-unfolding raise
-raised-start fours a t one h = omega arith
-raised-start fours a t two h = omega arith
-raised-start fours a t four h = omega arith
-raised-start fours a t eight h = refl
-raised-start fours a t sixteen h = refl
-raised-start eights a t one h = omega arith
-raised-start eights a t two h = omega arith
-raised-start eights a t four h = omega arith
-raised-start eights a t eight h = omega arith
-raised-start eights a t sixteen h = refl
+raised-start : (slot : Slot) (a t : ℕ) → t % wide slot ≡ 0 → cond (ltb (wide slot) a) (raise a t) t ≡ raise (max (wide slot) a) t
+raised-start slot a t h = by (ltb (wide slot) a) refl
+  where
+    by : (b : Bool) → ltb (wide slot) a ≡ b → cond b (raise a t) t ≡ raise (max (wide slot) a) t
+    by true e = rw (max-eq-right {n = wide slot} {m = a} (omega (arith, ltb-true (wide slot) a e)))
+    by false e =
+        let r = rounded-up (wide slot) t (omega (arith, wide-some slot)) in
+        rw (max-eq-left {n = wide slot} {m = a} (ltb-false (wide slot) a e)) (omega (arith, r .behind, r .least t (omega arith) h))
 
 pub offsets-same : (v w : Offsets) → v .general ≡ w .general → v .vector ≡ w .vector → v .overflow ≡ w .overflow → v ≡ w
 offsets-same v w p q r = λ i. record { general = p i; vector = q i; overflow = r i }
@@ -77,7 +75,7 @@ read-agrees slot u s h m = rw (holds-fits u (s .kinds) (h .few)) (by (fits u (s 
   where
     by : (b : Bool) → readIf slot b (walkAt u) s ≡ sourceIn (placeIf slot b u s)
     by true = ap fromRegisters (reads-slots (s .kinds) false (u .general .0) (u .vector .0) _ _ (h .led) (λ e. absurd (false≢true e)) refl refl)
-    by false = ap fromStack (raised-start slot (s .align) (u .stack .0) (h .aligned) m)
+    by false = ap fromStack (raised-start slot (s .align) (u .stack .0) m)
 
 -- and goes on to where the layout goes on
 pub step-agrees : (slot : Slot) (u : Used) (s : Shape) → Shaped s → u .stack .0 % wide slot ≡ 0 → step slot (walkAt u) s ≡ walkAt (next slot u s)
@@ -86,7 +84,7 @@ step-agrees slot u s h m = rw (holds-fits u (s .kinds) (h .few)) (by (fits u (s 
   where
     by : (b : Bool) → stepIf slot b (walkAt u) s ≡ walkAt (nextIf slot b u s)
     by true = offsets-same _ _ (omega arith) (omega arith) refl
-    by false = offsets-same _ _ refl refl (ap (λ (o : ℕ). raise (wide slot) (o + s .size)) (raised-start slot (s .align) (u .stack .0) (h .aligned) m))
+    by false = offsets-same _ _ refl refl (ap (λ (o : ℕ). raise (wide slot) (o + s .size)) (raised-start slot (s .align) (u .stack .0) m))
 
 -- the bytes of a source are those of the place
 pub bytes-in : (base : ℕ) (p : Place) (n : ℕ) → bytesFrom base (sourceIn p) n ≡ bytesOf base p n

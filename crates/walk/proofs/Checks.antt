@@ -8,7 +8,7 @@ use native.Mathlib.Omega.{arith}
 use lib.Dec.{ltb, eqb}
 use lib.ListN.{length, take}
 use borrow.Author.Tests.{eq-eqb, ne-eqb, lt-ltb, le-ltb, eqb-true, ltb-false, not-false}
-use Rattle.description.specs.Description.{namedIn, argumentsIn, argumentAt}
+use Rattle.description.specs.Description.{namedIn, argumentsIn, argumentAt, modelIn}
 use Rattle.form.specs.Order.{Rule, rule, first, NoneHolds, Answers, Positive}
 use Rattle.form.specs.Reading.{refusalOf}
 use Rattle.form.specs.declared.Refusal.{Refusal}
@@ -199,7 +199,7 @@ pub stack-test : (d : List ℕ) (a : Ask) (l : Layout) (b : Bool) → l ≡ layo
 unfolding wrongStack layoutOf
 stack-test d a l b e q = rw (kcb-area d) (ap not (sym (q ∙ ap (λ (m : Layout). eqb (length (a .stack)) (m .area .0)) e)))
 
-pub shape-here : (d : List ℕ) (p k : ℕ) (s : Coded) → p < argumentsIn d → k ≡ argumentAt d p → asked s ≡ shapeOf (tyAt d k) → asked s ≡ shapeAt kcb d p
+pub shape-here : (d : List ℕ) (p k : ℕ) (s : Coded) → p < argumentsIn d → k ≡ argumentAt d p → asked s ≡ shapeOf (modelIn d) (tyAt d k) → asked s ≡ shapeAt kcb d p
 shape-here d p k s l e q = shape-of-argument d p k s e q ∙ sym (kcb-shape d p l)
 
 module _ (P : Paper) (d : List ℕ) (n m : ℕ) (r : Refusal) where

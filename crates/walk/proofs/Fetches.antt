@@ -13,7 +13,8 @@ use Rattle.places.specs.declared.Kind.the-variants.{General as general, Vector 
 use Rattle.places.specs.declared.Kinds.{Kinds}
 use Rattle.places.specs.declared.Kinds.the-variants.{Stack as None, One as Single, Two as Pair}
 use Rattle.places.specs.declared.Shape.{Shape as Coded}
-use Rattle.places.specs.Shapes.{some?, Alignment, one, two, four, eight, sixteen}
+use Rattle.types.specs.Alignments.{Alignment, one, two, four, eight, sixteen}
+use Rattle.places.specs.Shapes.{some?}
 use Rattle.places.specs.Places.{eights, generalFor, vectorFor, generals, vectors}
 use Rattle.places.specs.Recorded.{listed, asked}
 use Rattle.walk.specs.declared.Walk.{Walk}

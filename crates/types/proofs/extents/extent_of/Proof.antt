@@ -7,7 +7,6 @@ use borrow.Author.Needs.{needs}
 use lib.Dec.{eqb}
 use denote.Ref.{now}
 use Rattle.types.proofs.Runs.{basic-low, basic-done, element-low, array-small, array-done, group-run, group-asks, group-done}
-use Rattle.types.proofs.Sizes.{one, two}
 use Rattle.types.proofs.Table.{entry-low, entry-extent}
 use Rattle.description.specs.Description.{kindAt, modelIn}
 use Rattle.types.proofs.extents.extent_of.Statement.{statement}
