@@ -7,6 +7,7 @@ use moving::GatherAnswer;
 use moving::PlaceAnswer;
 ghost use mathlib.Core.Path.{_≡_};
 ghost use lib.ListN.{length};
+ghost use Rattle.moving.specs.Images.{amd64};
 ghost use Rattle.moving.specs.Answers.{placeAnswer, registersAfter, stackAfter, gatherAnswer, valuesAfter};
 ghost use Rattle.c_calls.specs.Outcome.{refusalIn, leftIn};
 ghost use Rattle.c_calls.specs.MovingCalls.{placedGiven, gatheredGiven};
@@ -20,10 +21,10 @@ pub fn place_values(
     stack: &mut [u8],
     before: Placed,
 ) -> GivenPlaced
-    ensures { λ r. ⌜ (r .refusal ≡ refusalIn (placedGiven (placeAnswer (now (d .entry)) (now (values .entry)) (length (now (registers .entry))) (length (now (stack .entry))))))
-        × ((r .placed ≡ leftIn (placedGiven (placeAnswer (now (d .entry)) (now (values .entry)) (length (now (registers .entry))) (length (now (stack .entry))))) before)
-        × ((now (registers .exit) ≡ registersAfter (now (d .entry)) hidden (now (values .entry)) (now (registers .entry)) (now (stack .entry)))
-        × (now (stack .exit) ≡ stackAfter (now (d .entry)) hidden (now (values .entry)) (now (registers .entry)) (now (stack .entry))))) ⌝ }
+    ensures { λ r. ⌜ (r .refusal ≡ refusalIn (placedGiven (placeAnswer amd64 (now (d .entry)) hidden (now (values .entry)) (length (now (registers .entry))) (length (now (stack .entry))))))
+        × ((r .placed ≡ leftIn (placedGiven (placeAnswer amd64 (now (d .entry)) hidden (now (values .entry)) (length (now (registers .entry))) (length (now (stack .entry))))) before)
+        × ((now (registers .exit) ≡ registersAfter amd64 (now (d .entry)) hidden (now (values .entry)) (now (registers .entry)) (now (stack .entry)))
+        × (now (stack .exit) ≡ stackAfter amd64 (now (d .entry)) hidden (now (values .entry)) (now (registers .entry)) (now (stack .entry))))) ⌝ }
 {
     let answer = moving::place_values(d, hidden, values, registers, stack);
     match answer {
@@ -46,9 +47,9 @@ pub fn gather_values(
     values: &mut [u8],
     before: Gathered,
 ) -> GivenGathered
-    ensures { λ r. ⌜ (r .refusal ≡ refusalIn (gatheredGiven (gatherAnswer (now (d .entry)) (now (registers .entry)) (now (stack .entry)) (length (now (values .entry))))))
-        × ((r .gathered ≡ leftIn (gatheredGiven (gatherAnswer (now (d .entry)) (now (registers .entry)) (now (stack .entry)) (length (now (values .entry))))) before)
-        × (now (values .exit) ≡ valuesAfter (now (d .entry)) (now (registers .entry)) (now (stack .entry)) (now (values .entry)))) ⌝ }
+    ensures { λ r. ⌜ (r .refusal ≡ refusalIn (gatheredGiven (gatherAnswer amd64 (now (d .entry)) (now (registers .entry)) (now (stack .entry)) (length (now (values .entry))))))
+        × ((r .gathered ≡ leftIn (gatheredGiven (gatherAnswer amd64 (now (d .entry)) (now (registers .entry)) (now (stack .entry)) (length (now (values .entry))))) before)
+        × (now (values .exit) ≡ valuesAfter amd64 (now (d .entry)) (now (registers .entry)) (now (stack .entry)) (now (values .entry)))) ⌝ }
 {
     let answer = moving::gather_values(d, registers, stack, values);
     match answer {

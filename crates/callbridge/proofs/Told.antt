@@ -18,6 +18,7 @@ use Rattle.questions.specs.Runs.{classesAnswer, runAnswer}
 use Rattle.layout.specs.Verdict.{verdict}
 use Rattle.layout.specs.Layout.{layoutAnswer}
 use Rattle.layout.specs.Lists.{listRefusal, listAnswer}
+use Rattle.moving.specs.Images.{amd64}
 use Rattle.moving.specs.Orders.{placeRefusal, gatherRefusal}
 use Rattle.moving.specs.Answers.{placeAnswer, gatherAnswer}
 use Rattle.returning.specs.Orders.{putRefusal, takeRefusal}
@@ -117,11 +118,11 @@ list-told d room = told _ d (listRefusal d room) _ (through (layoutGiven (argume
 
 pub placed-told : PlacedTold
 unfolding placeAnswer
-placed-told d vals r s = told _ d (placeRefusal d vals r s) _ (through placedGiven (eqb (placeRefusal d vals r s) 0) _ _)
+placed-told d h vals r s = told _ d (placeRefusal amd64 d h vals r s) _ (through placedGiven (eqb (placeRefusal amd64 d h vals r s) 0) _ _)
 
 pub gathered-told : GatheredTold
 unfolding gatherAnswer
-gathered-told d r s n = told _ d (gatherRefusal d n (length r) (length s)) _ (through gatheredGiven (eqb (gatherRefusal d n (length r) (length s)) 0) _ _)
+gathered-told d r s n = told _ d (gatherRefusal amd64 d n (length r) (length s)) _ (through gatheredGiven (eqb (gatherRefusal amd64 d n (length r) (length s)) 0) _ _)
 
 pub open-told : OpenTold
 unfolding openAnswer openedIf

@@ -21,7 +21,8 @@ use Rattle.layout.specs.Verdict.{verdict}
 use Rattle.layout.specs.Layout.{layoutOf as wholeOf, layoutAnswer}
 use Rattle.layout.specs.Placements.{placementAt}
 use Rattle.layout.specs.Lists.{listRefusal, listCount, filled}
-use Rattle.moving.specs.Images.{hiddenIn}
+use Rattle.moving.specs.Images.{frameOf, amd64}
+use Rattle.moving.specs.Frames.{ownAddress}
 use Rattle.moving.specs.Orders.{placeRefusal, gatherRefusal}
 use Rattle.moving.specs.Answers.{placeAnswer, gatherAnswer}
 use Rattle.returning.specs.Image.{returnedAddress}
@@ -87,12 +88,12 @@ ListTold = (d : List ℕ) (room : ℕ) → Tells (listGiven d room) d (listRefus
 
 -- cb_place_values, cb_gather_values
 abbrev pub PlacedTold : Type 0
-PlacedTold = (d values : List ℕ) (registersLength stackLength : ℕ)
-    → Tells (placedGiven (placeAnswer d values registersLength stackLength)) d (placeRefusal d values registersLength stackLength) (record { vector = usedAt d (argumentsIn d) .vector })
+PlacedTold = (d : List ℕ) (h : ℕ) (values : List ℕ) (registersLength stackLength : ℕ)
+    → Tells (placedGiven (placeAnswer amd64 d h values registersLength stackLength)) d (placeRefusal amd64 d h values registersLength stackLength) (record { vector = usedAt d (argumentsIn d) .vector })
 
 abbrev pub GatheredTold : Type 0
 GatheredTold = (d r s : List ℕ) (valuesLength : ℕ)
-    → Tells (gatheredGiven (gatherAnswer d r s valuesLength)) d (gatherRefusal d valuesLength (length r) (length s)) (record { hidden = hiddenIn d (r ++ s) })
+    → Tells (gatheredGiven (gatherAnswer amd64 d r s valuesLength)) d (gatherRefusal amd64 d valuesLength (length r) (length s)) (record { hidden = ownAddress (frameOf d) (r ++ s) })
 
 -- cb_put_returned has no record, cb_take_returned the hidden address
 abbrev pub PutTold : Type 0

@@ -21,6 +21,7 @@ ghost use Rattle.questions.specs.Runs.{classesAnswer, runAnswer};
 ghost use Rattle.layout.specs.Layout.{layoutAnswer};
 ghost use Rattle.layout.specs.Lists.{listCount, filled};
 ghost use Rattle.layout.specs.Verdict.{verdict};
+ghost use Rattle.moving.specs.Images.{amd64};
 ghost use Rattle.moving.specs.Answers.{placeAnswer, registersAfter, stackAfter, gatherAnswer, valuesAfter};
 ghost use Rattle.returning.specs.Answers.{putAnswer, imageAfter, takeAnswer, valueAfter};
 ghost use Rattle.station.specs.Paper.{kcb};
@@ -137,10 +138,10 @@ pub extern "C" fn cb_place_values(
     stack: &mut [u8],
     placed: &mut Placed,
 ) -> Refusal
-    ensures { λ r. ⌜ (r ≡ refusalIn (placedGiven (placeAnswer (now (d .entry)) (now (values .entry)) (length (now (registers .entry))) (length (now (stack .entry))))))
-        × ((now (placed .exit) ≡ leftIn (placedGiven (placeAnswer (now (d .entry)) (now (values .entry)) (length (now (registers .entry))) (length (now (stack .entry))))) (now (placed .entry)))
-        × ((now (registers .exit) ≡ registersAfter (now (d .entry)) hidden (now (values .entry)) (now (registers .entry)) (now (stack .entry)))
-        × (now (stack .exit) ≡ stackAfter (now (d .entry)) hidden (now (values .entry)) (now (registers .entry)) (now (stack .entry))))) ⌝ }
+    ensures { λ r. ⌜ (r ≡ refusalIn (placedGiven (placeAnswer amd64 (now (d .entry)) hidden (now (values .entry)) (length (now (registers .entry))) (length (now (stack .entry))))))
+        × ((now (placed .exit) ≡ leftIn (placedGiven (placeAnswer amd64 (now (d .entry)) hidden (now (values .entry)) (length (now (registers .entry))) (length (now (stack .entry))))) (now (placed .entry)))
+        × ((now (registers .exit) ≡ registersAfter amd64 (now (d .entry)) hidden (now (values .entry)) (now (registers .entry)) (now (stack .entry)))
+        × (now (stack .exit) ≡ stackAfter amd64 (now (d .entry)) hidden (now (values .entry)) (now (registers .entry)) (now (stack .entry))))) ⌝ }
 {
     let given = c_calls::place_values(d, hidden, values, registers, stack, *placed);
     *placed = given.placed;
@@ -156,9 +157,9 @@ pub extern "C" fn cb_gather_values(
     values: &mut [u8],
     gathered: &mut Gathered,
 ) -> Refusal
-    ensures { λ r. ⌜ (r ≡ refusalIn (gatheredGiven (gatherAnswer (now (d .entry)) (now (registers .entry)) (now (stack .entry)) (length (now (values .entry))))))
-        × ((now (gathered .exit) ≡ leftIn (gatheredGiven (gatherAnswer (now (d .entry)) (now (registers .entry)) (now (stack .entry)) (length (now (values .entry))))) (now (gathered .entry)))
-        × (now (values .exit) ≡ valuesAfter (now (d .entry)) (now (registers .entry)) (now (stack .entry)) (now (values .entry)))) ⌝ }
+    ensures { λ r. ⌜ (r ≡ refusalIn (gatheredGiven (gatherAnswer amd64 (now (d .entry)) (now (registers .entry)) (now (stack .entry)) (length (now (values .entry))))))
+        × ((now (gathered .exit) ≡ leftIn (gatheredGiven (gatherAnswer amd64 (now (d .entry)) (now (registers .entry)) (now (stack .entry)) (length (now (values .entry))))) (now (gathered .entry)))
+        × (now (values .exit) ≡ valuesAfter amd64 (now (d .entry)) (now (registers .entry)) (now (stack .entry)) (now (values .entry)))) ⌝ }
 {
     let given = c_calls::gather_values(d, registers, stack, values, *gathered);
     *gathered = given.gathered;

@@ -1,37 +1,57 @@
--- The two images of document 01 are a sound frame: so B8 to B11 and C4 hold of it by the laws of any frame. Assumes nothing.
-use mathlib.Core.Path.{_≡_, refl, sym, ap, _∙_}
+-- The two images of document 01 are a sound frame, and its orders are as they should be: so what is proved of any layout holds of it. Assumes nothing.
+use mathlib.Core.Path.{_≡_, refl, sym, _∙_}
 use mathlib.Core.Bool.{Bool, true, false, cond}
-use mathlib.Core.List.{List, [], _∷_, _++_}
-use Prim.Native.Nat.{ℕ, _+_, _≤_, _<_}
+use mathlib.Core.List.{List, []}
+use mathlib.Core.Logic.{_≢_}
+use Prim.Native.Nat.{ℕ, _+_, _^_, _≤_, _<_}
 use native.Mathlib.Omega.{arith}
-use lib.ListN.{length, replicate, length-replicate, replicate-append-replicate}
-use Rattle.addresses.specs.Addresses.{run, scatter, gather, All, NoDup, Below, Absent}
-use Rattle.addresses.specs.Copy.{cleared}
+use borrow.Author.Tests.{eq-eqb, eqb-true, not-false}
+use lib.Dec.{eqb}
+use lib.ListN.{length}
+use Rattle.addresses.specs.Addresses.{All, NoDup, Below, Absent}
 use Rattle.addresses.proofs.Lists.{all-map}
 use Rattle.addresses.proofs.Runs.{all-run, nodup-run}
-use Rattle.addresses.proofs.Parts.{scatter-left}
-use Rattle.layout.specs.Arguments.{hidden, areaOf}
-use Rattle.layout.specs.Verdict.{verdict}
-use Rattle.images.specs.Words.{littleEndian, number, rdi, withAddress, addressIn}
-use Rattle.moving.specs.Images.{addressesOf, blankBy, placed, gathered, hiddenIn, frameOf}
-use Rattle.moving.specs.Frames.{Frame, Sound, emptyIn, placedIn, gatheredIn, ownAddress, Moves}
-use Rattle.moving.proofs.Blanks.{blank-used, blank-unused}
-use Rattle.moving.proofs.Images.{once, inside, past}
-use Rattle.moving.proofs.Frames.{moves}
+use Rattle.form.specs.Order.{Without}
+use Rattle.form.proofs.Form.{or-none}
+use Rattle.places.specs.Places.{eights}
+use Rattle.places.proofs.Apart.{all-seated, addresses-packed, addresses-below, addresses-past, length-addresses}
+use Rattle.layout.specs.Arguments.{shapes, hidden, usedFirst, areaOf}
+use Rattle.layout.specs.Layout.{valuesOf, layoutOf}
+use Rattle.layout.specs.Verdict.{checkOrder, verdict}
+use Rattle.layout.proofs.Bounds.{all-shaped}
+use Rattle.layout.proofs.Verdict.{check-positive}
+use Rattle.images.specs.Words.{rdi, addressIn}
+use Rattle.moving.specs.Asks.{Lent}
+use Rattle.moving.specs.Orders.{wrongLength, placeRefusal}
+use Rattle.moving.specs.Images.{addressesOf, frameOf, amd64}
+use Rattle.moving.specs.Frames.{Sound, ownAddress, passed}
+use Rattle.moving.specs.Movers.{Ordered}
+use Rattle.moving.proofs.Turns.{right}
+use Rattle.moving.proofs.Orders.{gather-fits, place-accepted}
+
+-- ---- an accepted description's images are a sound frame
 
 module _ (d : List ℕ) (accepted : verdict d ≡ 0) where
-  pub frame-sound : Sound (frameOf d)
-  unfolding frameOf
+  length-all : length (addressesOf d) ≡ valuesOf d
+  unfolding addressesOf valuesOf
+  length-all = length-addresses 176 eights (shapes d) (usedFirst d) (all-shaped d (right d accepted))
+
+  past : hidden d ≡ true → All (λ k. 8 ≤ k) (addressesOf d)
+  unfolding addressesOf
+  past e = addresses-past eights (shapes d) (usedFirst d) (all-shaped d (right d accepted)) (rw e (omega arith))
+
+  frame-sound : Sound (frameOf d)
+  unfolding addressesOf areaOf
   frame-sound = record {
-    once = once d accepted;
-    inside = inside d accepted;
+    once = addresses-packed 176 eights (shapes d) (usedFirst d) (all-shaped d (right d accepted)) (all-seated (shapes d)) .once;
+    inside = addresses-below 176 eights (shapes d) (usedFirst d) (all-shaped d (right d accepted)) (all-seated (shapes d));
     past = by (hidden d) refl;
     apart = single (hidden d);
     within = low (hidden d);
   }
     where
       by : (b : Bool) → hidden d ≡ b → All (λ k. Absent k (addressesOf d)) (cond b rdi [])
-      by true e = all-run {P = λ k. Absent k (addressesOf d)} 0 8 (λ k l m. all-map (λ p q z. omega arith) (addressesOf d) (past d accepted e))
+      by true e = all-run {P = λ k. Absent k (addressesOf d)} 0 8 (λ k l m. all-map (λ p q z. omega arith) (addressesOf d) (past e))
       by false e = tt
 
       single : (b : Bool) → NoDup (cond b rdi [])
@@ -42,49 +62,87 @@ module _ (d : List ℕ) (accepted : verdict d ≡ 0) where
       low true = all-run {P = λ k. k < 176 + areaOf d} 0 8 (λ k l m. omega arith)
       low false = tt
 
-  -- "Placing copies each value byte to its place", "Gathering does the reverse": B8 to B11, C4
-  pub frame-moves : Moves (frameOf d)
-  frame-moves = moves (frameOf d) frame-sound
+-- ---- its hidden address: rdi's where it is used, and else 0
 
--- ---- and these are the images that placing and gathering speak of
+pub own-used : (d img : List ℕ) → hidden d ≡ true → ownAddress (frameOf d) img ≡ addressIn img
+unfolding ownAddress addressIn
+own-used d img e = rw e
 
-zeros : (n : ℕ) → replicate n 0 ≡ cleared (replicate n 0)
-unfolding cleared
-zeros n = ap (λ (k : ℕ). replicate k 0) (sym (length-replicate n 0))
+pub own-unused : (d img : List ℕ) → hidden d ≡ false → ownAddress (frameOf d) img ≡ 0
+unfolding ownAddress
+own-unused d img e = rw e
 
-split-zeros : (n : ℕ) → _≡_ {A = List ℕ} (replicate (176 + n) 0) (replicate 176 0 ++ replicate n 0)
-split-zeros n = sym (replicate-append-replicate 176 n 0)
-
-blank-same : (b : Bool) (h n : ℕ) → blankBy b h n ≡ scatter (replicate (176 + n) 0) (cond b rdi []) (littleEndian (length (cond b rdi [])) h)
-unfolding withAddress
-blank-same true h n =
-    ap (blankBy true h) (sym (length-replicate {A = ℕ} n 0))
-    ∙ sym (blank-used h (replicate 176 0) (replicate n 0) (replicate 176 0) (replicate n 0) (withAddress (replicate 176 0) h) (length-replicate {A = ℕ} 176 0) (zeros 176) (zeros n) refl)
-    ∙ with-address
-    ∙ ap (λ (img : List ℕ). scatter img rdi (littleEndian 8 h)) (sym (split-zeros n))
+pub passed-hidden : (d : List ℕ) (h : ℕ) → passed (frameOf d) h ≡ cond (hidden d) h 0
+unfolding passed
+passed-hidden d h = by (hidden d)
   where
-    within : All (λ k. k < length (replicate {A = ℕ} 176 0)) rdi
-    within = all-run {P = λ k. k < length (replicate {A = ℕ} 176 0)} 0 8 (λ k l u. let e = length-replicate {A = ℕ} 176 0 in omega (arith, e, u))
-
-    with-address : withAddress (replicate 176 0) h ++ replicate n 0 ≡ scatter (replicate 176 0 ++ replicate n 0) rdi (littleEndian 8 h)
-    with-address = sym (scatter-left rdi (littleEndian 8 h) (replicate 176 0) (replicate n 0) within)
-blank-same false h n =
-    ap (blankBy false h) (sym (length-replicate {A = ℕ} n 0))
-    ∙ sym (blank-unused h (replicate 176 0) (replicate n 0) (replicate 176 0) (replicate n 0) (length-replicate {A = ℕ} 176 0) (zeros 176) (zeros n))
-    ∙ sym (split-zeros n)
-
-pub placed-frame : (d : List ℕ) (h : ℕ) (vals : List ℕ) → placed d h vals ≡ placedIn (frameOf d) h vals
-unfolding placed placedIn emptyIn frameOf
-placed-frame d h vals = ap (λ (img : List ℕ). scatter img (addressesOf d) vals) (blank-same (hidden d) h (areaOf d))
-
-pub gathered-frame : (d img : List ℕ) → gathered d img ≡ gatheredIn (frameOf d) img
-unfolding gathered gatheredIn frameOf
-gathered-frame d img = refl
-
-pub hidden-frame : (d img : List ℕ) → hiddenIn d img ≡ ownAddress (frameOf d) img
-unfolding hiddenIn addressIn ownAddress frameOf
-hidden-frame d img = by (hidden d)
-  where
-    by : (b : Bool) → cond b (number (gather img rdi)) 0 ≡ number (gather img (cond b rdi []))
+    by : (b : Bool) → cond (eqb (length (cond b rdi [])) 0) 0 h ≡ cond b h 0
     by true = refl
     by false = refl
+
+-- ---- the lengths
+
+module _ (d : List ℕ) (v r s : ℕ) where
+  pub lent-right : Lent d v r s → wrongLength (layoutOf d) v r s ≡ false
+  unfolding wrongLength layoutOf
+  lent-right h = rw (eq-eqb v (valuesOf d) (h .values), eq-eqb r 176 (h .registers), eq-eqb s _ (h .stack))
+
+  pub right-lent : verdict d ≡ 0 → wrongLength (layoutOf d) v r s ≡ false → Lent d v r s
+  unfolding wrongLength layoutOf
+  right-lent a h =
+      let p = or-none _ _ h in
+      let q = or-none _ _ (p .1) in
+      record {
+        accepted = a;
+        values = eqb-true _ _ (not-false _ (p .0));
+        registers = eqb-true _ _ (not-false _ (q .0));
+        stack = eqb-true _ _ (not-false _ (q .1));
+      }
+
+-- ---- its orders
+
+-- 1 to 10 are no other number
+pub check-without : (d : List ℕ) (n : ℕ) → 10 < n → Without n (checkOrder d)
+check-without d n l = (
+  (λ z. omega arith),
+  (
+    (λ z. omega arith),
+    (
+      (λ z. omega arith),
+      (
+        (λ z. omega arith),
+        (
+          (λ z. omega arith),
+          ((λ z. omega arith), ((λ z. omega arith), ((λ z. omega arith), ((λ z. omega arith), ((λ z. omega arith), tt))))),
+        ),
+      ),
+    ),
+  ),
+)
+
+address-room : (b : Bool) (h : ℕ) → h < 2 ^ 64 → cond b rdi [] ≢ [] → h < 256 ^ length (cond b rdi [])
+address-room true h l n = l
+address-room false h l n = absurd (n refl)
+
+pub amd64-ordered : Ordered amd64
+unfolding verdict
+amd64-ordered = record {
+  sound = frame-sound;
+  lengths = λ d v r s a. (
+    λ e. let l = right-lent d v r s a e in (l .values ∙ sym (length-all d a), l .registers, l .stack),
+    λ l. lent-right d v r s (record { accepted = a; values = l .0 ∙ length-all d a; registers = l .1; stack = l .2 }),
+  );
+  positive = check-positive;
+  without = λ d. check-without d 12 (omega arith);
+  address-positive = λ d h. tt;
+  address-without = λ d h. tt;
+  fits = λ d h l n. address-room (hidden d) h l;
+  unseen = λ d h g e. refl;
+}
+
+-- what an accepted placing is sure of
+pub placed-lent : (d : List ℕ) (h : ℕ) (vals : List ℕ) (r s : ℕ) → placeRefusal amd64 d h vals r s ≡ 0 → Lent d (length vals) r s
+unfolding verdict
+placed-lent d h vals r s e =
+    let f = gather-fits amd64 amd64-ordered d (length vals) r s (place-accepted amd64 amd64-ordered d h vals r s e .0) in
+    record { accepted = f .accepted; values = f .values ∙ length-all d (f .accepted); registers = f .registers; stack = f .stack }

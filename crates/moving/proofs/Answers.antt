@@ -1,6 +1,6 @@
 -- What the two calls answer and leave, from what they call. Assumes nothing.
 use mathlib.Core.Path.{_≡_, refl, sym, ap, _∙_}
-use mathlib.Core.Bool.{Bool, true, false}
+use mathlib.Core.Bool.{Bool, true, false, cond}
 use mathlib.Core.List.{List, _++_}
 use Prim.Native.Nat.{ℕ, _+_, _≤_, _<_}
 use native.Mathlib.Omega.{arith}
@@ -23,33 +23,49 @@ use Rattle.layout.specs.Layout.{layoutOf, layoutAnswer}
 use Rattle.layout.specs.Verdict.{verdict}
 use Rattle.layout.proofs.Layouts.{laid-accepted, refused-verdict, refused-nonzero}
 use Rattle.images.specs.Words.{number, rdi, addressIn}
-use Rattle.moving.specs.Images.{placed, gathered, hiddenIn}
-use Rattle.moving.specs.Orders.{wrongLength, firstBroken, placeRefusal, gatherRefusal}
+use Rattle.moving.specs.Images.{frameOf, amd64}
+use Rattle.moving.specs.Frames.{placedIn, gatheredIn, ownAddress}
+use Rattle.moving.specs.Orders.{wrongLength, firstBroken, wrongBool, placeRefusal, gatherRefusal}
 use Rattle.moving.specs.Answers.{placeAnswer, registersAfter, stackAfter, gatherAnswer, valuesAfter}
 use Rattle.moving.specs.Asks.{Lent}
 use Rattle.moving.specs.declared.PlaceAnswer.{PlaceAnswer}
 use Rattle.moving.specs.declared.PlaceAnswer.the-variants.{Placed, Refused as NotPlaced}
 use Rattle.moving.specs.declared.GatherAnswer.{GatherAnswer}
 use Rattle.moving.specs.declared.GatherAnswer.the-variants.{Gathered, Refused as NotGathered}
-use Rattle.moving.proofs.Orders.{right-lent, place-verdict, place-eleven, place-twelve, place-none, gather-verdict, gather-eleven, gather-accepted, broken-holds, broken-none}
+use Rattle.moving.proofs.Orders.{gather-before, gather-behind, place-before, place-behind, broken-holds, broken-none}
+use Rattle.moving.proofs.Amd64.{amd64-ordered, right-lent, own-used, own-unused}
+
+-- ---- by which number gathering is refused, and placing too where there is one
+
+module _ (d : List ℕ) (v r s : ℕ) where
+  refused-early : (verdict d ≡ 0 → ⊥) → gatherRefusal amd64 d v r s ≡ verdict d
+  unfolding verdict
+  refused-early n = gather-before amd64 amd64-ordered d v r s n
+
+  by-lengths : verdict d ≡ 0 → (b : Bool) → wrongLength (layoutOf d) v r s ≡ b → gatherRefusal amd64 d v r s ≡ cond b 11 0
+  unfolding verdict
+  by-lengths a b e = gather-behind amd64 amd64-ordered d v r s a b e
 
 -- ---- placing
 
 module _ (d : List ℕ) (h : ℕ) (vals r s : List ℕ) where
   abbrev pub PlaceEnd : PlaceAnswer → List ℕ → List ℕ → Type 0
-  PlaceEnd x r′ s′ = (x ≡ placeAnswer d vals (length r) (length s)) × ((r′ ≡ registersAfter d h vals r s) × (s′ ≡ stackAfter d h vals r s))
+  PlaceEnd x r′ s′ = (x ≡ placeAnswer amd64 d h vals (length r) (length s)) × ((r′ ≡ registersAfter amd64 d h vals r s) × (s′ ≡ stackAfter amd64 d h vals r s))
 
-  place-refused : (x : Refusal) (n : ℕ) → x ≡ refusalFor d n → placeRefusal d vals (length r) (length s) ≡ n → (n ≡ 0 → ⊥) → PlaceEnd (NotPlaced x) r s
+  place-refused : (x : Refusal) (n : ℕ) → x ≡ refusalFor d n → placeRefusal amd64 d h vals (length r) (length s) ≡ n → (n ≡ 0 → ⊥) → PlaceEnd (NotPlaced x) r s
   unfolding placeAnswer registersAfter stackAfter
   place-refused x n e f z =
-      let q = ne-eqb (placeRefusal d vals (length r) (length s)) 0 (λ p. z (sym f ∙ p)) in
+      let q = ne-eqb (placeRefusal amd64 d h vals (length r) (length s)) 0 (λ p. z (sym f ∙ p)) in
       (rw q (ap NotPlaced (e ∙ ap (refusalFor d) (sym f))), (rw q, rw q))
 
-  -- 1 to 10
+  -- 1 to 11
+  place-as-gather : (x : Refusal) (n : ℕ) → x ≡ refusalFor d n → gatherRefusal amd64 d (length vals) (length r) (length s) ≡ n → (n ≡ 0 → ⊥) → PlaceEnd (NotPlaced x) r s
+  place-as-gather x n e f z = place-refused x n e (place-before amd64 amd64-ordered d h vals (length r) (length s) (λ p. z (sym f ∙ p)) ∙ f) z
+
   pub place-laid-not : (x y : Refusal) → layoutAnswer d ≡ Refused y → x ≡ y → PlaceEnd (NotPlaced x) r s
   place-laid-not x y a e =
       let nonzero = refused-nonzero d y a in
-      place-refused x (verdict d) (e ∙ refused-verdict d y a) (place-verdict d vals (length r) (length s) nonzero) nonzero
+      place-as-gather x (verdict d) (e ∙ refused-verdict d y a) (refused-early d (length vals) (length r) (length s) nonzero) nonzero
 
   module _ (l : Layout) (laid : layoutAnswer d ≡ Laid l) where
     same-lengths : (b : Bool) → wrongLength l (length vals) (length r) (length s) ≡ b → wrongLength (layoutOf d) (length vals) (length r) (length s) ≡ b
@@ -57,26 +73,30 @@ module _ (d : List ℕ) (h : ℕ) (vals r s : List ℕ) where
 
     pub place-wrong-length : (x : Refusal) → x ≡ refusalOf 11 → wrongLength l (length vals) (length r) (length s) ≡ true → PlaceEnd (NotPlaced x) r s
     place-wrong-length x e w =
-        place-refused x 11 (e ∙ sym (no-type d 11 refl refl)) (place-eleven d vals (length r) (length s) (laid-accepted d l laid .0) (same-lengths true w)) (λ z. omega arith)
+        place-as-gather x 11 (e ∙ sym (no-type d 11 refl refl)) (by-lengths d (length vals) (length r) (length s) (laid-accepted d l laid .0) true (same-lengths true w)) (λ z. omega arith)
 
     module _ (w : wrongLength l (length vals) (length r) (length s) ≡ false) where
       pub place-lengths : Lent d (length vals) (length r) (length s)
       place-lengths = right-lent d (length vals) (length r) (length s) (laid-accepted d l laid .0) (same-lengths false w)
 
+      place-late : (b : Bool) → wrongBool amd64 d vals ≡ b → placeRefusal amd64 d h vals (length r) (length s) ≡ cond b 12 0
+      place-late b e =
+          place-behind amd64 amd64-ordered d h vals (length r) (length s) (by-lengths d (length vals) (length r) (length s) (place-lengths .accepted) false (same-lengths false w)) tt b e
+
       pub place-hidden : l .hidden ≡ hidden d
       unfolding layoutOf
       place-hidden = ap (λ (x : Layout). x .hidden) (laid-accepted d l laid .1)
 
-      module _ (n m : ℕ) (found : n ≡ firstBroken d vals) (all : m ≡ argumentsIn d) where
+      module _ (n m : ℕ) (found : n ≡ firstBroken amd64 d vals) (all : m ≡ argumentsIn d) where
         pub place-wrong-bool : (x : Refusal) → x ≡ refusalOf 12 → n < m → PlaceEnd (NotPlaced x) r s
         place-wrong-bool x e t =
-            place-refused x 12 (e ∙ sym (no-type d 12 refl refl)) (place-twelve d vals (length r) (length s) place-lengths (broken-holds d vals (omega (arith, found, all)))) (λ z. omega arith)
+            place-refused x 12 (e ∙ sym (no-type d 12 refl refl)) (place-late true (broken-holds amd64 d vals (omega (arith, found, all)))) (λ z. omega arith)
 
-        pub place-done : (r″ s″ : List ℕ) → m ≤ n → length r″ ≡ length r → r″ ++ s″ ≡ placed d h vals → PlaceEnd (Placed (l .used .vector)) r″ s″
+        pub place-done : (r″ s″ : List ℕ) → m ≤ n → length r″ ≡ length r → r″ ++ s″ ≡ placedIn (frameOf d) h vals → PlaceEnd (Placed (l .used .vector)) r″ s″
         unfolding placeAnswer registersAfter stackAfter layoutOf
         place-done r″ s″ t k img =
-            let none = place-none d vals (length r) (length s) place-lengths (broken-none d vals (omega (arith, found, all))) in
-            let q = eq-eqb (placeRefusal d vals (length r) (length s)) 0 none in
+            let none = place-late false (broken-none amd64 d vals (omega (arith, found, all))) in
+            let q = eq-eqb (placeRefusal amd64 d h vals (length r) (length s)) 0 none in
             let long : length r″ ≡ 176 = k ∙ place-lengths .registers in (
               rw q (ap Placed (ap (λ (x : Layout). x .used .vector) (laid-accepted d l laid .1))),
               (rw q (sym (take-at r″ s″ 176 long) ∙ ap (take 176) img), rw q (sym (drop-at r″ s″ 176 long) ∙ ap (drop 176) img)),
@@ -86,18 +106,18 @@ module _ (d : List ℕ) (h : ℕ) (vals r s : List ℕ) where
 
 module _ (d r s v : List ℕ) where
   abbrev pub GatherEnd : GatherAnswer → List ℕ → Type 0
-  GatherEnd x v′ = (x ≡ gatherAnswer d r s (length v)) × (v′ ≡ valuesAfter d r s v)
+  GatherEnd x v′ = (x ≡ gatherAnswer amd64 d r s (length v)) × (v′ ≡ valuesAfter amd64 d r s v)
 
-  gather-refused : (x : Refusal) (n : ℕ) → x ≡ refusalFor d n → gatherRefusal d (length v) (length r) (length s) ≡ n → (n ≡ 0 → ⊥) → GatherEnd (NotGathered x) v
+  gather-refused : (x : Refusal) (n : ℕ) → x ≡ refusalFor d n → gatherRefusal amd64 d (length v) (length r) (length s) ≡ n → (n ≡ 0 → ⊥) → GatherEnd (NotGathered x) v
   unfolding gatherAnswer valuesAfter
   gather-refused x n e f z =
-      let q = ne-eqb (gatherRefusal d (length v) (length r) (length s)) 0 (λ p. z (sym f ∙ p)) in
+      let q = ne-eqb (gatherRefusal amd64 d (length v) (length r) (length s)) 0 (λ p. z (sym f ∙ p)) in
       (rw q (ap NotGathered (e ∙ ap (refusalFor d) (sym f))), rw q)
 
   pub gather-laid-not : (x y : Refusal) → layoutAnswer d ≡ Refused y → x ≡ y → GatherEnd (NotGathered x) v
   gather-laid-not x y a e =
       let nonzero = refused-nonzero d y a in
-      gather-refused x (verdict d) (e ∙ refused-verdict d y a) (gather-verdict d (length v) (length r) (length s) nonzero) nonzero
+      gather-refused x (verdict d) (e ∙ refused-verdict d y a) (refused-early d (length v) (length r) (length s) nonzero) nonzero
 
   module _ (l : Layout) (laid : layoutAnswer d ≡ Laid l) where
     same-lengths-2 : (b : Bool) → wrongLength l (length v) (length r) (length s) ≡ b → wrongLength (layoutOf d) (length v) (length r) (length s) ≡ b
@@ -105,7 +125,7 @@ module _ (d r s v : List ℕ) where
 
     pub gather-wrong-length : (x : Refusal) → x ≡ refusalOf 11 → wrongLength l (length v) (length r) (length s) ≡ true → GatherEnd (NotGathered x) v
     gather-wrong-length x e w =
-        gather-refused x 11 (e ∙ sym (no-type d 11 refl refl)) (gather-eleven d (length v) (length r) (length s) (laid-accepted d l laid .0) (same-lengths-2 true w)) (λ z. omega arith)
+        gather-refused x 11 (e ∙ sym (no-type d 11 refl refl)) (by-lengths d (length v) (length r) (length s) (laid-accepted d l laid .0) true (same-lengths-2 true w)) (λ z. omega arith)
 
     module _ (w : wrongLength l (length v) (length r) (length s) ≡ false) where
       pub gather-lengths : Lent d (length v) (length r) (length s)
@@ -115,22 +135,21 @@ module _ (d r s v : List ℕ) where
       unfolding layoutOf
       gather-first b u e f = f ∙ ap fresh (e ∙ ap (λ (x : Layout). x .hidden) (laid-accepted d l laid .1))
 
-      gather-done : (x : ℕ) (v′ : List ℕ) → x ≡ hiddenIn d (r ++ s) → v′ ≡ gathered d (r ++ s) → GatherEnd (Gathered x) v′
+      gather-done : (x : ℕ) (v′ : List ℕ) → x ≡ ownAddress (frameOf d) (r ++ s) → v′ ≡ gatheredIn (frameOf d) (r ++ s) → GatherEnd (Gathered x) v′
       unfolding gatherAnswer valuesAfter
       gather-done x v′ e f =
-          let q = eq-eqb (gatherRefusal d (length v) (length r) (length s)) 0 (gather-accepted d (length v) (length r) (length s) .1 gather-lengths) in
+          let q = eq-eqb (gatherRefusal amd64 d (length v) (length r) (length s)) 0 (by-lengths d (length v) (length r) (length s) (gather-lengths .accepted) false (same-lengths-2 false w)) in
           (rw q (ap Gathered e), rw q f)
 
       is-hidden : (b : Bool) → l .hidden ≡ b → hidden d ≡ b
       unfolding layoutOf
       is-hidden b e = sym (ap (λ (x : Layout). x .hidden) (laid-accepted d l laid .1)) ∙ e
 
-      pub gather-none : (v′ : List ℕ) → l .hidden ≡ false → v′ ≡ gathered d (r ++ s) → GatherEnd (Gathered 0) v′
-      unfolding hiddenIn
-      gather-none v′ e f = gather-done 0 v′ (rw (is-hidden false e)) f
+      pub gather-none : (v′ : List ℕ) → l .hidden ≡ false → v′ ≡ gatheredIn (frameOf d) (r ++ s) → GatherEnd (Gathered 0) v′
+      gather-none v′ e f = gather-done 0 v′ (sym (own-unused d (r ++ s) (is-hidden false e))) f
 
-      pub gather-address : (x : ℕ) (v′ : List ℕ) → l .hidden ≡ true → x ≡ addressIn r → v′ ≡ gathered d (r ++ s) → GatherEnd (Gathered x) v′
-      unfolding hiddenIn addressIn
+      pub gather-address : (x : ℕ) (v′ : List ℕ) → l .hidden ≡ true → x ≡ addressIn r → v′ ≡ gatheredIn (frameOf d) (r ++ s) → GatherEnd (Gathered x) v′
+      unfolding addressIn
       gather-address x v′ e g f =
           let long : length r ≡ 176 = gather-lengths .registers in
-          gather-done x v′ (rw (is-hidden true e) (g ∙ ap number (sym (gather-left rdi r s (all-run {P = λ p. p < length r} 0 8 (λ k m n. omega arith)))))) f
+          gather-done x v′ (g ∙ ap number (sym (gather-left rdi r s (all-run {P = λ p. p < length r} 0 8 (λ k m n. omega arith)))) ∙ sym (own-used d (r ++ s) (is-hidden true e))) f

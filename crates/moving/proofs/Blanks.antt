@@ -1,37 +1,42 @@
 -- The images before the first argument, and all of them from what is called. Assumes nothing.
-use mathlib.Core.Path.{_≡_, refl, sym, ap, ap₂, _∙_}
+use mathlib.Core.Path.{_≡_, sym, ap, ap₂, _∙_}
 use mathlib.Core.Bool.{Bool, true, false}
-use mathlib.Core.List.{List, _++_, append-assoc}
-use Prim.Native.Nat.{ℕ, _+_}
+use mathlib.Core.List.{List, [], _++_}
+use Prim.Native.Nat.{ℕ, _+_, _<_}
 use native.Mathlib.Omega.{arith}
-use lib.ListN.{length, replicate, replicate-append-replicate}
-use Rattle.addresses.specs.Addresses.{scatter}
+use lib.ListN.{length, replicate, length-replicate, replicate-append-replicate}
+use Rattle.addresses.specs.Addresses.{scatter, Below}
 use Rattle.addresses.specs.Copy.{cleared}
+use Rattle.addresses.proofs.Runs.{all-run}
+use Rattle.addresses.proofs.Parts.{scatter-left}
 use Rattle.layout.specs.Arguments.{hidden, areaOf}
-use Rattle.images.specs.Words.{littleEndian, withAddress}
-use Rattle.moving.specs.Images.{addressesOf, blankBy, placed}
+use Rattle.images.specs.Words.{littleEndian, rdi, withAddress}
+use Rattle.moving.specs.Images.{addressesOf, framed, frameOf}
+use Rattle.moving.specs.Frames.{emptyIn, placedIn}
 
-zeros-two : (n m : ℕ) → _≡_ {A = List ℕ} (replicate n 0 ++ replicate m 0) (replicate (n + m) 0)
-zeros-two n m = replicate-append-replicate n m 0
+module _ (h : ℕ) (r s r′ s′ : List ℕ) (long : length r ≡ 176) (e : r′ ≡ cleared r) (f : s′ ≡ cleared s) where
+  both-cleared : r′ ++ s′ ≡ replicate (176 + length s) 0
+  unfolding cleared
+  both-cleared = rw (e, f, long) (replicate-append-replicate 176 (length s) 0)
 
-pub blank-unused : (h : ℕ) (r s r′ s′ : List ℕ) → length r ≡ 176 → r′ ≡ cleared r → s′ ≡ cleared s → r′ ++ s′ ≡ blankBy false h (length s)
-unfolding cleared blankBy
-blank-unused h r s r′ s′ l e f =
-    let q : 176 + length s ≡ 8 + (168 + length s) = omega arith in
-    rw (e, f, l) (zeros-two 176 (length s) ∙ ap (λ (n : ℕ). replicate n 0) q ∙ sym (zeros-two 8 (168 + length s)))
+  pub blank-unused : r′ ++ s′ ≡ emptyIn (framed false [] (length s)) h
+  unfolding emptyIn
+  blank-unused = both-cleared
 
-address-zeros : (h : ℕ) → withAddress (replicate 176 0) h ≡ littleEndian 8 h ++ replicate 168 0
-unfolding withAddress
-address-zeros h = refl
+  within : Below (length r′) rdi
+  unfolding cleared
+  within = rw (e, length-replicate {A = ℕ} (length r) 0, long) (all-run {P = λ k. k < 176} 0 8 (λ k l m. omega arith))
 
-pub blank-used : (h : ℕ) (r s r′ s′ r″ : List ℕ) → length r ≡ 176 → r′ ≡ cleared r → s′ ≡ cleared s → r″ ≡ withAddress r′ h → r″ ++ s′ ≡ blankBy true h (length s)
-unfolding cleared blankBy
-blank-used h r s r′ s′ r″ l e f g =
-    rw (g, e, f, l, address-zeros h) (append-assoc (littleEndian 8 h) (replicate 168 0) (replicate (length s) 0) ∙ ap (λ (x : List ℕ). littleEndian 8 h ++ x) (zeros-two 168 (length s)))
+  pub blank-used : (r″ : List ℕ) → r″ ≡ withAddress r′ h → r″ ++ s′ ≡ emptyIn (framed true [] (length s)) h
+  unfolding emptyIn withAddress
+  blank-used r″ g =
+      ap (λ (x : List ℕ). x ++ s′) g
+      ∙ sym (scatter-left rdi (littleEndian 8 h) r′ s′ within)
+      ∙ ap (λ (img : List ℕ). scatter img rdi (littleEndian 8 h)) both-cleared
 
 -- all of both images
 pub filled-images : (d : List ℕ) (b : Bool) (h : ℕ) (vals s img jmg : List ℕ) → b ≡ hidden d → length s ≡ areaOf d
-    → img ≡ blankBy b h (length s) → jmg ≡ scatter img (addressesOf d) vals → jmg ≡ placed d h vals
-unfolding placed
+    → img ≡ emptyIn (framed b [] (length s)) h → jmg ≡ scatter img (addressesOf d) vals → jmg ≡ placedIn (frameOf d) h vals
+unfolding placedIn emptyIn
 filled-images d b h vals s img jmg e l f g =
-    g ∙ ap (λ (x : List ℕ). scatter x (addressesOf d) vals) (f ∙ ap₂ (λ (y : Bool) (n : ℕ). blankBy y h n) e l)
+    g ∙ ap (λ (x : List ℕ). scatter x (addressesOf d) vals) (f ∙ ap₂ (λ (y : Bool) (n : ℕ). emptyIn (framed y [] n) h) e l)

@@ -1,5 +1,4 @@
 pub mod Answers
-pub mod Images
 pub mod Frames
 pub mod Amd64
 pub mod Theorems

@@ -22,7 +22,8 @@ use Rattle.layout.specs.Placements.{stepAt}
 use Rattle.layout.specs.declared.placements.Step.{Step}
 use Rattle.layout.proofs.Arguments.{shapes-cons, shapes-end}
 use Rattle.layout.proofs.Bounds.{argument-shaped, all-shaped}
-use Rattle.moving.specs.Images.{addressesOf, gathered}
+use Rattle.moving.specs.Images.{addressesOf, frameOf}
+use Rattle.moving.specs.Frames.{gatheredIn}
 use Rattle.moving.specs.Asks.{Lent}
 use Rattle.moving.proofs.Turns.{right, Turn, turn-first, turn-next, step-size, step-used, step-place, value-inside}
 
@@ -110,10 +111,10 @@ module _ (d r s v₀ : List ℕ) where
     pub turn : Turn d u k i
     pub lent : Lent d (length v) (length r) (length s)
     pub values : length v ≡ length v₀
-    pub same : scatter v (run k (total (rest d i))) (gather (r ++ s) (addresses 176 eights u (rest d i))) ≡ gathered d (r ++ s)
+    pub same : scatter v (run k (total (rest d i))) (gather (r ++ s) (addresses 176 eights u (rest d i))) ≡ gatheredIn (frameOf d) (r ++ s)
 
   pub gathering-first : (u : Used) → Lent d (length v₀) (length r) (length s) → u ≡ usedFirst d → Gathering v₀ u 0 0
-  unfolding gathered addressesOf valuesOf
+  unfolding gatheredIn addressesOf valuesOf
   gathering-first u h e =
       let long : length (gather (r ++ s) (addresses 176 eights (usedFirst d) (shapes d))) ≡ total (shapes d) =
       length-map (addresses 176 eights (usedFirst d) (shapes d)) (λ p. getD (r ++ s) p 0) ∙ length-addresses 176 eights (shapes d) (usedFirst d) (all-shaped d (right d (h .accepted))) in
@@ -152,6 +153,6 @@ module _ (d r s v₀ : List ℕ) where
             ∙ h .same;
       }
 
-  pub gathering-last : (v : List ℕ) (u : Used) (k i : ℕ) → argumentsIn d ≤ i → Gathering v u k i → v ≡ gathered d (r ++ s)
+  pub gathering-last : (v : List ℕ) (u : Used) (k i : ℕ) → argumentsIn d ≤ i → Gathering v u k i → v ≡ gatheredIn (frameOf d) (r ++ s)
   gathering-last v u k i l h =
       ap (λ (ss : List Shape). scatter v (run k (total ss)) (gather (r ++ s) (addresses 176 eights u ss))) (sym (shapes-end d i (argumentsIn d) l)) ∙ h .same

@@ -1,181 +1,137 @@
--- Which number refuses placing and gathering, and what is sure where none does. Assumes nothing.
+-- Which number refuses placing and gathering, and what is sure where none does, of any layout whose orders are as they should be. Assumes nothing.
 use mathlib.Core.Path.{_≡_, refl, sym, _∙_}
 use mathlib.Core.Bool.{Bool, true, false, cond, and-eq-true-iff, true≢false}
 use mathlib.Core.List.{List, [], _∷_, _++_}
-use mathlib.Core.Logic.{_↔_, _≢_}
-use Prim.Native.Nat.{ℕ, zero, suc, _+_, _≤_, _<_}
+use mathlib.Core.Logic.{_≢_}
+use Prim.Native.Nat.{ℕ, _≤_, _<_}
 use native.Mathlib.Omega.{arith}
-use borrow.Author.Tests.{eq-eqb, eqb-true, lt-ltb, le-ltb, ltb-true, ltb-false, not-false}
+use borrow.Author.Tests.{eq-eqb, eqb-true, lt-ltb, le-ltb, ltb-true, ltb-false}
 use lib.Dec.{eqb, ltb}
 use lib.ListN.{length, getD}
 use Rattle.description.specs.Description.{argumentsIn, kindAt, aAt, argumentAt}
-use Rattle.form.specs.Order.{rule, Answers, Without}
-use Rattle.form.proofs.Order.{refuses-exactly, accepts-exactly, first-before, first-behind, first-both, none-till, held}
+use Rattle.form.specs.Order.{Rule, rule, first, NoneHolds, Positive, Without}
+use Rattle.form.proofs.Order.{accepts-exactly, first-before, first-behind, first-both, none-till, held, positive-append, without-append}
 use Rattle.form.proofs.Search.{first-holds, first-least}
-use Rattle.form.proofs.Form.{or-none}
-use Rattle.layout.specs.Layout.{valuesOf, layoutOf}
-use Rattle.layout.specs.Verdict.{checkOrder, verdict}
-use Rattle.moving.specs.Orders.{wrongLength, isBool, brokenByte, brokenBool, firstBroken, wrongBool, BrokenAt, gatherOrder, placeOrder, gatherRefusal, placeRefusal}
-use Rattle.moving.specs.Asks.{Lent}
-use Rattle.moving.specs.Images.{valueStart}
-use Rattle.layout.proofs.Verdict.{check-positive}
+use Rattle.moving.specs.Movers.{Mover, Ordered}
+use Rattle.moving.specs.Orders.{isBool, brokenByte, brokenBool, firstBroken, wrongBool, BrokenAt, gatherOrder, gatherRefusal, placeRefusal}
 
--- 1 to 10 are no other number
-pub check-without : (d : List ℕ) (n : ℕ) → 10 < n → Without n (checkOrder d)
-check-without d n l = (
-  (λ z. omega arith),
-  (
-    (λ z. omega arith),
-    (
-      (λ z. omega arith),
-      (
-        (λ z. omega arith),
-        (
-          (λ z. omega arith),
-          ((λ z. omega arith), ((λ z. omega arith), ((λ z. omega arith), ((λ z. omega arith), ((λ z. omega arith), tt))))),
-        ),
-      ),
-    ),
-  ),
-)
-
-module _ (d : List ℕ) where
-  -- ---- the lengths
-
-  pub lent-right : (v r s : ℕ) → Lent d v r s → wrongLength (layoutOf d) v r s ≡ false
-  unfolding wrongLength layoutOf
-  lent-right v r s h = rw (eq-eqb v (valuesOf d) (h .values), eq-eqb r 176 (h .registers), eq-eqb s _ (h .stack))
-
-  pub right-lent : (v r s : ℕ) → verdict d ≡ 0 → wrongLength (layoutOf d) v r s ≡ false → Lent d v r s
-  unfolding wrongLength layoutOf
-  right-lent v r s a h =
-      let p = or-none _ _ h in
-      let q = or-none _ _ (p .1) in
-      record {
-        accepted = a;
-        values = eqb-true _ _ (not-false _ (p .0));
-        registers = eqb-true _ _ (not-false _ (q .0));
-        stack = eqb-true _ _ (not-false _ (q .1));
-      }
-
-  -- ---- gathering
+module _ (M : Mover) (O : Ordered M) (d : List ℕ) where
+  -- ---- gathering: 1 to 11
 
   module _ (v r s : ℕ) where
-    pub gather-verdict : (verdict d ≡ 0 → ⊥) → gatherRefusal d v r s ≡ verdict d
-    unfolding gatherRefusal verdict
-    gather-verdict h = first-before (checkOrder d) (rule 11 (wrongLength (layoutOf d) v r s) ∷ []) h
+    abbrev eleven : List Rule
+    eleven = rule 11 (M .wrongLength d v r s) ∷ []
 
-    gather-behind : verdict d ≡ 0 → (b : Bool) → wrongLength (layoutOf d) v r s ≡ b → gatherRefusal d v r s ≡ cond b 11 0
-    unfolding gatherRefusal verdict
-    gather-behind a b e = first-behind (checkOrder d) (rule 11 (wrongLength (layoutOf d) v r s) ∷ []) (check-positive d) a ∙ rw e
-
-    pub gather-eleven : verdict d ≡ 0 → wrongLength (layoutOf d) v r s ≡ true → gatherRefusal d v r s ≡ 11
-    gather-eleven a e = gather-behind a true e
-
-    gather-lent : gatherRefusal d v r s ≡ 0 → Lent d v r s
-    unfolding gatherRefusal verdict
-    gather-lent h =
-        let both = first-both (checkOrder d) (rule 11 (wrongLength (layoutOf d) v r s) ∷ []) (check-positive d) h in
-        right-lent v r s (both .0) (accepts-exactly (rule 11 (wrongLength (layoutOf d) v r s) ∷ []) (omega arith, tt) .0 (both .1) .0)
-
-    -- gathering is accepted exactly when the description is and the lengths are right
-    pub gather-accepted : (gatherRefusal d v r s ≡ 0) ↔ Lent d v r s
-    gather-accepted = (gather-lent, λ h. gather-behind (h .accepted) false (lent-right v r s h))
-
-    -- the number is n exactly where condition n holds and none before it
-    pub gather-exactly : (n : ℕ) → n ≢ 0 → (gatherRefusal d v r s ≡ n) ↔ Answers (gatherOrder d v r s) n
+    pub gather-before : first (M .order d) ≢ 0 → gatherRefusal M d v r s ≡ first (M .order d)
     unfolding gatherRefusal
-    gather-exactly n h = refuses-exactly (gatherOrder d v r s) n h
+    gather-before n = first-before (M .order d) eleven n
 
-  -- ---- placing
+    pub gather-behind : first (M .order d) ≡ 0 → (b : Bool) → M .wrongLength d v r s ≡ b → gatherRefusal M d v r s ≡ cond b 11 0
+    unfolding gatherRefusal
+    gather-behind a b e = first-behind (M .order d) eleven (O .positive d) a ∙ rw e
 
-  module _ (vals : List ℕ) (r s : ℕ) where
-    pub place-verdict : (verdict d ≡ 0 → ⊥) → placeRefusal d vals r s ≡ verdict d
-    unfolding placeRefusal verdict
-    place-verdict h = first-before (checkOrder d) (rule 11 (wrongLength (layoutOf d) (length vals) r s) ∷ rule 12 (wrongBool d vals) ∷ []) h
+    -- accepted, the description is, its images are sound, and the lengths are theirs
+    pub record Fits : Type 0 where
+      pub accepted : first (M .order d) ≡ 0
+      pub values : v ≡ length (M .frame d .places)
+      pub registers : r ≡ M .frame d .registers
+      pub stack : s ≡ M .frame d .stack
 
-    place-behind : verdict d ≡ 0 → (a b : Bool) → wrongLength (layoutOf d) (length vals) r s ≡ a → wrongBool d vals ≡ b
-        → placeRefusal d vals r s ≡ cond a 11 (cond b 12 0)
-    unfolding placeRefusal verdict
-    place-behind ok a b e f =
-        first-behind (checkOrder d) (rule 11 (wrongLength (layoutOf d) (length vals) r s) ∷ rule 12 (wrongBool d vals) ∷ []) (check-positive d) ok ∙ rw (e, f)
+    pub gather-fits : gatherRefusal M d v r s ≡ 0 → Fits
+    unfolding gatherRefusal
+    gather-fits e =
+        let both = first-both (M .order d) eleven (O .positive d) e in
+        let l = O .lengths d v r s (both .0) .0 (accepts-exactly eleven (omega arith, tt) .0 (both .1) .0) in
+        record { accepted = both .0; values = l .0; registers = l .1; stack = l .2 }
 
-    pub place-eleven : verdict d ≡ 0 → wrongLength (layoutOf d) (length vals) r s ≡ true → placeRefusal d vals r s ≡ 11
-    place-eleven ok e = place-behind ok true _ e refl
+    pub fits-gather : Fits → gatherRefusal M d v r s ≡ 0
+    fits-gather f = gather-behind (f .accepted) false (O .lengths d v r s (f .accepted) .1 (f .values, f .registers, f .stack))
 
-    pub place-twelve : Lent d (length vals) r s → wrongBool d vals ≡ true → placeRefusal d vals r s ≡ 12
-    place-twelve h e = place-behind (h .accepted) false true (lent-right (length vals) r s h) e
+    gather-positive : Positive (gatherOrder M d v r s)
+    gather-positive = positive-append (M .order d) eleven (O .positive d) (omega arith, tt)
 
-    pub place-none : Lent d (length vals) r s → wrongBool d vals ≡ false → placeRefusal d vals r s ≡ 0
-    place-none h e = place-behind (h .accepted) false false (lent-right (length vals) r s h) e
+    gather-without : Without 12 (gatherOrder M d v r s)
+    gather-without = without-append (M .order d) eleven 12 (O .without d) ((λ z. omega arith), tt)
 
-    place-lent : placeRefusal d vals r s ≡ 0 → Lent d (length vals) r s × (wrongBool d vals ≡ false)
-    unfolding placeRefusal verdict
-    place-lent h =
-        let both = first-both (checkOrder d) (rule 11 (wrongLength (layoutOf d) (length vals) r s) ∷ rule 12 (wrongBool d vals) ∷ []) (check-positive d) h in
-        let none = accepts-exactly (rule 11 (wrongLength (layoutOf d) (length vals) r s) ∷ rule 12 (wrongBool d vals) ∷ []) (omega arith, (omega arith, tt)) .0 (both .1) in
-        (right-lent (length vals) r s (both .0) (none .0), none .1 .0)
+  -- ---- placing: these, and then its own
 
-    -- placing is accepted exactly when the description is, the lengths are right, and no _Bool is broken
-    pub place-accepted : (placeRefusal d vals r s ≡ 0) ↔ (Lent d (length vals) r s × (wrongBool d vals ≡ false))
-    place-accepted = (place-lent, λ h. place-none (h .0) (h .1))
+  module _ (h : ℕ) (vals : List ℕ) (r s : ℕ) where
+    abbrev twelve : List Rule
+    twelve = rule 12 (wrongBool M d vals) ∷ []
 
-    pub place-exactly : (n : ℕ) → n ≢ 0 → (placeRefusal d vals r s ≡ n) ↔ Answers (placeOrder d vals r s) n
-    unfolding placeRefusal
-    place-exactly n h = refuses-exactly (placeOrder d vals r s) n h
+    pub place-before : gatherRefusal M d (length vals) r s ≢ 0 → placeRefusal M d h vals r s ≡ gatherRefusal M d (length vals) r s
+    unfolding gatherRefusal placeRefusal
+    place-before n = first-before (gatherOrder M d (length vals) r s) (M .addressOrder d h ++ twelve) n
 
-    pub twelve-lent : placeRefusal d vals r s ≡ 12 → Lent d (length vals) r s × (wrongBool d vals ≡ true)
-    unfolding placeRefusal verdict
-    twelve-lent h =
-        let ok : verdict d ≡ 0 = none-till (checkOrder d) (rule 11 (wrongLength (layoutOf d) (length vals) r s) ∷ rule 12 (wrongBool d vals) ∷ []) 12 (check-without d 12 (omega arith)) h in
-        let late = held (rule 11 (wrongLength (layoutOf d) (length vals) r s) ∷ []) 12 (wrongBool d vals) [] (omega arith, tt) (λ z. omega arith) ((λ z. omega arith), tt) tt
-        (sym (first-behind (checkOrder d) (rule 11 (wrongLength (layoutOf d) (length vals) r s) ∷ rule 12 (wrongBool d vals) ∷ []) (check-positive d) ok) ∙ h) in
-        (right-lent (length vals) r s ok (late .0 .0), late .1)
+    pub place-behind : gatherRefusal M d (length vals) r s ≡ 0 → NoneHolds (M .addressOrder d h) → (b : Bool) → wrongBool M d vals ≡ b
+        → placeRefusal M d h vals r s ≡ cond b 12 0
+    unfolding gatherRefusal placeRefusal
+    place-behind a n b e =
+        first-behind (gatherOrder M d (length vals) r s) (M .addressOrder d h ++ twelve) (gather-positive (length vals) r s) a
+        ∙ first-behind (M .addressOrder d h) twelve (O .address-positive d h) (accepts-exactly (M .addressOrder d h) (O .address-positive d h) .1 n)
+        ∙ rw e
 
-  -- ---- the _Bool arguments
+    pub place-accepted : placeRefusal M d h vals r s ≡ 0
+        → (gatherRefusal M d (length vals) r s ≡ 0) × NoneHolds (M .addressOrder d h) × (wrongBool M d vals ≡ false)
+    unfolding gatherRefusal placeRefusal
+    place-accepted e =
+        let both = first-both (gatherOrder M d (length vals) r s) (M .addressOrder d h ++ twelve) (gather-positive (length vals) r s) e in
+        let late = first-both (M .addressOrder d h) twelve (O .address-positive d h) (both .1) in
+        (both .0, accepts-exactly (M .addressOrder d h) (O .address-positive d h) .0 (late .0), accepts-exactly twelve (omega arith, tt) .0 (late .1) .0)
 
-  module _ (vals : List ℕ) where
-    pub broken-holds : firstBroken d vals < argumentsIn d → wrongBool d vals ≡ true
-    unfolding wrongBool
-    broken-holds h = lt-ltb (firstBroken d vals) (argumentsIn d) h
+    pub place-twelve : placeRefusal M d h vals r s ≡ 12
+        → (gatherRefusal M d (length vals) r s ≡ 0) × NoneHolds (M .addressOrder d h) × (wrongBool M d vals ≡ true)
+    unfolding gatherRefusal placeRefusal
+    place-twelve e =
+        let ok = none-till (gatherOrder M d (length vals) r s) (M .addressOrder d h ++ twelve) 12 (gather-without (length vals) r s) e in
+        let late = held (M .addressOrder d h) 12 (wrongBool M d vals) [] (O .address-positive d h) (λ z. omega arith) (O .address-without d h) tt
+        (sym (first-behind (gatherOrder M d (length vals) r s) (M .addressOrder d h ++ twelve) (gather-positive (length vals) r s) ok) ∙ e) in
+        (ok, late .0, late .1)
 
-    pub broken-none : argumentsIn d ≤ firstBroken d vals → wrongBool d vals ≡ false
-    unfolding wrongBool
-    broken-none h = le-ltb (firstBroken d vals) (argumentsIn d) h
+-- ---- the _Bool arguments
 
-    broken-at : (i : ℕ) → i < argumentsIn d → brokenBool d vals i ≡ true → BrokenAt d vals i
-    unfolding brokenByte isBool
-    broken-at i l e =
-        let p = and-eq-true-iff (isBool d (argumentAt d i)) (ltb 1 (getD vals (valueStart d i) 0)) .0 e in
-        let q = and-eq-true-iff (eqb (kindAt d (argumentAt d i)) 0) (eqb (aAt d (argumentAt d i)) 0) .0 (p .0) in
-        record { there = l; kind = eqb-true _ _ (q .0); code = eqb-true _ _ (q .1); byte = ltb-true _ _ (p .1) }
+module _ (M : Mover) (d vals : List ℕ) where
+  pub broken-holds : firstBroken M d vals < argumentsIn d → wrongBool M d vals ≡ true
+  unfolding wrongBool
+  broken-holds h = lt-ltb (firstBroken M d vals) (argumentsIn d) h
 
-    at-broken : (i : ℕ) → BrokenAt d vals i → brokenBool d vals i ≡ true
-    unfolding brokenByte isBool
-    at-broken i b = rw (eq-eqb _ 0 (b .kind), eq-eqb _ 0 (b .code), lt-ltb 1 _ (b .byte))
+  pub broken-none : argumentsIn d ≤ firstBroken M d vals → wrongBool M d vals ≡ false
+  unfolding wrongBool
+  broken-none h = le-ltb (firstBroken M d vals) (argumentsIn d) h
 
-    -- some _Bool argument is broken, or none is
-    pub broken-some : wrongBool d vals ≡ true → (i : ℕ) × BrokenAt d vals i
-    unfolding wrongBool
-    broken-some e =
-        let l = ltb-true (firstBroken d vals) (argumentsIn d) e in
-        (firstBroken d vals, broken-at (firstBroken d vals) l (first-holds (brokenBool d vals) 0 (argumentsIn d) (omega arith)))
+  broken-at : (i : ℕ) → i < argumentsIn d → brokenBool M d vals i ≡ true → BrokenAt M d vals i
+  unfolding brokenByte isBool
+  broken-at i l e =
+      let p = and-eq-true-iff (isBool d (argumentAt d i)) (ltb 1 (getD vals (M .start d i) 0)) .0 e in
+      let q = and-eq-true-iff (eqb (kindAt d (argumentAt d i)) 0) (eqb (aAt d (argumentAt d i)) 0) .0 (p .0) in
+      record { there = l; kind = eqb-true _ _ (q .0); code = eqb-true _ _ (q .1); byte = ltb-true _ _ (p .1) }
 
-    pub broken-never : wrongBool d vals ≡ false → (i : ℕ) → BrokenAt d vals i → ⊥
-    unfolding wrongBool
-    broken-never e i b =
-        true≢false (sym (at-broken i b) ∙ first-least (brokenBool d vals) 0 (argumentsIn d) i (omega arith) (omega (arith, b .there, ltb-false (firstBroken d vals) (argumentsIn d) e)))
+  at-broken : (i : ℕ) → BrokenAt M d vals i → brokenBool M d vals i ≡ true
+  unfolding brokenByte isBool
+  at-broken i b = rw (eq-eqb _ 0 (b .kind), eq-eqb _ 0 (b .code), lt-ltb 1 _ (b .byte))
 
-    pub some-broken : (i : ℕ) → BrokenAt d vals i → wrongBool d vals ≡ true
-    some-broken i b = by (wrongBool d vals) refl
-      where
-        by : (x : Bool) → wrongBool d vals ≡ x → wrongBool d vals ≡ true
-        by true e = e
-        by false e = absurd (broken-never e i b)
+  -- some _Bool argument is broken, or none is
+  pub broken-some : wrongBool M d vals ≡ true → (i : ℕ) × BrokenAt M d vals i
+  unfolding wrongBool
+  broken-some e =
+      let l = ltb-true (firstBroken M d vals) (argumentsIn d) e in
+      (firstBroken M d vals, broken-at (firstBroken M d vals) l (first-holds (brokenBool M d vals) 0 (argumentsIn d) (omega arith)))
 
-    pub never-broken : ((i : ℕ) → BrokenAt d vals i → ⊥) → wrongBool d vals ≡ false
-    never-broken f = by (wrongBool d vals) refl
-      where
-        by : (x : Bool) → wrongBool d vals ≡ x → wrongBool d vals ≡ false
-        by true e = let b = broken-some e in absurd (f (b .0) (b .1))
-        by false e = e
+  pub broken-never : wrongBool M d vals ≡ false → (i : ℕ) → BrokenAt M d vals i → ⊥
+  unfolding wrongBool
+  broken-never e i b =
+      true≢false (sym (at-broken i b) ∙ first-least (brokenBool M d vals) 0 (argumentsIn d) i (omega arith) (omega (arith, b .there, ltb-false (firstBroken M d vals) (argumentsIn d) e)))
+
+  pub some-broken : (i : ℕ) → BrokenAt M d vals i → wrongBool M d vals ≡ true
+  some-broken i b = by (wrongBool M d vals) refl
+    where
+      by : (x : Bool) → wrongBool M d vals ≡ x → wrongBool M d vals ≡ true
+      by true e = e
+      by false e = absurd (broken-never e i b)
+
+  pub never-broken : ((i : ℕ) → BrokenAt M d vals i → ⊥) → wrongBool M d vals ≡ false
+  never-broken f = by (wrongBool M d vals) refl
+    where
+      by : (x : Bool) → wrongBool M d vals ≡ x → wrongBool M d vals ≡ false
+      by true e = let b = broken-some e in absurd (f (b .0) (b .1))
+      by false e = e

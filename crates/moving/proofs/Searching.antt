@@ -16,7 +16,7 @@ use Rattle.types.specs.Decode.{tyAt}
 use Rattle.layout.specs.Arguments.{shapeAt}
 use Rattle.layout.specs.Layout.{valuesOf}
 use Rattle.layout.specs.Verdict.{verdict}
-use Rattle.moving.specs.Images.{valueStart}
+use Rattle.moving.specs.Images.{valueStart, amd64}
 use Rattle.moving.specs.Orders.{isBool, brokenByte, brokenBool, firstBroken}
 use Rattle.moving.proofs.Turns.{known, start-none, start-next, size-is, value-some, value-inside, values-small}
 
@@ -27,7 +27,7 @@ module _ (d vals : List ℕ) where
     pub values : length vals ≡ valuesOf d
     pub bound : i ≤ argumentsIn d
     pub begins : start ≡ valueStart d i
-    pub same : firstFrom (brokenBool d vals) i (argumentsIn d - i) ≡ firstBroken d vals
+    pub same : firstFrom (brokenBool amd64 d vals) i (argumentsIn d - i) ≡ firstBroken amd64 d vals
 
   pub searching-first : verdict d ≡ 0 → length vals ≡ valuesOf d → Searching 0 0
   searching-first a v = record {
@@ -35,7 +35,7 @@ module _ (d vals : List ℕ) where
     values = v;
     bound = omega arith;
     begins = sym (start-none d);
-    same = ap (firstFrom (brokenBool d vals) 0) (sub-zero (argumentsIn d));
+    same = ap (firstFrom (brokenBool amd64 d vals) 0) (sub-zero (argumentsIn d));
   }
 
   module _ (start i : ℕ) (h : Searching start i) where
@@ -44,11 +44,11 @@ module _ (d vals : List ℕ) where
       searching-byte = omega (arith, h .begins, h .values, value-inside d (h .accepted) i l, value-some d (h .accepted) i l)
 
       module _ (k byte : ℕ) (e : k ≡ argumentAt d i) (f : byte ≡ getD vals start 0) where
-        same-test : brokenByte d k byte ≡ brokenBool d vals i
+        same-test : brokenByte d k byte ≡ brokenBool amd64 d vals i
         same-test = ap₂ (brokenByte d) e (f ∙ ap (λ (n : ℕ). getD vals n 0) (h .begins))
 
-        pub searching-stop : brokenByte d k byte ≡ true → i ≡ firstBroken d vals
-        searching-stop t = sym (search-stop (brokenBool d vals) i (argumentsIn d) l (sym same-test ∙ t)) ∙ h .same
+        pub searching-stop : brokenByte d k byte ≡ true → i ≡ firstBroken amd64 d vals
+        searching-stop t = sym (search-stop (brokenBool amd64 d vals) i (argumentsIn d) l (sym same-test ∙ t)) ∙ h .same
 
         module _ (size : ℕ) (g : size ≡ sizeTy (modelIn d) (tyAt d k)) where
           size-right : size ≡ shapeAt d i .size
@@ -63,11 +63,11 @@ module _ (d vals : List ℕ) where
             values = h .values;
             bound = omega arith;
             begins = omega (arith, q, size-right, h .begins, start-next d i);
-            same = search-on (brokenBool d vals) i (argumentsIn d) l (sym same-test ∙ t) ∙ h .same;
+            same = search-on (brokenBool amd64 d vals) i (argumentsIn d) l (sym same-test ∙ t) ∙ h .same;
           }
 
-    pub searching-end : argumentsIn d ≤ i → i ≡ firstBroken d vals
-    searching-end l = sym (search-end (brokenBool d vals) i (argumentsIn d) l) ∙ h .same
+    pub searching-end : argumentsIn d ≤ i → i ≡ firstBroken amd64 d vals
+    searching-end l = sym (search-end (brokenBool amd64 d vals) i (argumentsIn d) l) ∙ h .same
 
 -- ---- no type is _Bool
 
@@ -75,12 +75,12 @@ quiet : (d : List ℕ) → firstFrom (isBool d) 0 (typesIn d) ≡ typesIn d → 
 unfolding brokenByte
 quiet d e k byte l = rw (first-least (isBool d) 0 (typesIn d) k (omega arith) (omega (arith, e)))
 
-pub none-broken : (d vals : List ℕ) → verdict d ≡ 0 → (r t a : ℕ) → r ≡ firstFrom (isBool d) 0 (typesIn d) → t ≡ typesIn d → r ≡ t → a ≡ argumentsIn d → a ≡ firstBroken d vals
-none-broken d vals ok r t a f g e h = by (ltb (firstBroken d vals) (argumentsIn d)) refl
+pub none-broken : (d vals : List ℕ) → verdict d ≡ 0 → (r t a : ℕ) → r ≡ firstFrom (isBool d) 0 (typesIn d) → t ≡ typesIn d → r ≡ t → a ≡ argumentsIn d → a ≡ firstBroken amd64 d vals
+none-broken d vals ok r t a f g e h = by (ltb (firstBroken amd64 d vals) (argumentsIn d)) refl
   where
-    by : (b : Bool) → ltb (firstBroken d vals) (argumentsIn d) ≡ b → a ≡ firstBroken d vals
+    by : (b : Bool) → ltb (firstBroken amd64 d vals) (argumentsIn d) ≡ b → a ≡ firstBroken amd64 d vals
     by true x =
-        let l = ltb-true (firstBroken d vals) (argumentsIn d) x in
-        absurd (true≢false (sym (first-holds (brokenBool d vals) 0 (argumentsIn d) (omega (arith, l)))
-        ∙ quiet d (sym f ∙ e ∙ g) (argumentAt d (firstBroken d vals)) _ (known d ok (firstBroken d vals) l)))
-    by false x = omega (arith, h, ltb-false (firstBroken d vals) (argumentsIn d) x, first-bound (brokenBool d vals) 0 (argumentsIn d))
+        let l = ltb-true (firstBroken amd64 d vals) (argumentsIn d) x in
+        absurd (true≢false (sym (first-holds (brokenBool amd64 d vals) 0 (argumentsIn d) (omega (arith, l)))
+        ∙ quiet d (sym f ∙ e ∙ g) (argumentAt d (firstBroken amd64 d vals)) _ (known d ok (firstBroken amd64 d vals) l)))
+    by false x = omega (arith, h, ltb-false (firstBroken amd64 d vals) (argumentsIn d) x, first-bound (brokenBool amd64 d vals) 0 (argumentsIn d))

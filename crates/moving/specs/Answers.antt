@@ -1,42 +1,41 @@
--- What placing and gathering answer, and what they leave in the lent buffers: document 01, "A refusal returns its number only and writes
+-- What placing and gathering answer, and what they leave in the lent buffers, of any layout: document 01, "A refusal returns its number only and writes
 -- nothing". Assumes nothing: these are definitions.
 use mathlib.Core.Bool.{cond}
 use mathlib.Core.List.{List, _++_}
 use Prim.Native.Nat.{ℕ}
 use lib.Dec.{eqb}
 use lib.ListN.{length, take, drop}
-use Rattle.description.specs.Description.{argumentsIn}
-use Rattle.types.specs.Wrong.{refusalFor}
-use Rattle.layout.specs.Arguments.{usedAt}
-use Rattle.moving.specs.Images.{placed, gathered, hiddenIn}
+use Rattle.moving.specs.Frames.{placedIn, gatheredIn, ownAddress}
+use Rattle.moving.specs.Movers.{Mover}
 use Rattle.moving.specs.Orders.{placeRefusal, gatherRefusal}
 use Rattle.moving.specs.declared.PlaceAnswer.{PlaceAnswer}
 use Rattle.moving.specs.declared.PlaceAnswer.the-variants.{Placed, Refused as NotPlaced}
 use Rattle.moving.specs.declared.GatherAnswer.{GatherAnswer}
 use Rattle.moving.specs.declared.GatherAnswer.the-variants.{Gathered, Refused as NotGathered}
 
--- "The vector count (for al) is the number of vector registers used"
-unfoldable pub placeAnswer : List ℕ → List ℕ → ℕ → ℕ → PlaceAnswer
-placeAnswer d values registersLength stackLength =
-    cond (eqb (placeRefusal d values registersLength stackLength) 0) (Placed (usedAt d (argumentsIn d) .vector))
-    (NotPlaced (refusalFor d (placeRefusal d values registersLength stackLength)))
+module _ (M : Mover) where
+  -- the vector count
+  unfoldable pub placeAnswer : List ℕ → ℕ → List ℕ → ℕ → ℕ → PlaceAnswer
+  placeAnswer d h values registersLength stackLength =
+      cond (eqb (placeRefusal M d h values registersLength stackLength) 0) (Placed (M .count d))
+      (NotPlaced (M .told d (placeRefusal M d h values registersLength stackLength)))
 
--- the register image and the stack image at exit, r and s at entry
-unfoldable pub registersAfter : List ℕ → ℕ → List ℕ → List ℕ → List ℕ → List ℕ
-registersAfter d h values r s = cond (eqb (placeRefusal d values (length r) (length s)) 0) (take 176 (placed d h values)) r
+  -- the register image and the stack image at exit, r and s at entry
+  unfoldable pub registersAfter : List ℕ → ℕ → List ℕ → List ℕ → List ℕ → List ℕ
+  registersAfter d h values r s = cond (eqb (placeRefusal M d h values (length r) (length s)) 0) (take (M .frame d .registers) (placedIn (M .frame d) h values)) r
 
-unfoldable pub stackAfter : List ℕ → ℕ → List ℕ → List ℕ → List ℕ → List ℕ
-stackAfter d h values r s = cond (eqb (placeRefusal d values (length r) (length s)) 0) (drop 176 (placed d h values)) s
+  unfoldable pub stackAfter : List ℕ → ℕ → List ℕ → List ℕ → List ℕ → List ℕ
+  stackAfter d h values r s = cond (eqb (placeRefusal M d h values (length r) (length s)) 0) (drop (M .frame d .registers) (placedIn (M .frame d) h values)) s
 
--- the hidden address, 0 where none is used
-unfoldable pub gatherAnswer : List ℕ → List ℕ → List ℕ → ℕ → GatherAnswer
-gatherAnswer d r s valuesLength =
-    cond (eqb (gatherRefusal d valuesLength (length r) (length s)) 0) (Gathered (hiddenIn d (r ++ s)))
-    (NotGathered (refusalFor d (gatherRefusal d valuesLength (length r) (length s))))
+  -- the hidden address, 0 where none is used
+  unfoldable pub gatherAnswer : List ℕ → List ℕ → List ℕ → ℕ → GatherAnswer
+  gatherAnswer d r s valuesLength =
+      cond (eqb (gatherRefusal M d valuesLength (length r) (length s)) 0) (Gathered (ownAddress (M .frame d) (r ++ s)))
+      (NotGathered (M .told d (gatherRefusal M d valuesLength (length r) (length s))))
 
--- the values at exit, v at entry
-unfoldable pub valuesAfter : List ℕ → List ℕ → List ℕ → List ℕ → List ℕ
-valuesAfter d r s v = cond (eqb (gatherRefusal d (length v) (length r) (length s)) 0) (gathered d (r ++ s)) v
+  -- the values at exit, v at entry
+  unfoldable pub valuesAfter : List ℕ → List ℕ → List ℕ → List ℕ → List ℕ
+  valuesAfter d r s v = cond (eqb (gatherRefusal M d (length v) (length r) (length s)) 0) (gatheredIn (M .frame d) (r ++ s)) v
 
 -- the paper's number of an answer: 0 where it is accepted
 abbrev pub placeNumber : PlaceAnswer → ℕ

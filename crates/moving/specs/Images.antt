@@ -1,15 +1,19 @@
--- The two images of a call, as one list: document 01, "Images and moving bytes", "The register image is 176 bytes .. The stack image is
--- the rounded area". Of any bytes. Assumes nothing: these are definitions.
+-- The two images of a call, as document 01 has them: "The register image is 176 bytes .. The stack image is the rounded area". Of any bytes. Assumes
+-- nothing: these are definitions.
 use mathlib.Core.Bool.{Bool, cond}
-use mathlib.Core.List.{List, [], _++_}
-use Prim.Native.Nat.{ℕ, _+_}
-use lib.ListN.{replicate}
-use Rattle.addresses.specs.Addresses.{gather, scatter}
+use mathlib.Core.List.{List, []}
+use Prim.Native.Nat.{ℕ}
+use Rattle.description.specs.Description.{argumentsIn}
+use Rattle.types.specs.Wrong.{refusalFor}
 use Rattle.places.specs.Images.{addresses, total}
-use Rattle.layout.specs.Arguments.{shapesFrom, shapes, hidden, usedFirst, areaOf}
-use Rattle.images.specs.Words.{littleEndian, rdi, addressIn}
 use Rattle.places.specs.Places.{eights}
+use Rattle.layout.specs.Arguments.{shapesFrom, shapes, hidden, usedFirst, usedAt, areaOf}
+use Rattle.layout.specs.Verdict.{checkOrder}
+use Rattle.layout.specs.Layout.{layoutOf}
+use Rattle.images.specs.Words.{rdi}
 use Rattle.moving.specs.Frames.{Frame}
+use Rattle.moving.specs.Movers.{Mover}
+use Rattle.moving.specs.Orders.{wrongLength}
 
 -- the address of each value byte, "argument after argument"
 unfoldable pub addressesOf : List ℕ → List ℕ
@@ -19,26 +23,21 @@ addressesOf d = addresses 176 eights (usedFirst d) (shapes d)
 unfoldable pub valueStart : List ℕ → ℕ → ℕ
 valueStart d i = total (shapesFrom d 0 i)
 
--- no argument placed yet: "zero everywhere else in both images. The hidden address, little-endian, fills rdi where it is used", by
--- whether it is, with so many bytes of stack
-unfoldable pub blankBy : Bool → ℕ → ℕ → List ℕ
-blankBy used h stackLength = cond used (littleEndian 8 h) (replicate 8 0) ++ replicate (168 + stackLength) 0
+-- values at these addresses, so many bytes of stack, and "The hidden address .. fills rdi where it is used": by whether it is
+abbrev pub framed : Bool → List ℕ → ℕ → Frame
+framed used places stackLength = record { places = places; address = cond used rdi []; registers = 176; stack = stackLength }
 
-abbrev pub blank : List ℕ → ℕ → List ℕ
-blank d h = blankBy (hidden d) h (areaOf d)
+abbrev pub frameOf : List ℕ → Frame
+frameOf d = framed (hidden d) (addressesOf d) (areaOf d)
 
--- "Placing copies each value byte to its place"
-unfoldable pub placed : List ℕ → ℕ → List ℕ → List ℕ
-placed d h values = scatter (blank d h) (addressesOf d) values
-
--- "Gathering does the reverse"
-unfoldable pub gathered : List ℕ → List ℕ → List ℕ
-gathered d image = gather image (addressesOf d)
-
--- "rdi's hidden address", where it is used, and else 0
-unfoldable pub hiddenIn : List ℕ → List ℕ → ℕ
-hiddenIn d image = cond (hidden d) (addressIn image) 0
-
--- what the images of a description are: the 176 bytes of the registers and the stack area, the hidden address in rdi
-unfoldable pub frameOf : List ℕ → Frame
-frameOf d = record { places = addressesOf d; address = cond (hidden d) rdi []; long = 176 + areaOf d }
+-- placing and gathering of document 01: no hidden address is refused, and the vector count is "the number of vector registers used"
+abbrev pub amd64 : Mover
+amd64 = record {
+  frame = frameOf;
+  start = valueStart;
+  order = checkOrder;
+  wrongLength = λ d. wrongLength (layoutOf d);
+  addressOrder = λ d h. [];
+  count = λ d. usedAt d (argumentsIn d) .vector;
+  told = refusalFor;
+}

@@ -1,5 +1,5 @@
 -- When placing and gathering are refused: document 01, "Refusal numbers", "Placing and gathering: 1..10, 11, then 12 (placing only)".
--- Of any bytes. Assumes nothing: these are definitions.
+-- Of any bytes, and the orders of any layout. Assumes nothing: these are definitions.
 use mathlib.Core.Path.{_≡_}
 use mathlib.Core.Bool.{Bool, not, _&&_, _||_}
 use mathlib.Core.List.{List, [], _∷_, _++_}
@@ -10,9 +10,7 @@ use Rattle.description.specs.Description.{argumentsIn, kindAt, aAt, argumentAt}
 use Rattle.form.specs.Search.{firstFrom}
 use Rattle.form.specs.Order.{Rule, rule, first}
 use Rattle.layout.specs.declared.Layout.{Layout}
-use Rattle.layout.specs.Verdict.{checkOrder}
-use Rattle.layout.specs.Layout.{layoutOf}
-use Rattle.moving.specs.Images.{valueStart}
+use Rattle.moving.specs.Movers.{Mover}
 
 -- 11: "a lent buffer of wrong length". The values are those of all arguments, "the register image is 176 bytes", "the stack image is
 -- the rounded area"; neither less nor more
@@ -23,40 +21,43 @@ wrongLength l valuesLength registersLength stackLength = not (eqb valuesLength (
 unfoldable pub isBool : List ℕ → ℕ → Bool
 isBool d k = eqb (kindAt d k) 0 && eqb (aAt d k) 0
 
--- "A _Bool argument's byte must be 0 or 1; one inside an aggregate may be anything": of type k, and neither; and of argument i
+-- "A _Bool argument's byte must be 0 or 1; one inside an aggregate may be anything": of type k, and neither
 unfoldable pub brokenByte : List ℕ → ℕ → ℕ → Bool
 brokenByte d k byte = isBool d k && ltb 1 byte
 
-abbrev pub brokenBool : List ℕ → List ℕ → ℕ → Bool
-brokenBool d values i = brokenByte d (argumentAt d i) (getD values (valueStart d i) 0)
+module _ (M : Mover) where
+  -- and of argument i
+  abbrev pub brokenBool : List ℕ → List ℕ → ℕ → Bool
+  brokenBool d values i = brokenByte d (argumentAt d i) (getD values (M .start d i) 0)
 
--- the first such argument, or A where there is none
-abbrev pub firstBroken : List ℕ → List ℕ → ℕ
-firstBroken d values = firstFrom (brokenBool d values) 0 (argumentsIn d)
+  -- the first such argument, or A where there is none
+  abbrev pub firstBroken : List ℕ → List ℕ → ℕ
+  firstBroken d values = firstFrom (brokenBool d values) 0 (argumentsIn d)
 
--- 12: "_Bool argument byte not 0 or 1"
-unfoldable pub wrongBool : List ℕ → List ℕ → Bool
-wrongBool d values = ltb (firstBroken d values) (argumentsIn d)
+  -- 12: "_Bool argument byte not 0 or 1"
+  unfoldable pub wrongBool : List ℕ → List ℕ → Bool
+  wrongBool d values = ltb (firstBroken d values) (argumentsIn d)
 
--- argument i's own record is that of _Bool, and its byte is neither 0 nor 1
-pub record BrokenAt (d values : List ℕ) (i : ℕ) : Type 0 where
-  pub there : i < argumentsIn d
-  pub kind : kindAt d (argumentAt d i) ≡ 0
-  pub code : aAt d (argumentAt d i) ≡ 0
-  pub byte : 1 < getD values (valueStart d i) 0
+  -- argument i's own record is that of _Bool, and its byte is neither 0 nor 1
+  pub record BrokenAt (d values : List ℕ) (i : ℕ) : Type 0 where
+    pub there : i < argumentsIn d
+    pub kind : kindAt d (argumentAt d i) ≡ 0
+    pub code : aAt d (argumentAt d i) ≡ 0
+    pub byte : 1 < getD values (M .start d i) 0
 
--- 1 to 11
-abbrev pub gatherOrder : List ℕ → ℕ → ℕ → ℕ → List Rule
-gatherOrder d valuesLength registersLength stackLength = checkOrder d ++ rule 11 (wrongLength (layoutOf d) valuesLength registersLength stackLength) ∷ []
+  -- 1 to 11
+  abbrev pub gatherOrder : List ℕ → ℕ → ℕ → ℕ → List Rule
+  gatherOrder d valuesLength registersLength stackLength = M .order d ++ rule 11 (M .wrongLength d valuesLength registersLength stackLength) ∷ []
 
--- 1 to 12
-abbrev pub placeOrder : List ℕ → List ℕ → ℕ → ℕ → List Rule
-placeOrder d values registersLength stackLength = checkOrder d ++ rule 11 (wrongLength (layoutOf d) (length values) registersLength stackLength) ∷ rule 12 (wrongBool d values) ∷ []
+  -- and, behind them, what refuses the hidden address h, then 12
+  abbrev pub placeOrder : List ℕ → ℕ → List ℕ → ℕ → ℕ → List Rule
+  placeOrder d h values registersLength stackLength =
+      gatherOrder d (length values) registersLength stackLength ++ (M .addressOrder d h ++ rule 12 (wrongBool d values) ∷ [])
 
--- which of them refuses gathering into so many value bytes, from images of these lengths; or 0
-unfoldable pub gatherRefusal : List ℕ → ℕ → ℕ → ℕ → ℕ
-gatherRefusal d valuesLength registersLength stackLength = first (gatherOrder d valuesLength registersLength stackLength)
+  -- which of them refuses gathering into so many value bytes, from images of these lengths; or 0
+  unfoldable pub gatherRefusal : List ℕ → ℕ → ℕ → ℕ → ℕ
+  gatherRefusal d valuesLength registersLength stackLength = first (gatherOrder d valuesLength registersLength stackLength)
 
--- and placing these values
-unfoldable pub placeRefusal : List ℕ → List ℕ → ℕ → ℕ → ℕ
-placeRefusal d values registersLength stackLength = first (placeOrder d values registersLength stackLength)
+  -- and placing the hidden address h and these values
+  unfoldable pub placeRefusal : List ℕ → ℕ → List ℕ → ℕ → ℕ → ℕ
+  placeRefusal d h values registersLength stackLength = first (placeOrder d h values registersLength stackLength)

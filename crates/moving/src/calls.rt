@@ -7,6 +7,7 @@ use layout::LayoutAnswer;
 use units::Bytes;
 ghost use mathlib.Core.Path.{_≡_};
 ghost use lib.ListN.{length};
+ghost use Rattle.moving.specs.Images.{amd64};
 ghost use Rattle.moving.specs.Answers.{placeAnswer, registersAfter, stackAfter, gatherAnswer, valuesAfter};
 
 // Places packed values: every byte of both images is written, or none.
@@ -17,9 +18,9 @@ pub fn place_values(
     registers: &mut [u8],
     stack: &mut [u8],
 ) -> PlaceAnswer
-    ensures { λ r. ⌜ (r ≡ placeAnswer (now (d .entry)) (now (values .entry)) (length (now (registers .entry))) (length (now (stack .entry))))
-        × ((now (registers .exit) ≡ registersAfter (now (d .entry)) hidden (now (values .entry)) (now (registers .entry)) (now (stack .entry)))
-        × (now (stack .exit) ≡ stackAfter (now (d .entry)) hidden (now (values .entry)) (now (registers .entry)) (now (stack .entry)))) ⌝ }
+    ensures { λ r. ⌜ (r ≡ placeAnswer amd64 (now (d .entry)) hidden (now (values .entry)) (length (now (registers .entry))) (length (now (stack .entry))))
+        × ((now (registers .exit) ≡ registersAfter amd64 (now (d .entry)) hidden (now (values .entry)) (now (registers .entry)) (now (stack .entry)))
+        × (now (stack .exit) ≡ stackAfter amd64 (now (d .entry)) hidden (now (values .entry)) (now (registers .entry)) (now (stack .entry)))) ⌝ }
 {
     let mut table = [0u32; 64];
     let answer = layout::layout_with(d, &mut table);
@@ -44,8 +45,8 @@ pub fn place_values(
 
 // Gathers the values again, packed, and answers the hidden address.
 pub fn gather_values(d: &[u8], registers: &[u8], stack: &[u8], values: &mut [u8]) -> GatherAnswer
-    ensures { λ r. ⌜ (r ≡ gatherAnswer (now (d .entry)) (now (registers .entry)) (now (stack .entry)) (length (now (values .entry))))
-        × (now (values .exit) ≡ valuesAfter (now (d .entry)) (now (registers .entry)) (now (stack .entry)) (now (values .entry))) ⌝ }
+    ensures { λ r. ⌜ (r ≡ gatherAnswer amd64 (now (d .entry)) (now (registers .entry)) (now (stack .entry)) (length (now (values .entry))))
+        × (now (values .exit) ≡ valuesAfter amd64 (now (d .entry)) (now (registers .entry)) (now (stack .entry)) (now (values .entry))) ⌝ }
 {
     let mut table = [0u32; 64];
     let answer = layout::layout_with(d, &mut table);

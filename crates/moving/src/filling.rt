@@ -2,9 +2,10 @@
 use places::Used;
 use units::Bytes;
 ghost use mathlib.Core.Path.{_≡_};
-ghost use mathlib.Core.List.{_++_};
+ghost use mathlib.Core.List.{[], _++_};
 ghost use lib.ListN.{length};
-ghost use Rattle.moving.specs.Images.{blankBy, addressesOf, placed, gathered};
+ghost use Rattle.moving.specs.Images.{addressesOf, framed, frameOf};
+ghost use Rattle.moving.specs.Frames.{emptyIn, placedIn, gatheredIn};
 ghost use Rattle.addresses.specs.Addresses.{scatter};
 ghost use Rattle.classify.specs.Table.{Tabled};
 ghost use Rattle.layout.specs.Arguments.{hidden, usedFirst};
@@ -15,7 +16,7 @@ ghost use Rattle.moving.specs.Asks.{Lent};
 // Zeros, and the hidden address in rdi where it is used.
 fn blank_images(used: bool, address: u64, registers: &mut [u8], stack: &mut [u8])
     requires { ⌜ length (now registers) ≡ 176 ⌝ }
-    ensures { λ _. ⌜ now (registers .exit) ++ now (stack .exit) ≡ blankBy used address (length (now (stack .entry))) ⌝ }
+    ensures { λ _. ⌜ now (registers .exit) ++ now (stack .exit) ≡ emptyIn (framed used [] (length (now (stack .entry)))) address ⌝ }
 {
     addresses::clear(registers);
     addresses::clear(stack);
@@ -70,7 +71,7 @@ pub fn fill_images(
 )
     requires { ⌜ Lent (now d) (length (now values)) (length (now registers)) (length (now stack)) × (used ≡ hidden (now d))
         × Tabled (now d) (now table) ⌝ }
-    ensures { λ _. ⌜ now (registers .exit) ++ now (stack .exit) ≡ placed (now (d .entry)) address (now (values .entry)) ⌝ }
+    ensures { λ _. ⌜ now (registers .exit) ++ now (stack .exit) ≡ placedIn (frameOf (now (d .entry))) address (now (values .entry)) ⌝ }
 {
     blank_images(used, address, registers, stack);
     place_all(d, places::fresh(used), values, registers, stack, table);
@@ -87,7 +88,7 @@ pub fn gather_all(
 )
     requires { ⌜ Lent (now d) (length (now values)) (length (now registers)) (length (now stack)) × (first ≡ usedFirst (now d))
         × Tabled (now d) (now table) ⌝ }
-    ensures { λ _. ⌜ now (values .exit) ≡ gathered (now (d .entry)) (now (registers .entry) ++ now (stack .entry)) ⌝ }
+    ensures { λ _. ⌜ now (values .exit) ≡ gatheredIn (frameOf (now (d .entry))) (now (registers .entry) ++ now (stack .entry)) ⌝ }
 {
     let arguments = description::byte_at(d, 8);
     let mut used = first;

@@ -3,6 +3,7 @@ use layout::Layout;
 use units::Bytes;
 ghost use mathlib.Core.Path.{_≡_};
 ghost use Rattle.moving.specs.Orders.{wrongLength, isBool, brokenByte, firstBroken};
+ghost use Rattle.moving.specs.Images.{amd64};
 ghost use Prim.Native.Nat.{_<_};
 ghost use Rattle.description.specs.Description.{typesIn, Whole};
 ghost use lib.ListN.{length};
@@ -71,7 +72,7 @@ fn first_bool(d: &[u8]) -> usize
 // The first _Bool argument whose byte is not 0 or 1, or the number of arguments, argument by argument.
 fn search_broken(d: &[u8], values: &[u8], table: &[u32; 64]) -> usize
     requires { ⌜ (verdict (now d) ≡ 0) × (length (now values) ≡ valuesOf (now d)) × Tabled (now d) (now table) ⌝ }
-    ensures { λ r. ⌜ r ≡ firstBroken (now (d .entry)) (now (values .entry)) ⌝ }
+    ensures { λ r. ⌜ r ≡ firstBroken amd64 (now (d .entry)) (now (values .entry)) ⌝ }
 {
     let arguments = description::byte_at(d, 8);
     let mut start = Bytes(0);
@@ -91,7 +92,7 @@ fn search_broken(d: &[u8], values: &[u8], table: &[u32; 64]) -> usize
 // The first _Bool argument whose byte is not 0 or 1, or the number of arguments. Where no type is _Bool there is none to search for.
 pub fn first_broken(d: &[u8], values: &[u8], table: &[u32; 64]) -> usize
     requires { ⌜ (verdict (now d) ≡ 0) × (length (now values) ≡ valuesOf (now d)) × Tabled (now d) (now table) ⌝ }
-    ensures { λ r. ⌜ r ≡ firstBroken (now (d .entry)) (now (values .entry)) ⌝ }
+    ensures { λ r. ⌜ r ≡ firstBroken amd64 (now (d .entry)) (now (values .entry)) ⌝ }
 {
     if first_bool(d) == description::byte_at(d, 5) {
         return description::byte_at(d, 8);

@@ -23,6 +23,7 @@ use Rattle.layout.specs.Placements.{placementAt}
 use Rattle.layout.specs.Lists.{listRefusal, listCount, filled}
 use Rattle.layout.proofs.Verdict.{accepted-uses}
 use Rattle.layout.proofs.Records.{accepted-bounded}
+use Rattle.moving.specs.Images.{amd64}
 use Rattle.moving.specs.Orders.{placeRefusal, gatherRefusal}
 use Rattle.moving.specs.Answers.{registersAfter, stackAfter, valuesAfter}
 use Rattle.returning.specs.Orders.{putRefusal, takeRefusal}
@@ -68,7 +69,7 @@ unfolding verdict listRefusal placeRefusal gatherRefusal
 a2-layout = record {
   layout-of = λ d. answered refl (layout-means d);
   lay-out = λ d room. answered refl (list-means d room);
-  place-values = λ d values registers stack. answered refl (placing-means d values registers stack);
+  place-values = λ d h values registers stack. answered refl (placing-means d h values registers stack);
   gather-values = λ d r s values. answered refl (gathering-means d r s values);
 }
 
@@ -98,9 +99,9 @@ unfolding filled registersAfter stackAfter valuesAfter imageAfter valueAfter
 a3 = record {
   lay-out = λ d list h. ap (λ n. filled (placementAt d) n list) (count-none d (length list) (λ e. h (decided-number _ _ (list-means d (length list)) ∙ e)));
   place-values = λ d h values r s n.
-      let e = ne-eqb (placeRefusal d values (length r) (length s)) 0 (λ e. n (decided-number _ _ (placing-means d values (length r) (length s)) ∙ e)) in
+      let e = ne-eqb (placeRefusal amd64 d h values (length r) (length s)) 0 (λ e. n (decided-number _ _ (placing-means d h values (length r) (length s)) ∙ e)) in
       (rw e refl, rw e refl);
-  gather-values = λ d r s v n. rw (ne-eqb (gatherRefusal d (length v) (length r) (length s)) 0 (λ e. n (decided-number _ _ (gathering-means d r s (length v)) ∙ e))) refl;
+  gather-values = λ d r s v n. rw (ne-eqb (gatherRefusal amd64 d (length v) (length r) (length s)) 0 (λ e. n (decided-number _ _ (gathering-means d r s (length v)) ∙ e))) refl;
   put-returned = λ d h v i n. rw (ne-eqb (putRefusal d v (length i)) 0 (λ e. n (decided-number _ _ (putting-means d v (length i)) ∙ e))) refl;
   take-returned = λ d i v n. rw (ne-eqb (takeRefusal d i (length v)) 0 (λ e. n (decided-number _ _ (taking-means d i (length v)) ∙ e))) refl;
   attach = λ s seat d h. (sym (attach-left kcb s seat d h .0), sym (attach-left kcb s seat d h .1));

@@ -39,7 +39,9 @@ use Rattle.layout.proofs.Verdict.{accepted-uses}
 use Rattle.layout.specs.Verdict.{verdict}
 use Rattle.cases.proofs.Cases.{cases-hold}
 use Rattle.cases.proofs.Listings.{listings-hold}
+use Rattle.moving.specs.Images.{amd64}
 use Rattle.moving.proofs.Theorems.{places-all, address-unseen, gathers-placed, places-gathered, unused-unseen, twelve-exactly}
+use Rattle.moving.proofs.Amd64.{amd64-ordered}
 use Rattle.station.specs.Paper.{kcb}
 use Rattle.walk.proofs.Steps.{step-done}
 use Rattle.walk.proofs.Agreement.{none-used}
@@ -169,12 +171,12 @@ b7 = record {
 
 b8 : B8-B12-Moving
 b8 = record {
-  places-all = places-all;
-  address-unseen = address-unseen;
-  gathers-placed = gathers-placed;
-  places-gathered = places-gathered;
-  unused-unseen = unused-unseen;
-  twelve-exactly = twelve-exactly;
+  places-all = places-all amd64 amd64-ordered;
+  address-unseen = address-unseen amd64 amd64-ordered;
+  gathers-placed = gathers-placed amd64 amd64-ordered;
+  places-gathered = places-gathered amd64 amd64-ordered;
+  unused-unseen = unused-unseen amd64 amd64-ordered;
+  twelve-exactly = twelve-exactly amd64 amd64-ordered;
 }
 
 b13 : B13-Steps

@@ -4,7 +4,9 @@ use mathlib.Core.List.{List, _++_}
 use Prim.Native.Nat.{ℕ}
 use Rattle.addresses.specs.Addresses.{All}
 use Rattle.images.specs.Words.{littleEndian}
+use Rattle.moving.specs.Images.{amd64}
 use Rattle.moving.proofs.Theorems.{no-shared-image}
+use Rattle.moving.proofs.Amd64.{amd64-ordered}
 use Rattle.station.specs.Paper.{kcb}
 use Rattle.station.specs.Attachment.{seatOf}
 use Rattle.station.proofs.Attachments.{attach-done}
@@ -87,7 +89,7 @@ pub demand-3 : Demand3
 demand-3 = record {
   places = c1-c2;
   alignment = c3;
-  no-shared-image = no-shared-image;
+  no-shared-image = no-shared-image amd64 amd64-ordered;
   starts = c5;
   reached = c6;
   stale = c7;

@@ -33,7 +33,9 @@ use Rattle.layout.specs.Placements.{placementAt}
 use Rattle.layout.specs.Lists.{listRefusal, listCount, filled}
 use Rattle.layout.proofs.Lists.{list-accepted}
 use Rattle.moving.specs.declared.GatherAnswer.the-variants.{Gathered as GatheredBack}
-use Rattle.moving.specs.Images.{addressesOf, gathered}
+use Rattle.moving.specs.Images.{addressesOf, amd64}
+use Rattle.moving.specs.Frames.{gatheredIn}
+use Rattle.moving.proofs.Amd64.{passed-hidden}
 use Rattle.moving.specs.Orders.{placeRefusal, gatherRefusal}
 use Rattle.moving.specs.Answers.{placeAnswer, gatherAnswer, registersAfter, stackAfter, valuesAfter}
 use Rattle.returning.specs.declared.TakeAnswer.the-variants.{Taken as TakenOut}
@@ -216,28 +218,28 @@ lays-out-flat d old list =
 -- ---- moving
 
 places-flat : (d : List ℕ) (h : ℕ) (values q s : List ℕ) (old : Placed)
-    → PlacesFlat d h values q s old (refusalIn (placedGiven (placeAnswer d values (length q) (length s)))) (leftIn (placedGiven (placeAnswer d values (length q) (length s))) old)
-    (registersAfter d h values q s) (stackAfter d h values q s)
+    → PlacesFlat d h values q s old (refusalIn (placedGiven (placeAnswer amd64 d h values (length q) (length s)))) (leftIn (placedGiven (placeAnswer amd64 d h values (length q) (length s))) old)
+    (registersAfter amd64 d h values q s) (stackAfter amd64 d h values q s)
 places-flat d h values q s old =
-    let t = placed-told d values (length q) (length s) in
-    let m = placing-means d values (length q) (length s) in
+    let t = placed-told d h values (length q) (length s) in
+    let m = placing-means d h values (length q) (length s) in
     record {
-      count = fills (λ (p : Placed). p .vector .0) d _ _ old _ (placeRefusal d values (length q) (length s)) _ _ t (λ z. refl) (demand-1 .layout .place-values d values (length q) (length s)) m (wrong-type .place-values d values (length q) (length s));
+      count = fills (λ (p : Placed). p .vector .0) d _ _ old _ (placeRefusal amd64 d h values (length q) (length s)) _ _ t (λ z. refl) (demand-1 .layout .place-values d h values (length q) (length s)) m (wrong-type .place-values d h values (length q) (length s));
       refused = λ n. demand-1 .frame .place-values d h values q s (λ z. n (told-number t ∙ sym (decided-number _ _ m) ∙ z));
-      placed = λ z. demand-2 .moving .places-all d h values q s (sym (told-number t) ∙ z) (registersAfter d h values q s ++ stackAfter d h values q s) .0 refl;
+      placed = λ z. demand-2 .moving .places-all d h values q s (sym (told-number t) ∙ z) (registersAfter amd64 d h values q s ++ stackAfter amd64 d h values q s) .0 refl;
     }
 
-gathers-all : (d r s v : List ℕ) → gatherRefusal d (length v) (length r) (length s) ≡ 0 → valuesAfter d r s v ≡ gather (r ++ s) (addressesOf d)
-unfolding valuesAfter gathered
-gathers-all d r s v e = rw (eq-eqb (gatherRefusal d (length v) (length r) (length s)) 0 e) refl
+gathers-all : (d r s v : List ℕ) → gatherRefusal amd64 d (length v) (length r) (length s) ≡ 0 → valuesAfter amd64 d r s v ≡ gather (r ++ s) (addressesOf d)
+unfolding valuesAfter gatheredIn
+gathers-all d r s v e = rw (eq-eqb (gatherRefusal amd64 d (length v) (length r) (length s)) 0 e) refl
 
 gathers-flat : (d q s v : List ℕ) (old : Gathered)
-    → GathersFlat d q s v old (refusalIn (gatheredGiven (gatherAnswer d q s (length v)))) (leftIn (gatheredGiven (gatherAnswer d q s (length v))) old) (valuesAfter d q s v)
+    → GathersFlat d q s v old (refusalIn (gatheredGiven (gatherAnswer amd64 d q s (length v)))) (leftIn (gatheredGiven (gatherAnswer amd64 d q s (length v))) old) (valuesAfter amd64 d q s v)
 gathers-flat d q s v old =
     let t = gathered-told d q s (length v) in
     let m = gathering-means d q s (length v) in
     record {
-      address = fills (λ (g : Gathered). g .hidden) d _ _ old _ (gatherRefusal d (length v) (length q) (length s)) _ _ t (λ z. refl) (demand-1 .layout .gather-values d q s (length v)) m (wrong-type .gather-values d (length v) (length q) (length s));
+      address = fills (λ (g : Gathered). g .hidden) d _ _ old _ (gatherRefusal amd64 d (length v) (length q) (length s)) _ _ t (λ z. refl) (demand-1 .layout .gather-values d q s (length v)) m (wrong-type .gather-values d (length v) (length q) (length s));
       refused = λ n. demand-1 .frame .gather-values d q s v (λ z. n (told-number t ∙ sym (decided-number _ _ m) ∙ z));
       gathered = λ z. gathers-all d q s v (sym (told-number t) ∙ z);
     }
@@ -459,18 +461,18 @@ exports = record {
 
 -- ---- two calls
 
-back : (d : List ℕ) (h : ℕ) (values r s d′ r′ s′ v : List ℕ) → h < 2 ^ 64 → placeRefusal d values (length r) (length s) ≡ 0
-    → d′ ≡ d → r′ ≡ registersAfter d h values r s → s′ ≡ stackAfter d h values r s → length v ≡ length values
-    → (gatherAnswer d′ r′ s′ (length v) ≡ GatheredBack (cond (hidden d) h 0)) × (valuesAfter d′ r′ s′ v ≡ values)
-back d h values r s d′ r′ s′ v small p e f g l = rw (e, f, g) (demand-2 .moving .gathers-placed d h values r s v small p l)
+back : (d : List ℕ) (h : ℕ) (values r s d′ r′ s′ v : List ℕ) → h < 2 ^ 64 → placeRefusal amd64 d h values (length r) (length s) ≡ 0
+    → d′ ≡ d → r′ ≡ registersAfter amd64 d h values r s → s′ ≡ stackAfter amd64 d h values r s → length v ≡ length values
+    → (gatherAnswer amd64 d′ r′ s′ (length v) ≡ GatheredBack (cond (hidden d) h 0)) × (valuesAfter amd64 d′ r′ s′ v ≡ values)
+back d h values r s d′ r′ s′ v small p e f g l = rw (e, f, g, ← passed-hidden d h) (demand-2 .moving .gathers-placed d h values r s v small p l)
 
 -- an accepted placing is accepted by its order
-placing-zero : (d values : List ℕ) (q s : ℕ) (r : Refusal) → r ≡ refusalIn (placedGiven (placeAnswer d values q s)) → r .number ≡ 0 → placeRefusal d values q s ≡ 0
-placing-zero d values q s r e z = sym (told-number (placed-told d values q s)) ∙ sym (ap (λ (x : Refusal). x .number) e) ∙ z
+placing-zero : (d : List ℕ) (h : ℕ) (values : List ℕ) (q s : ℕ) (r : Refusal) → r ≡ refusalIn (placedGiven (placeAnswer amd64 d h values q s)) → r .number ≡ 0 → placeRefusal amd64 d h values q s ≡ 0
+placing-zero d h values q s r e z = sym (told-number (placed-told d h values q s)) ∙ sym (ap (λ (x : Refusal). x .number) e) ∙ z
 
 pub gathers-back : GathersBack
 gathers-back c r w a z small e q v b k =
-    let right = placing-zero (now (c .passed .0)) (now (c .passed .1 .1 .0)) (length (now (c .passed .1 .1 .1 .0))) (length (now (c .passed .1 .1 .1 .1 .0))) r (told (result cb_place_values.ended c) (a .ensured) (λ f. f .0)) z in
+    let right = placing-zero (now (c .passed .0)) (c .passed .1 .0) (now (c .passed .1 .1 .0)) (length (now (c .passed .1 .1 .1 .0))) (length (now (c .passed .1 .1 .1 .1 .0))) r (told (result cb_place_values.ended c) (a .ensured) (λ f. f .0)) z in
     let t = back (now (c .passed .0)) (c .passed .1 .0) (now (c .passed .1 .1 .0)) (now (c .passed .1 .1 .1 .0)) (now (c .passed .1 .1 .1 .1 .0))
     (now (e .passed .0)) (now (e .passed .1 .0)) (now (e .passed .1 .1 .0)) (now (e .passed .1 .1 .1 .0)) small right (k .description)
     (k .registers ∙ told bytes (a .ensured) (λ f. f .1 .1 .0)) (k .stack ∙ told bytes (a .ensured) (λ f. f .1 .1 .1)) (k .values) in (
@@ -481,19 +483,19 @@ gathers-back c r w a z small e q v b k =
       ),
     )
 
-never-same : (d : List ℕ) (h : ℕ) (values r s d′ : List ℕ) (h′ : ℕ) (others q t : List ℕ) → d′ ≡ d → h′ ≡ h
-    → placeRefusal d values (length r) (length s) ≡ 0 → placeRefusal d′ others (length q) (length t) ≡ 0
-    → registersAfter d h values r s ≡ registersAfter d′ h′ others q t → stackAfter d h values r s ≡ stackAfter d′ h′ others q t → values ≡ others
-never-same d h values r s d′ h′ others q t e f p o g k =
-    demand-3 .no-shared-image d h values others r s q t p (subst (λ x. placeRefusal x others (length q) (length t) ≡ 0) e o)
-    (g ∙ ap₂ (λ (x : List ℕ) (y : ℕ). registersAfter x y others q t) e f) (k ∙ ap₂ (λ (x : List ℕ) (y : ℕ). stackAfter x y others q t) e f)
+never-same : (d : List ℕ) (h : ℕ) (values r s d′ : List ℕ) (h′ : ℕ) (others q t : List ℕ) → d′ ≡ d
+    → placeRefusal amd64 d h values (length r) (length s) ≡ 0 → placeRefusal amd64 d′ h′ others (length q) (length t) ≡ 0
+    → registersAfter amd64 d h values r s ≡ registersAfter amd64 d′ h′ others q t → stackAfter amd64 d h values r s ≡ stackAfter amd64 d′ h′ others q t → values ≡ others
+never-same d h values r s d′ h′ others q t e p o g k =
+    demand-3 .no-shared-image d h h′ values others r s q t p (subst (λ x. placeRefusal amd64 x h′ others (length q) (length t) ≡ 0) e o)
+    (g ∙ ap (λ (x : List ℕ). registersAfter amd64 x h′ others q t) e) (k ∙ ap (λ (x : List ℕ). stackAfter amd64 x h′ others q t) e)
 
 pub never-the-same : NeverTheSame
 never-the-same c e r w q v a b z y d h registers stack =
     never-same (now (c .passed .0)) (c .passed .1 .0) (now (c .passed .1 .1 .0)) (now (c .passed .1 .1 .1 .0)) (now (c .passed .1 .1 .1 .1 .0))
-    (now (e .passed .0)) (e .passed .1 .0) (now (e .passed .1 .1 .0)) (now (e .passed .1 .1 .1 .0)) (now (e .passed .1 .1 .1 .1 .0)) d h
-    (placing-zero _ _ _ _ r (told (result cb_place_values.ended c) (a .ensured) (λ f. f .0)) z)
-    (placing-zero _ _ _ _ q (told (result cb_place_values.ended e) (b .ensured) (λ f. f .0)) y)
+    (now (e .passed .0)) (e .passed .1 .0) (now (e .passed .1 .1 .0)) (now (e .passed .1 .1 .1 .0)) (now (e .passed .1 .1 .1 .1 .0)) d
+    (placing-zero _ _ _ _ _ r (told (result cb_place_values.ended c) (a .ensured) (λ f. f .0)) z)
+    (placing-zero _ _ _ _ _ q (told (result cb_place_values.ended e) (b .ensured) (λ f. f .0)) y)
     (sym (told bytes (a .ensured) (λ f. f .1 .1 .0)) ∙ registers ∙ told bytes (b .ensured) (λ f. f .1 .1 .0))
     (sym (told bytes (a .ensured) (λ f. f .1 .1 .1)) ∙ stack ∙ told bytes (b .ensured) (λ f. f .1 .1 .1))
 

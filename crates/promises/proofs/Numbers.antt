@@ -25,7 +25,8 @@ use Rattle.layout.specs.Verdict.{verdict}
 use Rattle.layout.specs.Layout.{layoutOf, layoutAnswer}
 use Rattle.layout.specs.Lists.{listRefusal, listAnswer}
 use Rattle.layout.specs.declared.LayoutAnswer.the-variants.{Laid, Refused as NotLaid}
-use Rattle.moving.specs.Images.{hiddenIn}
+use Rattle.moving.specs.Images.{frameOf, amd64}
+use Rattle.moving.specs.Frames.{ownAddress}
 use Rattle.moving.specs.Orders.{placeRefusal, gatherRefusal}
 use Rattle.moving.specs.Answers.{placeAnswer, gatherAnswer}
 use Rattle.moving.specs.declared.PlaceAnswer.the-variants.{Placed, Refused as NotPlaced}
@@ -93,15 +94,15 @@ pub list-means : (d : List ℕ) (room : ℕ) → ofLayout (listAnswer d room) �
 unfolding listAnswer refusalFor refusalBy refusalAt
 list-means d room = decided ofLayout (Laid (layoutOf d)) (λ n. NotLaid (refusalFor d n)) (layoutOf d) refl (λ n. refl) (listRefusal d room)
 
-pub placing-means : (d values : List ℕ) (r s : ℕ) → ofPlacing (placeAnswer d values r s) ≡ outcome (placeRefusal d values r s) (usedAt d (argumentsIn d) .vector .0)
+pub placing-means : (d : List ℕ) (h : ℕ) (values : List ℕ) (r s : ℕ) → ofPlacing (placeAnswer amd64 d h values r s) ≡ outcome (placeRefusal amd64 d h values r s) (usedAt d (argumentsIn d) .vector .0)
 unfolding placeAnswer refusalFor refusalBy refusalAt
-placing-means d values r s =
-    decided ofPlacing (Placed (usedAt d (argumentsIn d) .vector)) (λ n. NotPlaced (refusalFor d n)) (usedAt d (argumentsIn d) .vector .0) refl (λ n. refl) (placeRefusal d values r s)
+placing-means d h values r s =
+    decided ofPlacing (Placed (usedAt d (argumentsIn d) .vector)) (λ n. NotPlaced (refusalFor d n)) (usedAt d (argumentsIn d) .vector .0) refl (λ n. refl) (placeRefusal amd64 d h values r s)
 
-pub gathering-means : (d r s : List ℕ) (values : ℕ) → ofGathering (gatherAnswer d r s values) ≡ outcome (gatherRefusal d values (length r) (length s)) (hiddenIn d (r ++ s))
+pub gathering-means : (d r s : List ℕ) (values : ℕ) → ofGathering (gatherAnswer amd64 d r s values) ≡ outcome (gatherRefusal amd64 d values (length r) (length s)) (ownAddress (frameOf d) (r ++ s))
 unfolding gatherAnswer refusalFor refusalBy refusalAt
 gathering-means d r s values =
-    decided ofGathering (Gathered (hiddenIn d (r ++ s))) (λ n. NotGathered (refusalFor d n)) (hiddenIn d (r ++ s)) refl (λ n. refl) (gatherRefusal d values (length r) (length s))
+    decided ofGathering (Gathered (ownAddress (frameOf d) (r ++ s))) (λ n. NotGathered (refusalFor d n)) (ownAddress (frameOf d) (r ++ s)) refl (λ n. refl) (gatherRefusal amd64 d values (length r) (length s))
 
 pub putting-means : (d v : List ℕ) (n : ℕ) → ofPutting (putAnswer d v n) ≡ outcome (putRefusal d v n) tt
 unfolding putAnswer refusalFor refusalBy refusalAt

@@ -32,7 +32,8 @@ use Rattle.layout.specs.Layout.{layoutOf, layoutAnswer}
 use Rattle.layout.specs.Placements.{placementAt}
 use Rattle.layout.specs.Lists.{listAnswer, listCount, filled}
 use Rattle.layout.specs.Statements.{Bounded}
-use Rattle.moving.specs.Images.{hiddenIn}
+use Rattle.moving.specs.Images.{frameOf, amd64}
+use Rattle.moving.specs.Frames.{ownAddress}
 use Rattle.moving.specs.Answers.{placeAnswer, gatherAnswer, registersAfter, stackAfter, valuesAfter}
 use Rattle.returning.specs.Image.{returnedAddress}
 use Rattle.returning.specs.Answers.{putAnswer, takeAnswer, imageAfter, valueAfter}
@@ -81,10 +82,10 @@ pub record A2-Questions : Type 0 where
 pub record A2-Layout : Type 0 where
   pub layout-of : (d : List ℕ) → Answered (ofLayout (layoutAnswer d)) (checkOrder d) (layoutOf d)
   pub lay-out : (d : List ℕ) (room : ℕ) → Answered (ofLayout (listAnswer d room)) (layoutOrder d room) (layoutOf d)
-  pub place-values : (d values : List ℕ) (registersLength stackLength : ℕ)
-      → Answered (ofPlacing (placeAnswer d values registersLength stackLength)) (placeOrder d values registersLength stackLength) (usedAt d (argumentsIn d) .vector .0)
+  pub place-values : (d : List ℕ) (h : ℕ) (values : List ℕ) (registersLength stackLength : ℕ)
+      → Answered (ofPlacing (placeAnswer amd64 d h values registersLength stackLength)) (placeOrder d values registersLength stackLength) (usedAt d (argumentsIn d) .vector .0)
   pub gather-values : (d r s : List ℕ) (valuesLength : ℕ)
-      → Answered (ofGathering (gatherAnswer d r s valuesLength)) (gatherOrder d valuesLength (length r) (length s)) (hiddenIn d (r ++ s))
+      → Answered (ofGathering (gatherAnswer amd64 d r s valuesLength)) (gatherOrder d valuesLength (length r) (length s)) (ownAddress (frameOf d) (r ++ s))
 
 -- returned values (request 2026-02). The hidden address is that of rax
 pub record A2-Returned : Type 0 where
@@ -108,9 +109,9 @@ pub record A2-Walk : Type 0 where
 pub record A3-Frame : Type 0 where
   pub lay-out : (d : List ℕ) (list : List Placement) → numberOf (ofLayout (listAnswer d (length list))) ≢ 0
       → filled (placementAt d) (listCount d (length list)) list ≡ list
-  pub place-values : (d : List ℕ) (h : ℕ) (values r s : List ℕ) → numberOf (ofPlacing (placeAnswer d values (length r) (length s))) ≢ 0
-      → (registersAfter d h values r s ≡ r) × (stackAfter d h values r s ≡ s)
-  pub gather-values : (d r s v : List ℕ) → numberOf (ofGathering (gatherAnswer d r s (length v))) ≢ 0 → valuesAfter d r s v ≡ v
+  pub place-values : (d : List ℕ) (h : ℕ) (values r s : List ℕ) → numberOf (ofPlacing (placeAnswer amd64 d h values (length r) (length s))) ≢ 0
+      → (registersAfter amd64 d h values r s ≡ r) × (stackAfter amd64 d h values r s ≡ s)
+  pub gather-values : (d r s v : List ℕ) → numberOf (ofGathering (gatherAnswer amd64 d r s (length v))) ≢ 0 → valuesAfter amd64 d r s v ≡ v
   pub put-returned : (d : List ℕ) (h : ℕ) (value image : List ℕ) → numberOf (ofPutting (putAnswer d value (length image))) ≢ 0 → imageAfter d h value image ≡ image
   pub take-returned : (d image value : List ℕ) → numberOf (ofTaking (takeAnswer d image (length value))) ≢ 0 → valueAfter d image value ≡ value
   pub attach : (s : Station) (seat d : List ℕ) → attachRefusal kcb s seat d ≢ 0 → (attachStation kcb s seat d ≡ s) × (attachSeat kcb s seat d ≡ seat)

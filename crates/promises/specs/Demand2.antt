@@ -45,6 +45,7 @@ use Rattle.layout.specs.Lists.{listRefusal, listCount, filled}
 use Rattle.cases.specs.Cases.{Case, cases}
 use Rattle.listing.specs.Listing.{listing}
 use Rattle.cases.specs.Listings.{listings}
+use Rattle.moving.specs.Images.{amd64}
 use Rattle.moving.specs.Statements.{PlacesAll, AddressUnseen, GathersPlaced, PlacesGathered, UnusedUnseen, TwelveExactly}
 use Rattle.station.specs.declared.Station.{Station}
 use Rattle.station.specs.Paper.{kcb}
@@ -264,18 +265,18 @@ pub record B7-Records : Type 0 where
 
 pub record B8-B12-Moving : Type 0 where
   -- B8: each value byte is at its place, the hidden address in rdi where it is used, and every other byte is zero, whatever stood there
-  pub places-all : PlacesAll
+  pub places-all : PlacesAll amd64
   -- "and is otherwise not looked at"
-  pub address-unseen : AddressUnseen
+  pub address-unseen : AddressUnseen amd64
   -- B9: "Values placed and gathered back are the same bytes"
-  pub gathers-placed : GathersPlaced
+  pub gathers-placed : GathersPlaced amd64
   -- B10: "Images gathered and placed again, with their own hidden address, are the same images exactly when their unused bytes are zero and each
   -- _Bool argument's byte is 0 or 1"
-  pub places-gathered : PlacesGathered
+  pub places-gathered : PlacesGathered amd64
   -- B11: "looks at no unused byte"
-  pub unused-unseen : UnusedUnseen
+  pub unused-unseen : UnusedUnseen amd64
   -- B12: "A _Bool argument's byte must be 0 or 1; one inside an aggregate may be anything"
-  pub twelve-exactly : TwelveExactly
+  pub twelve-exactly : TwelveExactly amd64
 
 -- ---- B13: each walk step is that of 3.5.7, and fetches where the layout places
 

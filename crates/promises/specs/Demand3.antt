@@ -20,7 +20,7 @@ use Rattle.layout.specs.Verdict.{verdict}
 use Rattle.layout.specs.Layout.{valuesOf}
 use Rattle.layout.specs.Placements.{placementAt}
 use Rattle.images.specs.Words.{littleEndian}
-use Rattle.moving.specs.Images.{addressesOf, valueStart}
+use Rattle.moving.specs.Images.{addressesOf, valueStart, amd64}
 use Rattle.moving.specs.Orders.{placeRefusal}
 use Rattle.moving.specs.Answers.{registersAfter, stackAfter}
 use Rattle.moving.specs.Statements.{NoSharedImage}
@@ -93,14 +93,14 @@ pub record C7-Stale : Type 0 where
 
 -- the images as `place_values` leaves them
 abbrev pub placedImages : List ℕ → ℕ → List ℕ → List ℕ → List ℕ → List ℕ
-placedImages d h values r s = registersAfter d h values r s ++ stackAfter d h values r s
+placedImages d h values r s = registersAfter amd64 d h values r s ++ stackAfter amd64 d h values r s
 
 -- d is attached at any desk k, the walk i is opened, and each step of it is lent these images: then the steps hand back the unnamed arguments'
 -- bytes, in order, among any other calls, and the next step is 19
 abbrev pub HandsBackPlaced : Type 0
 HandsBackPlaced =
     (k : Desk) (d : List ℕ) (b : IsBytes d) (h : ℕ) (values r s : List ℕ) (i : ℕ) (between cs : List Call)
-    → placeRefusal d values (length r) (length s) ≡ 0 → Connects kcb k d b between → kcb .variadic d ≡ true → All (Spares i) cs
+    → placeRefusal amd64 d h values (length r) (length s) ≡ 0 → Connects kcb k d b between → kcb .variadic d ≡ true → All (Spares i) cs
     → All (Serves kcb i (placedImages d h values r s)) cs → Along kcb (Stays kcb) (opened kcb k d b between i) cs → asks i cs ≡ unnamedQuestions kcb d
     → (handed kcb i (opened kcb k d b between i) cs ≡ unnamed kcb d values)
     × Ended kcb i (calls kcb (opened kcb k d b between i) cs) (placedImages d h values r s)
@@ -110,13 +110,13 @@ HandsBackPlaced =
 abbrev pub NeverAnotherPlaced : Type 0
 NeverAnotherPlaced =
     (k : Desk) (d : List ℕ) (b : IsBytes d) (h : ℕ) (values r s : List ℕ) (i : ℕ) (between cs : List Call)
-    → placeRefusal d values (length r) (length s) ≡ 0 → Connects kcb k d b between → kcb .variadic d ≡ true → All (Spares i) cs
+    → placeRefusal amd64 d h values (length r) (length s) ≡ 0 → Connects kcb k d b between → kcb .variadic d ≡ true → All (Spares i) cs
     → Until kcb (Served kcb i (placedImages d h values r s)) (opened kcb k d b between i) cs
     → handed kcb i (opened kcb k d b between i) cs ≡ take (length (handed kcb i (opened kcb k d b between i) cs)) (unnamed kcb d values)
 
 pub record C8-HandsBack : Type 0 where
   -- the images that `place_values` leaves are those that condition C speaks of
-  pub placed-for : (d : List ℕ) (h : ℕ) (values r s : List ℕ) → placeRefusal d values (length r) (length s) ≡ 0
+  pub placed-for : (d : List ℕ) (h : ℕ) (values r s : List ℕ) → placeRefusal amd64 d h values (length r) (length s) ≡ 0
       → placedImages d h values r s ≡ imagesFor kcb d (littleEndian 8 h) values
   pub hands-back : HandsBackPlaced
   pub never-another : NeverAnotherPlaced
@@ -147,7 +147,7 @@ pub record C10-Number : Type 0 where
 pub record Demand3 : Type 0 where
   pub places : C1-C2-Places
   pub alignment : C3-Alignment
-  pub no-shared-image : NoSharedImage
+  pub no-shared-image : NoSharedImage amd64
   pub starts : C5-Starts
   pub reached : C6-Reached
   pub stale : C7-Stale

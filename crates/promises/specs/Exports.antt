@@ -24,8 +24,8 @@ use Rattle.layout.specs.declared.Layout.{Layout as Whole}
 use Rattle.layout.specs.Arguments.{hidden, usedAt, returnPlace}
 use Rattle.layout.specs.Layout.{layoutOf}
 use Rattle.layout.specs.Placements.{placementAt}
-use Rattle.moving.specs.Images.{addressesOf, hiddenIn}
-use Rattle.moving.specs.Statements.{IsImage}
+use Rattle.moving.specs.Images.{addressesOf, frameOf}
+use Rattle.moving.specs.Frames.{ownAddress, IsImage}
 use Rattle.returning.specs.Image.{inMemory, returnValue, returnedAddress, trimmed}
 use Rattle.returning.specs.Statements.{IsImage as IsReturnImage}
 use Rattle.station.specs.Paper.{kcb, shapeAt}
@@ -133,10 +133,10 @@ pub record Lists (d out : List ℕ) (n : ℕ) (after : List ℕ) : Type 0 where
 pub record PlacesFlat (d : List ℕ) (h : ℕ) (values registers stack : List ℕ) (old : Placed) (r : Refusal) (new : Placed) (q s : List ℕ) : Type 0 where
   pub count : Fills (λ (p : Placed). p .vector .0) d (placeOrder d values (length registers) (length stack)) (usedAt d (argumentsIn d) .vector .0) old r new
   pub refused : r .number ≢ 0 → (q ≡ registers) × (s ≡ stack)
-  pub placed : r .number ≡ 0 → IsImage d h values (q ++ s)
+  pub placed : r .number ≡ 0 → IsImage (frameOf d) h values (q ++ s)
 
 pub record GathersFlat (d registers stack values : List ℕ) (old : Gathered) (r : Refusal) (new : Gathered) (v : List ℕ) : Type 0 where
-  pub address : Fills (λ (g : Gathered). g .hidden) d (gatherOrder d (length values) (length registers) (length stack)) (hiddenIn d (registers ++ stack)) old r new
+  pub address : Fills (λ (g : Gathered). g .hidden) d (gatherOrder d (length values) (length registers) (length stack)) (ownAddress (frameOf d) (registers ++ stack)) old r new
   pub refused : r .number ≢ 0 → v ≡ values
   pub gathered : r .number ≡ 0 → v ≡ gather (registers ++ stack) (addressesOf d)
 

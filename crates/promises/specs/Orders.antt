@@ -14,6 +14,7 @@ use Rattle.uses.specs.Uses.{wrongUse, narrowUnnamed}
 use Rattle.layout.specs.Verdict.{wideArea}
 use Rattle.layout.specs.Layout.{layoutOf}
 use Rattle.layout.specs.Lists.{shortList}
+use Rattle.moving.specs.Images.{amd64}
 use Rattle.moving.specs.Orders.{wrongBool, wrongLength as wrongLengths}
 use Rattle.returning.specs.Returned.{returnLength}
 use Rattle.returning.specs.Orders.{wrongLength as wrongReturnLengths, wrongBool as wrongReturnedBool}
@@ -52,7 +53,7 @@ gatherOrder d valuesLength registersLength stackLength = checkOrder d ++ rule 11
 
 abbrev pub placeOrder : List ℕ → List ℕ → ℕ → ℕ → List Rule
 placeOrder d values registersLength stackLength =
-    checkOrder d ++ rule 11 (wrongLengths (layoutOf d) (length values) registersLength stackLength) ∷ rule 12 (wrongBool d values) ∷ []
+    checkOrder d ++ rule 11 (wrongLengths (layoutOf d) (length values) registersLength stackLength) ∷ rule 12 (wrongBool amd64 d values) ∷ []
 
 -- request 2026-02: "after 1..10, 11 for lengths .., then 12 for a returned _Bool byte not 0 or 1, in putting only"
 abbrev pub takeOrder : List ℕ → List ℕ → ℕ → List Rule

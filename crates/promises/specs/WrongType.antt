@@ -19,6 +19,7 @@ use Rattle.types.specs.Wrong.{refusalFor}
 use Rattle.questions.specs.Questions.{questionRefusal}
 use Rattle.layout.specs.Verdict.{verdict}
 use Rattle.layout.specs.Lists.{listRefusal}
+use Rattle.moving.specs.Images.{amd64}
 use Rattle.moving.specs.Orders.{placeRefusal, gatherRefusal}
 use Rattle.returning.specs.Orders.{putRefusal, takeRefusal}
 use Rattle.station.specs.declared.Station.{Station}
@@ -52,8 +53,8 @@ pub record WrongType : Type 0 where
   pub check : (d : List ℕ) → Names d (refusalFor d (verdict d))
   pub question : (d : List ℕ) (t : ℕ) → Names d (refusalFor d (questionRefusal d t))
   pub lay-out : (d : List ℕ) (room : ℕ) → Names d (refusalFor d (listRefusal d room))
-  pub place-values : (d values : List ℕ) (registersLength stackLength : ℕ) → Names d (refusalFor d (placeRefusal d values registersLength stackLength))
-  pub gather-values : (d : List ℕ) (valuesLength registersLength stackLength : ℕ) → Names d (refusalFor d (gatherRefusal d valuesLength registersLength stackLength))
+  pub place-values : (d : List ℕ) (h : ℕ) (values : List ℕ) (registersLength stackLength : ℕ) → Names d (refusalFor d (placeRefusal amd64 d h values registersLength stackLength))
+  pub gather-values : (d : List ℕ) (valuesLength registersLength stackLength : ℕ) → Names d (refusalFor d (gatherRefusal amd64 d valuesLength registersLength stackLength))
   pub put-returned : (d value : List ℕ) (imageLength : ℕ) → Names d (refusalFor d (putRefusal d value imageLength))
   pub take-returned : (d image : List ℕ) (valueLength : ℕ) → Names d (refusalFor d (takeRefusal d image valueLength))
   pub attach : (s : Station) (seat d : List ℕ) → Names d (refusalUnder kcb d (attachRefusal kcb s seat d))

@@ -15,7 +15,7 @@ use Rattle.form.proofs.Form.{or-none}
 use Rattle.layout.specs.Arguments.{isVoid}
 use Rattle.layout.specs.Verdict.{checkOrder, verdict}
 use Rattle.moving.specs.Orders.{isBool, brokenByte}
-use Rattle.moving.proofs.Orders.{check-without}
+use Rattle.moving.proofs.Amd64.{check-without}
 use Rattle.returning.specs.Returned.{returnLength}
 use Rattle.returning.specs.Orders.{wrongLength, wrongBool, furtherTaking, furtherPutting, takeOrder, putOrder, takeRefusal, putRefusal}
 use Rattle.returning.specs.Asks.{Lent}

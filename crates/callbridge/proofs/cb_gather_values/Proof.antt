@@ -41,6 +41,7 @@ use denote.Triple.Clauses.{ensured, lasts}
 use denote.Triple.Table.{entered, cited}
 use denote.Triple.Walked.{says, Stays, stay-ref, gave-slice, stay-none-slice, walkOf, AllGo, goes-ref, goes-gave-slice, goes-none-slice, Walks, ends-at, walked, walk-meets}
 use denote.Exit.{yes}
+use Rattle.moving.specs.Images.{amd64}
 use Rattle.moving.specs.Answers.{gatherAnswer, valuesAfter}
 use Rattle.c_calls.specs.Outcome.{refusalIn, leftIn}
 use Rattle.c_calls.specs.MovingCalls.{gatheredGiven}
@@ -122,9 +123,9 @@ module _ {M : Type 1} (𝓤 : URA M) (H : Heap 𝓤) (A : Atoms 𝓤) (W : Given
   -- what the callee ensures, of its result and the last lists
   abbrev Said : GivenGathered → List ℕ → Type 0
   Said r values′ =
-      (r .refusal ≡ refusalIn (gatheredGiven (gatherAnswer (d .now) (registers .now) (stack .now) (length (values .now)))))
-      × ((r .gathered ≡ leftIn (gatheredGiven (gatherAnswer (d .now) (registers .now) (stack .now) (length (values .now)))) gathered)
-      × (values′ ≡ valuesAfter (d .now) (registers .now) (stack .now) (values .now)))
+      (r .refusal ≡ refusalIn (gatheredGiven (gatherAnswer amd64 (d .now) (registers .now) (stack .now) (length (values .now)))))
+      × ((r .gathered ≡ leftIn (gatheredGiven (gatherAnswer amd64 (d .now) (registers .now) (stack .now) (length (values .now)))) gathered)
+      × (values′ ≡ valuesAfter amd64 (d .now) (registers .now) (stack .now) (values .now)))
 
   abbrev Own0 : Fml
   Own0 = ShrSlice (named 0) κ₀ u8 .own d (v0 ∷ [])

@@ -42,6 +42,7 @@ use denote.Triple.Clauses.{ensured, lasts}
 use denote.Triple.Table.{entered, cited}
 use denote.Triple.Walked.{says, Stays, stay-ref, stay-none, gave-slice, stay-none-slice, walkOf, AllGo, goes-ref, goes-none, goes-gave-slice, goes-none-slice, Walks, ends-at, walked, walk-meets}
 use denote.Exit.{yes}
+use Rattle.moving.specs.Images.{amd64}
 use Rattle.moving.specs.Answers.{placeAnswer, registersAfter, stackAfter}
 use Rattle.c_calls.specs.Outcome.{refusalIn, leftIn}
 use Rattle.c_calls.specs.MovingCalls.{placedGiven}
@@ -123,10 +124,10 @@ module _ {M : Type 1} (𝓤 : URA M) (H : Heap 𝓤) (A : Atoms 𝓤) (W : Given
   -- what the callee ensures, of its result and the last lists
   abbrev Said : GivenPlaced → List ℕ → List ℕ → Type 0
   Said r registers′ stack′ =
-      (r .refusal ≡ refusalIn (placedGiven (placeAnswer (d .now) (values .now) (length (registers .now)) (length (stack .now)))))
-      × ((r .placed ≡ leftIn (placedGiven (placeAnswer (d .now) (values .now) (length (registers .now)) (length (stack .now)))) placed)
-      × ((registers′ ≡ registersAfter (d .now) hidden (values .now) (registers .now) (stack .now))
-      × (stack′ ≡ stackAfter (d .now) hidden (values .now) (registers .now) (stack .now))))
+      (r .refusal ≡ refusalIn (placedGiven (placeAnswer amd64 (d .now) hidden (values .now) (length (registers .now)) (length (stack .now)))))
+      × ((r .placed ≡ leftIn (placedGiven (placeAnswer amd64 (d .now) hidden (values .now) (length (registers .now)) (length (stack .now)))) placed)
+      × ((registers′ ≡ registersAfter amd64 (d .now) hidden (values .now) (registers .now) (stack .now))
+      × (stack′ ≡ stackAfter amd64 (d .now) hidden (values .now) (registers .now) (stack .now))))
 
   abbrev Own0 : Fml
   Own0 = ShrSlice (named 0) κ₀ u8 .own d (v0 ∷ [])
