@@ -18,6 +18,7 @@ ghost use Rattle.description.specs.Description.{argumentsIn};
 ghost use Rattle.types.specs.Wrong.{refusalFor};
 ghost use Rattle.questions.specs.Questions.{extentAnswer};
 ghost use Rattle.questions.specs.Runs.{classesAnswer, runAnswer};
+ghost use Rattle.questions.specs.Offsets.{offsetsRefusal, offsetsAfter};
 ghost use Rattle.layout.specs.Layout.{layoutAnswer};
 ghost use Rattle.layout.specs.Lists.{listCount, filled};
 ghost use Rattle.layout.specs.Verdict.{verdict};
@@ -85,6 +86,15 @@ pub extern "C" fn cb_member_run(d: &[u8], asked: u8, part: &mut Part) -> Refusal
     let given = c_calls::member_run(d, asked);
     *part = given.part;
     given.refusal
+}
+
+// The offsets of a type's members into the list; entries past them stay.
+#[no_mangle]
+pub extern "C" fn cb_member_offsets(d: &[u8], asked: u8, offsets: &mut [usize]) -> Refusal
+    ensures { λ r. ⌜ (r ≡ refusalFor (now (d .entry)) (offsetsRefusal (now (d .entry)) asked (length (now (offsets .entry)))))
+        × (now (offsets .exit) ≡ offsetsAfter (now (d .entry)) asked (now (offsets .entry))) ⌝ }
+{
+    questions::member_offsets(d, asked, offsets)
 }
 
 // The call as a whole.

@@ -13,6 +13,8 @@ use Rattle.types.specs.Size.{alignTy}
 use Rattle.types.specs.Decode.{tyAt}
 use Rattle.types.specs.Large.{typesRefusal}
 use Rattle.questions.specs.Questions.{questionRefusal}
+use Rattle.questions.specs.Offsets.{offsetsRefusal}
+use Rattle.questions.proofs.Offsets.{list-kept}
 use Rattle.uses.specs.Uses.{usesRefusal}
 use Rattle.uses.proofs.Uses.{accepted-types}
 use Rattle.types.specs.Alignments.{Alignment}
@@ -54,7 +56,7 @@ a2-below = record {
 }
 
 a2-questions : A2-Questions
-unfolding questionRefusal
+unfolding questionRefusal offsetsRefusal refusalFor refusalBy refusalAt
 a2-questions = record {
   question-refusal = λ d t. answered refl refl;
   type-extent = λ d t. answered refl (extent-means d t);
@@ -62,6 +64,7 @@ a2-questions = record {
   type-align = λ d t. answered refl (align-means d t);
   type-classes = λ d t. answered refl (classes-means d t);
   run-at = λ d t. answered refl (run-means d t);
+  member-offsets = λ d t room. answered refl refl;
 }
 
 a2-layout : A2-Layout
@@ -97,6 +100,7 @@ count-none d room h = rw (ne-eqb (listRefusal d room) 0 h) refl
 a3 : A3-Frame
 unfolding filled registersAfter stackAfter valuesAfter imageAfter valueAfter
 a3 = record {
+  member-offsets = list-kept;
   lay-out = λ d list h. ap (λ n. filled (placementAt d) n list) (count-none d (length list) (λ e. h (decided-number _ _ (list-means d (length list)) ∙ e)));
   place-values = λ d h values r s n.
       let e = ne-eqb (placeRefusal amd64 d h values (length r) (length s)) 0 (λ e. n (decided-number _ _ (placing-means d h values (length r) (length s)) ∙ e)) in

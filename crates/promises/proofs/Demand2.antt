@@ -21,6 +21,7 @@ use Rattle.classes.specs.declared.Class.{Class}
 use Rattle.classes.specs.declared.Class.the-variants.{NoClass, Memory}
 use Rattle.classify.specs.Classify.{isAggregate, classesOf}
 use Rattle.classify.proofs.Coverage.{second-none}
+use Rattle.questions.specs.Offsets.{offsetAt, offsetsCount, offsetsAfter}
 use Rattle.questions.proofs.Questions.{answered-sized}
 use Rattle.questions.proofs.Runs.{answered-shaped}
 use Rattle.places.specs.Shapes.{shapeOf}
@@ -45,7 +46,8 @@ use Rattle.moving.proofs.Amd64.{amd64-ordered}
 use Rattle.station.specs.Paper.{kcb}
 use Rattle.walk.proofs.Steps.{step-done}
 use Rattle.walk.proofs.Agreement.{none-used}
-use Rattle.promises.specs.Demand2.{extents, listAfter, B1-Sizes, B2-Classes, B3-Registers, B4-Stack, B5-Counts, B6-Returns, B7-Records, B8-B12-Moving, B13-Steps, B14-Cases, Demand2}
+use Rattle.promises.specs.Demand2.{extents, listAfter, B1-Sizes, B1-Offsets, B2-Classes, B3-Registers, B4-Stack, B5-Counts, B6-Returns, B7-Records, B8-B12-Moving, B13-Steps, B14-Cases, Demand2}
+use Rattle.promises.proofs.MemberOffsets.{as-many, members-lie, offset-below, offset-past, other-stays}
 use Rattle.promises.proofs.Merging.{merges}
 use Rattle.promises.proofs.Classes.{class-table, basic-at, cleans-up, array-at, group-at, small-classes, all-classed}
 use Rattle.promises.proofs.Placements.{general-count, vector-count, generals-in-row, vectors-in-row, in-registers, lacks-exactly, takes-none, lowest, room, fetches, moves, hidden-is, hidden-memory}
@@ -77,6 +79,17 @@ b1 = record {
   union-end = union-end;
   size = size-rounded;
   whole = align-divides;
+}
+
+b1-offsets : B1-Offsets
+unfolding offsetsAfter
+b1-offsets = record {
+  many = as-many;
+  lie = members-lie;
+  below = offset-below;
+  past = offset-past;
+  other = other-stays;
+  long = λ d t list. length-filled (offsetAt d t) (offsetsCount d t (length list)) list;
 }
 
 -- ---- B2
@@ -193,6 +206,7 @@ b14 = record { layouts = cases-hold; texts = listings-hold }
 pub demand-2 : Demand2
 demand-2 = record {
   sizes = b1;
+  offsets = b1-offsets;
   classes = b2;
   registers = b3;
   stack = b4;

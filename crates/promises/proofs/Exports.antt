@@ -25,6 +25,9 @@ use Rattle.classes.specs.declared.Class.the-variants.{NoClass}
 use Rattle.classify.specs.Classify.{classesOf}
 use Rattle.questions.specs.Questions.{questionRefusal, extentAnswer}
 use Rattle.questions.specs.Runs.{classesAnswer, runAnswer}
+use Rattle.questions.specs.Offsets.{offsetsRefusal, offsetAt, offsetsAfter}
+use Rattle.questions.proofs.Offsets.{offsets-answered}
+use Rattle.questions.proofs.Runs.{run-filled}
 use Rattle.layout.specs.declared.Layout.{Layout as Whole}
 use Rattle.layout.specs.Arguments.{hidden, usedAt, returnPlace}
 use Rattle.layout.specs.Verdict.{verdict}
@@ -93,6 +96,7 @@ use Rattle.callbridge.proofs.cb_check
 use Rattle.callbridge.proofs.cb_type_extent
 use Rattle.callbridge.proofs.cb_type_classes
 use Rattle.callbridge.proofs.cb_member_run
+use Rattle.callbridge.proofs.cb_member_offsets
 use Rattle.callbridge.proofs.cb_layout_of
 use Rattle.callbridge.proofs.cb_lay_out
 use Rattle.callbridge.proofs.cb_write_listing
@@ -110,12 +114,13 @@ use Rattle.promises.specs.Meaning.{Meaning, accepted, outcome, numberOf,
 use Rattle.promises.specs.Orders.{questionOrder, checkOrder, layoutOrder, openOrder, showOrder, attachOrder, detachOrder, stepOrder, putOrder}
 use Rattle.promises.specs.WrongType.{Names}
 use Rattle.promises.specs.Demand1.{members, classPair}
-use Rattle.promises.specs.Exports.{Fills, GivesPart, extentRead, classesRead, membersRead, layoutRead, shownRead, bytesIn, Checks, LaysOutFlat, Lists, PlacesFlat, GathersFlat, PutsFlat, TakesFlat, AttachesFlat, DetachesFlat, OpensFlat, StepsFlat, ShowsFlat, Exports, Back, GathersBack, NeverTheSame, TakenBack, TakesBack, HostDesk, deskMeant, AttachDone, DetachDone, withRecord, OpenDone, StepDone, ShowDone, WriteDone, Done, Played, nothing, then, PlaysHistory}
+use Rattle.promises.specs.Exports.{Fills, GivesPart, extentRead, classesRead, membersRead, layoutRead, shownRead, bytesIn, Checks, OffsetsFlat, LaysOutFlat, Lists, PlacesFlat, GathersFlat, PutsFlat, TakesFlat, AttachesFlat, DetachesFlat, OpensFlat, StepsFlat, ShowsFlat, Exports, Back, GathersBack, NeverTheSame, TakenBack, TakesBack, HostDesk, deskMeant, AttachDone, DetachDone, withRecord, OpenDone, StepDone, ShowDone, WriteDone, Done, Played, nothing, then, PlaysHistory}
 use Rattle.promises.proofs.Answering.{answered, decided-number}
 use Rattle.promises.proofs.Numbers.{extent-means, classes-means, run-means, layout-means as whole-means, list-means, placing-means, gathering-means, putting-means, taking-means, opening-means, shown-means}
 use Rattle.promises.proofs.WrongType.{wrong-type}
 use Rattle.promises.proofs.Demand1.{demand-1}
 use Rattle.promises.proofs.Demand2.{demand-2}
+use Rattle.promises.proofs.MemberOffsets.{same-lie}
 use Rattle.promises.proofs.Demand3.{demand-3}
 use Rattle.promises.proofs.BringingBack.{bringing-back}
 
@@ -174,6 +179,22 @@ run-read d t = by (ltb (kindAt d t) 2)
 
 run-gives : (d : List ℕ) (t : ℕ) → GivesPart membersRead d (questionOrder d t) (members d t) (runRefusal (runAnswer d t)) (runPart (runAnswer d t))
 run-gives d t = gives-part membersRead d _ _ _ _ (questionRefusal d t) (runOf d t) _ (run-told d t) (run-read d t) (demand-1 .questions .run-at d t) (run-means d t) (wrong-type .question d t)
+
+offsets-flat : (d : List ℕ) (t : ℕ) (list : List ℕ) → OffsetsFlat d t list (refusalFor d (offsetsRefusal d t (length list))) (offsetsAfter d t list)
+offsets-flat d t list =
+    let n = offsetsRefusal d t (length list) in
+    let zero-is : refusalFor d n .number ≡ 0 → n ≡ 0 = λ e. sym (number-for d n) ∙ e in
+    record {
+      answered = demand-1 .questions .member-offsets d t (length list);
+      names = wrong-type .member-offsets d t (length list);
+      refused = λ h. demand-1 .frame .member-offsets d t list (λ z. h (number-for d n ∙ z));
+      lie = λ e two.
+          let q = offsets-answered d t (length list) (zero-is e) in
+          same-lie d t (offsetAt d t) (λ i. getD (offsetsAfter d t list) i 0) (run-filled d t q two) (λ i l. demand-2 .offsets .below d t list i 0 (zero-is e) two l)
+          (demand-2 .offsets .lie d t q two);
+      past = λ e two i x l. demand-2 .offsets .past d t list i x (zero-is e) two l;
+      other = demand-2 .offsets .other d t list;
+    }
 
 -- the layout, and how many arguments there are
 layout-answered : (d : List ℕ) → Answered {X = Whole × ℕ} (outcome {X = Whole × ℕ} (verdict d) (layoutOf d, argumentsIn d)) (checkOrder d) (layoutOf d, argumentsIn d)
@@ -406,6 +427,10 @@ exports = record {
       along (GivesPart membersRead (now (c .passed .0)) _ _)
       (told (result cb_member_run.ended c) (a .ensured) (λ f. f .0)) (told (part.the-row .coded) (a .ensured) (λ f. f .1))
       (run-gives (now (c .passed .0)) (c .passed .1 .0));
+  member-offsets = λ c r w a.
+      along (OffsetsFlat (now (c .passed .0)) (c .passed .1 .0) (now (c .passed .1 .1 .0)))
+      (told (result cb_member_offsets.ended c) (a .ensured) (λ f. f .0)) (told bytes (a .ensured) (λ f. f .1))
+      (offsets-flat (now (c .passed .0)) (c .passed .1 .0) (now (c .passed .1 .1 .0)));
   layout-of = λ c r w a.
       along (Fills layoutRead (now (c .passed .0)) _ _ (now (c .passed .1 .0)))
       (told (result cb_layout_of.ended c) (a .ensured) (λ f. f .0)) (told (layout.the-row .coded) (a .ensured) (λ f. f .1))

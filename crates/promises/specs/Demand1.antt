@@ -23,6 +23,7 @@ use Rattle.classes.specs.declared.Class.the-variants.{NoClass}
 use Rattle.classify.specs.Classify.{classesOf}
 use Rattle.questions.specs.Questions.{questionRefusal, extentAnswer, sizeAnswer, alignAnswer}
 use Rattle.questions.specs.Runs.{classesAnswer, runAnswer, runIn}
+use Rattle.questions.specs.Offsets.{offsetsRefusal, offsetsAfter}
 use Rattle.uses.specs.Uses.{usesRefusal}
 use Rattle.types.specs.Alignments.{Alignment}
 use Rattle.layout.specs.declared.placements.Placement.{Placement}
@@ -45,7 +46,7 @@ use Rattle.walk.specs.Orders.{Ask, stepRefusal, showRefusal}
 use Rattle.walk.specs.Steps.{openWalk, openAnswer, stepWalk, stepOut}
 use Rattle.walk.specs.Show.{shownIn, shownAnswer}
 use Rattle.promises.specs.Meaning.{numberOf, ofNumber, ofRefusal, ofReading, ofExtent, ofSize, ofAlign, ofClasses, Members, run, none, ofRun, ofLayout, ofPlacing, ofGathering, ofPutting, ofTaking, ofOpening, ofShown, shownPart, Answered}
-use Rattle.promises.specs.Orders.{checkOrder, formOrder, typesOrder, usesOrder, questionOrder, layoutOrder, gatherOrder, placeOrder, putOrder, takeOrder, attachOrder, detachOrder, openOrder, stepOrder, showOrder}
+use Rattle.promises.specs.Orders.{checkOrder, formOrder, typesOrder, usesOrder, questionOrder, offsetsOrder, layoutOrder, gatherOrder, placeOrder, putOrder, takeOrder, attachOrder, detachOrder, openOrder, stepOrder, showOrder}
 
 -- ---- A1: "Bad input gets the numbered refusal of document 01, in the stated order, never otherwise"
 
@@ -77,6 +78,7 @@ pub record A2-Questions : Type 0 where
   pub type-align : (d : List ℕ) (t : ℕ) → Answered (ofAlign (alignAnswer (extentAnswer d t))) (questionOrder d t) (alignTy (modelIn d) (tyAt d t))
   pub type-classes : (d : List ℕ) (t : ℕ) → Answered (ofClasses (classesAnswer d t)) (questionOrder d t) (classPair d t)
   pub run-at : (d : List ℕ) (t : ℕ) → Answered (ofRun (runAnswer d t)) (questionOrder d t) (members d t)
+  pub member-offsets : (d : List ℕ) (t room : ℕ) → Answered (ofRefusal (refusalFor d (offsetsRefusal d t room))) (offsetsOrder d t room) tt
 
 -- layout, placing and gathering. The vector count is that of the layout, and the hidden address that of rdi
 pub record A2-Layout : Type 0 where
@@ -107,6 +109,7 @@ pub record A2-Walk : Type 0 where
 -- ---- A3: "a refusal changes no station, walk or lent buffer"
 
 pub record A3-Frame : Type 0 where
+  pub member-offsets : (d : List ℕ) (t : ℕ) (list : List ℕ) → offsetsRefusal d t (length list) ≢ 0 → offsetsAfter d t list ≡ list
   pub lay-out : (d : List ℕ) (list : List Placement) → numberOf (ofLayout (listAnswer d (length list))) ≢ 0
       → filled (placementAt d) (listCount d (length list)) list ≡ list
   pub place-values : (d : List ℕ) (h : ℕ) (values r s : List ℕ) → numberOf (ofPlacing (placeAnswer amd64 d h values (length r) (length s))) ≢ 0

@@ -13,10 +13,11 @@ use lib.ListN.{length, getD, set}
 use Rattle.addresses.specs.Addresses.{run}
 use Rattle.description.specs.declared.Model.{Model}
 use Rattle.description.specs.declared.Model.the-variants.{Lp64}
-use Rattle.description.specs.Description.{argumentsIn, returnIn, kindAt, aAt, countAt, argumentAt, modelIn}
+use Rattle.description.specs.Description.{argumentsIn, returnIn, kindAt, aAt, countAt, memberAt, argumentAt, modelIn}
 use Rattle.types.specs.Tree.{Ty, basic, array, Tys, none, more, group}
 use Rattle.types.specs.Basic.{basicSize, basicAlign}
 use Rattle.types.specs.Size.{alignTy, alignTys, sizeTy, offsetAfter, endAfter, endOf, widest}
+use Rattle.types.specs.Offsets.{memberOffsets, membersOf, count}
 use Rattle.types.specs.Decode.{tysFrom, tyAt}
 use Rattle.classes.specs.declared.Class.{Class}
 use Rattle.classes.specs.declared.Class.the-variants.{NoClass, Integer, Sse, SseUp, X87, X87Up, ComplexX87, Memory}
@@ -27,6 +28,7 @@ use Rattle.classify.specs.Classify.{classesAt, isAggregate, classesOf}
 use Rattle.classify.specs.Cases.{Case as ClassCase, case as classCase, cases as classCases}
 use Rattle.classify.specs.Coverage.{ClassesCover}
 use Rattle.questions.specs.Questions.{questionRefusal}
+use Rattle.questions.specs.Offsets.{offsetsRefusal, offsetAt, offsetsAfter}
 use Rattle.places.specs.declared.Register.{Register}
 use Rattle.places.specs.declared.ReturnPlace.the-variants.{Memory as InMemory}
 use Rattle.places.specs.Cases.{ReturnCase, returns, returnCases}
@@ -82,6 +84,34 @@ pub record B1-Sizes : Type 0 where
   -- "size is rounded up to the alignment", of a union, or else of a struct
   pub size : (m : Model) (isUnion : Bool) (ts : Tys) → RoundedUp (alignTys m ts) (endOf m ts isUnion 0) (sizeTy m (group isUnion ts))
   pub whole : (m : Model) (t : Ty) → sizeTy m t % alignTy m t ≡ 0
+
+-- where the members of a struct or a union lie, which `member_offsets` gives: member i is of this type
+abbrev pub memberTy : List ℕ → ℕ → ℕ → Ty
+memberTy d t i = tyAt d (memberAt d (aAt d t + i))
+
+-- o says where each lies
+pub record MembersLie (d : List ℕ) (t : ℕ) (o : ℕ → ℕ) : Type 0 where
+  -- "A struct member has the lowest aligned offset after the one before"
+  pub first : kindAt d t ≡ 2 → o 0 ≡ 0
+  pub next : kindAt d t ≡ 2 → (i : ℕ) → i + 1 < countAt d t → RoundedUp (alignTy (modelIn d) (memberTy d t (i + 1))) (o i + sizeTy (modelIn d) (memberTy d t i)) (o (i + 1))
+  -- "A union's members are at 0"
+  pub union : kindAt d t ≡ 3 → (i : ℕ) → i < countAt d t → o i ≡ 0
+  -- each is aligned, and ends within the type
+  pub aligned : (i : ℕ) → i < countAt d t → o i % alignTy (modelIn d) (memberTy d t i) ≡ 0
+  pub within : (i : ℕ) → i < countAt d t → o i + sizeTy (modelIn d) (memberTy d t i) ≤ sizeTy (modelIn d) (tyAt d t)
+
+pub record B1-Offsets : Type 0 where
+  -- there are as many offsets as members, which 11 is decided by: `count`, and the number in the type's record
+  pub many : (d : List ℕ) (t : ℕ) → questionRefusal d t ≡ 0 → 2 ≤ kindAt d t
+      → (length (memberOffsets (modelIn d) (tyAt d t)) ≡ countAt d t) × (count (membersOf (tyAt d t)) ≡ countAt d t)
+  pub lie : (d : List ℕ) (t : ℕ) → questionRefusal d t ≡ 0 → 2 ≤ kindAt d t → MembersLie d t (offsetAt d t)
+  -- what an accepted list holds at exit: an offset for each member, and behind them what stood there; a basic type and an array have no members
+  pub below : (d : List ℕ) (t : ℕ) (list : List ℕ) (i x : ℕ) → offsetsRefusal d t (length list) ≡ 0 → 2 ≤ kindAt d t → i < countAt d t
+      → getD (offsetsAfter d t list) i x ≡ offsetAt d t i
+  pub past : (d : List ℕ) (t : ℕ) (list : List ℕ) (i x : ℕ) → offsetsRefusal d t (length list) ≡ 0 → 2 ≤ kindAt d t → countAt d t ≤ i
+      → getD (offsetsAfter d t list) i x ≡ getD list i x
+  pub other : (d : List ℕ) (t : ℕ) (list : List ℕ) → kindAt d t < 2 → offsetsAfter d t list ≡ list
+  pub long : (d : List ℕ) (t : ℕ) (list : List ℕ) → length (offsetsAfter d t list) ≡ length list
 
 -- ---- B2: classes, which `type_classes` gives
 
@@ -307,6 +337,7 @@ pub record B14-Cases : Type 0 where
 
 pub record Demand2 : Type 0 where
   pub sizes : B1-Sizes
+  pub offsets : B1-Offsets
   pub classes : B2-Classes
   pub registers : B3-Registers
   pub stack : B4-Stack

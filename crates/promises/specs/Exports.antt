@@ -13,7 +13,7 @@ use denote.Triple.Entry.{Res}
 use denote.Triple.Clauses.{Ended, Lasts}
 use Rattle.tightness.specs.Tight.{Call as Made, Admits}
 use Rattle.addresses.specs.Addresses.{gather}
-use Rattle.description.specs.Description.{argumentsIn, modelIn}
+use Rattle.description.specs.Description.{argumentsIn, kindAt, countAt, modelIn}
 use Rattle.form.specs.declared.Refusal.{Refusal}
 use Rattle.form.specs.Order.{Rule}
 use Rattle.types.specs.Size.{sizeTy, alignTy}
@@ -54,6 +54,7 @@ use Rattle.callbridge.proofs.cb_check
 use Rattle.callbridge.proofs.cb_type_extent
 use Rattle.callbridge.proofs.cb_type_classes
 use Rattle.callbridge.proofs.cb_member_run
+use Rattle.callbridge.proofs.cb_member_offsets
 use Rattle.callbridge.proofs.cb_layout_of
 use Rattle.callbridge.proofs.cb_lay_out
 use Rattle.callbridge.proofs.cb_write_listing
@@ -68,9 +69,10 @@ use Rattle.callbridge.proofs.cb_open_walk
 use Rattle.callbridge.proofs.cb_step
 use Rattle.callbridge.proofs.cb_show
 use Rattle.promises.specs.Meaning.{outcome, ofRefusal, Members, run, none, Part as Shown, inRegisters, inStack, apart, shownPart, Answered}
-use Rattle.promises.specs.Orders.{questionOrder, checkOrder, layoutOrder, placeOrder, gatherOrder, putOrder, takeOrder, attachOrder, detachOrder, openOrder, stepOrder, showOrder}
+use Rattle.promises.specs.Orders.{questionOrder, offsetsOrder, checkOrder, layoutOrder, placeOrder, gatherOrder, putOrder, takeOrder, attachOrder, detachOrder, openOrder, stepOrder, showOrder}
 use Rattle.promises.specs.WrongType.{Names}
 use Rattle.promises.specs.Demand1.{members, classPair}
+use Rattle.promises.specs.Demand2.{MembersLie}
 use Rattle.promises.specs.Calls.{Ensures}
 
 -- ---- what a call with a lent record does
@@ -116,6 +118,15 @@ bytesIn p registers stack =
 pub record Checks (d : List ℕ) (r : Refusal) : Type 0 where
   pub answered : Answered (ofRefusal r) (checkOrder d) tt
   pub names : Names d r
+
+-- cb_member_offsets: entries past the members stay, and a refused list stays
+pub record OffsetsFlat (d : List ℕ) (t : ℕ) (list : List ℕ) (r : Refusal) (after : List ℕ) : Type 0 where
+  pub answered : Answered (ofRefusal r) (offsetsOrder d t (length list)) tt
+  pub names : Names d r
+  pub refused : r .number ≢ 0 → after ≡ list
+  pub lie : r .number ≡ 0 → 2 ≤ kindAt d t → MembersLie d t (λ i. getD after i 0)
+  pub past : r .number ≡ 0 → 2 ≤ kindAt d t → (i x : ℕ) → countAt d t ≤ i → getD after i x ≡ getD list i x
+  pub other : kindAt d t < 2 → after ≡ list
 
 -- cb_lay_out: "Entries past A stay", and a refused list stays
 pub record LaysOutFlat (d : List ℕ) (old : Layout) (list : List Placement) (r : Refusal) (new : Layout) (after : List Placement) : Type 0 where
@@ -202,6 +213,8 @@ pub record Exports : Type 2 where
       (now (c .passed .1 .1 .0)) r (w .1 .1 .0))
   pub member-run : Ensures cb_member_run.ended (λ M. cb_member_run.clauses {M = M})
       (λ c r w. GivesPart membersRead (now (c .passed .0)) (questionOrder (now (c .passed .0)) (c .passed .1 .0)) (members (now (c .passed .0)) (c .passed .1 .0)) r (w .1 .1 .0))
+  pub member-offsets : Ensures cb_member_offsets.ended (λ M. cb_member_offsets.clauses {M = M})
+      (λ c r w. OffsetsFlat (now (c .passed .0)) (c .passed .1 .0) (now (c .passed .1 .1 .0)) r (w .1 .1 .0))
   pub layout-of : Ensures cb_layout_of.ended (λ M. cb_layout_of.clauses {M = M})
       (λ c r w. Fills layoutRead (now (c .passed .0)) (checkOrder (now (c .passed .0))) (layoutOf (now (c .passed .0)), argumentsIn (now (c .passed .0))) (now (c .passed .1 .0)) r (w .1 .0))
   pub lay-out : Ensures cb_lay_out.ended (λ M. cb_lay_out.clauses {M = M})

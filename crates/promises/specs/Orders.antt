@@ -10,6 +10,7 @@ use Rattle.form.specs.Conditions.{tooShort, wrongMark, wrongVersion, wrongCount
 use Rattle.form.specs.Order.{Rule, rule}
 use Rattle.types.specs.Large.{tooLarge}
 use Rattle.questions.specs.Questions.{notBelow}
+use Rattle.questions.specs.Offsets.{shortOffsets}
 use Rattle.uses.specs.Uses.{wrongUse, narrowUnnamed}
 use Rattle.layout.specs.Verdict.{wideArea}
 use Rattle.layout.specs.Layout.{layoutOf}
@@ -42,6 +43,10 @@ checkOrder d = usesOrder d ++ rule 10 (wideArea d) ∷ []
 -- "A question about one type (size, alignment, classes, run): 1..7, then 8 for a type number not below T; arrays are answered"
 abbrev pub questionOrder : List ℕ → ℕ → List Rule
 questionOrder d t = typesOrder d ++ rule 8 (notBelow d t) ∷ []
+
+-- the offsets of a type's members, for a list of so many: as the other questions about one type, then 11
+abbrev pub offsetsOrder : List ℕ → ℕ → ℕ → List Rule
+offsetsOrder d t room = questionOrder d t ++ rule 11 (shortOffsets d t room) ∷ []
 
 -- "Layout: 1..10, 11", for a list of so many records
 abbrev pub layoutOrder : List ℕ → ℕ → List Rule

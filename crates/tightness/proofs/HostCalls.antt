@@ -8,6 +8,7 @@ use Rattle.questions.proofs.type_extent
 use Rattle.questions.proofs.type_classes
 use Rattle.questions.proofs.run_at
 use Rattle.questions.proofs.member_run
+use Rattle.questions.proofs.member_offsets
 use Rattle.layout.proofs.check
 use Rattle.layout.proofs.layout_of
 use Rattle.layout.proofs.lay_out
@@ -32,6 +33,7 @@ use Rattle.callbridge.proofs.cb_check
 use Rattle.callbridge.proofs.cb_type_extent
 use Rattle.callbridge.proofs.cb_type_classes
 use Rattle.callbridge.proofs.cb_member_run
+use Rattle.callbridge.proofs.cb_member_offsets
 use Rattle.callbridge.proofs.cb_layout_of
 use Rattle.callbridge.proofs.cb_lay_out
 use Rattle.callbridge.proofs.cb_write_listing
@@ -66,6 +68,9 @@ total-questions-run-at c g = refl
 
 pub total-questions-member-run : Total member_run.ended (λ M. member_run.clauses {M = M})
 total-questions-member-run c g = refl
+
+pub total-questions-member-offsets : Total member_offsets.ended (λ M. member_offsets.clauses {M = M})
+total-questions-member-offsets c g = refl
 
 pub total-layout-check : Total check.ended (λ M. check.clauses {M = M})
 total-layout-check c g = refl
@@ -138,6 +143,9 @@ total-callbridge-cb-type-classes c g = refl
 
 pub total-callbridge-cb-member-run : Total cb_member_run.ended (λ M. cb_member_run.clauses {M = M})
 total-callbridge-cb-member-run c g = refl
+
+pub total-callbridge-cb-member-offsets : Total cb_member_offsets.ended (λ M. cb_member_offsets.clauses {M = M})
+total-callbridge-cb-member-offsets c g = refl
 
 pub total-callbridge-cb-layout-of : Total cb_layout_of.ended (λ M. cb_layout_of.clauses {M = M})
 total-callbridge-cb-layout-of c g = refl

@@ -27,6 +27,9 @@ use Rattle.callbridge.proofs.cb_type_classes.Symbol as cb-type-classes-symbol
 use Rattle.callbridge.proofs.cb_member_run
 use Rattle.callbridge.proofs.cb_member_run.Met as cb-member-run-met
 use Rattle.callbridge.proofs.cb_member_run.Symbol as cb-member-run-symbol
+use Rattle.callbridge.proofs.cb_member_offsets
+use Rattle.callbridge.proofs.cb_member_offsets.Met as cb-member-offsets-met
+use Rattle.callbridge.proofs.cb_member_offsets.Symbol as cb-member-offsets-symbol
 use Rattle.callbridge.proofs.cb_layout_of
 use Rattle.callbridge.proofs.cb_layout_of.Met as cb-layout-of-met
 use Rattle.callbridge.proofs.cb_layout_of.Symbol as cb-layout-of-symbol
@@ -105,6 +108,15 @@ tight-callbridge-cb-member-run c r q w v a b = (settle (result cb_member_run.end
   where
     same-part : w .1 .1 .0 ≡ v .1 .1 .0
     same-part = settle (flat-Part.the-row .coded) (a .ensured) (b .ensured) (λ e f. e .1 ∙ sym (f .1))
+
+pub meets-callbridge-cb-member-offsets : Meets cb_member_offsets.ended (λ M. cb_member_offsets.clauses {M = M}) cb-member-offsets-symbol.routine
+meets-callbridge-cb-member-offsets M = cb-member-offsets-met.met
+
+pub tight-callbridge-cb-member-offsets : Tight cb_member_offsets.ended (λ M. cb_member_offsets.clauses {M = M})
+tight-callbridge-cb-member-offsets c r q w v a b = (settle (result cb_member_offsets.ended c) (a .ensured) (b .ensured) (λ e f. e .0 ∙ sym (f .0)), λ i. (tt, (tt, (same-offsets i, tt))))
+  where
+    same-offsets : w .1 .1 .0 ≡ v .1 .1 .0
+    same-offsets = settle bytes (a .ensured) (b .ensured) (λ e f. e .1 ∙ sym (f .1))
 
 pub meets-callbridge-cb-layout-of : Meets cb_layout_of.ended (λ M. cb_layout_of.clauses {M = M}) cb-layout-of-symbol.routine
 meets-callbridge-cb-layout-of M = cb-layout-of-met.met

@@ -1,5 +1,5 @@
 -- Written by tools/tightness: each public function of `questions` meets its contract, and the contract is tight. Assumes nothing.
-use mathlib.Core.Path.{refl, sym, _∙_}
+use mathlib.Core.Path.{_≡_, refl, sym, _∙_}
 use denote.Ref.{now}
 use Rattle.tightness.specs.Tight.{Meets, Tight, TightPart}
 use Rattle.tightness.proofs.Laws.{bytes, equal, result, settle}
@@ -18,6 +18,9 @@ use Rattle.questions.proofs.type_size.Symbol as type-size-symbol
 use Rattle.questions.proofs.type_align
 use Rattle.questions.proofs.type_align.Met as type-align-met
 use Rattle.questions.proofs.type_align.Symbol as type-align-symbol
+use Rattle.questions.proofs.member_offsets
+use Rattle.questions.proofs.member_offsets.Met as member-offsets-met
+use Rattle.questions.proofs.member_offsets.Symbol as member-offsets-symbol
 use Rattle.questions.proofs.run_at
 use Rattle.questions.proofs.run_at.Met as run-at-met
 use Rattle.questions.proofs.run_at.Symbol as run-at-symbol
@@ -54,6 +57,15 @@ meets-questions-type-align M = type-align-met.met
 
 pub tight-questions-type-align : Tight type_align.ended (λ M. type_align.clauses {M = M})
 tight-questions-type-align c r q w v a b = (equal (result type_align.ended c) (a .ensured) (b .ensured), refl)
+
+pub meets-questions-member-offsets : Meets member_offsets.ended (λ M. member_offsets.clauses {M = M}) member-offsets-symbol.routine
+meets-questions-member-offsets M = member-offsets-met.met
+
+pub tight-questions-member-offsets : Tight member_offsets.ended (λ M. member_offsets.clauses {M = M})
+tight-questions-member-offsets c r q w v a b = (settle (result member_offsets.ended c) (a .ensured) (b .ensured) (λ e f. e .0 ∙ sym (f .0)), λ i. (tt, (tt, (same-offsets i, tt))))
+  where
+    same-offsets : w .1 .1 .0 ≡ v .1 .1 .0
+    same-offsets = settle bytes (a .ensured) (b .ensured) (λ e f. e .1 ∙ sym (f .1))
 
 pub meets-questions-run-at : Meets run_at.ended (λ M. run_at.clauses {M = M}) run-at-symbol.routine
 meets-questions-run-at M = run-at-met.met
