@@ -174,6 +174,13 @@ static void check(int which)
     cb_check(cases[which].bytes, cases[which].length);
 }
 
+/* Of the last type, whose run is the longest. */
+static void offsets(int which)
+{
+    size_t found[CB_MAX_MEMBERS];
+    cb_member_offsets(cases[which].bytes, cases[which].length, (uint8_t)(cases[which].bytes[5] - 1), found, CB_MAX_MEMBERS);
+}
+
 static void lay_out(int which)
 {
     cb_lay_out(cases[which].bytes, cases[which].length, &cases[which].layout, list, CB_MAX_ARGUMENTS);
@@ -202,6 +209,7 @@ static void count_case(int which)
     cb_attach(&station, seat, CB_SEAT_LENGTH, h->bytes, h->length);
     cb_open_walk(&station, seat, CB_SEAT_LENGTH, &walk);
     count("cb_check", which, 1, check);
+    count("cb_member_offsets", which, 1, offsets);
     count("cb_lay_out", which, 1, lay_out);
     count("cb_place_values", which, 1, place);
     count("cb_step", which, 1, step);

@@ -54,9 +54,11 @@ static void print_types(const call *c)
         cb_extent extent;
         cb_classes classes;
         cb_part members;
+        size_t offsets[CB_MAX_MEMBERS];
         if (cb_type_extent(c->description, c->length, type, &extent).number != CB_ACCEPTED ||
             cb_type_classes(c->description, c->length, type, &classes).number != CB_ACCEPTED ||
-            cb_member_run(c->description, c->length, type, &members).number != CB_ACCEPTED) {
+            cb_member_run(c->description, c->length, type, &members).number != CB_ACCEPTED ||
+            cb_member_offsets(c->description, c->length, type, offsets, CB_MAX_MEMBERS).number != CB_ACCEPTED) {
             return;
         }
         printf("type %u: %zu bytes, aligned to %zu, %s %s", type, extent.size, extent.align, class_name(classes.first),
@@ -64,7 +66,7 @@ static void print_types(const call *c)
         if (members.image == CB_DESCRIPTION) {
             printf(", members");
             for (size_t i = 0; i < members.length; i++) {
-                printf(" %u", c->description[members.offset + i]);
+                printf(" %u at %zu", c->description[members.offset + i], offsets[i]);
             }
         }
         printf("\n");

@@ -58,7 +58,7 @@ extern "C" {
 
 #define CB_FORMAT_VERSION 1      /* what bytes 3 and 4 say */
 #define CB_MAX_TYPES 64          /* types of one description */
-#define CB_MAX_MEMBERS 255       /* members of all its structs and unions together */
+#define CB_MAX_MEMBERS 255       /* members of all its structs and unions together: a list of so many offsets is always long enough */
 #define CB_MAX_ELEMENTS 4096     /* elements of one array */
 #define CB_MAX_VALUES 16560      /* bytes of all values of one call, packed: no more than both images have */
 #define CB_VOID 255              /* byte 9 where nothing is returned: no type has this number */
@@ -284,6 +284,11 @@ cb_refusal cb_type_classes(const uint8_t *description, size_t description_length
 /* The part of the description that holds the type numbers of a struct's or union's members; CB_NOWHERE for another kind of type, and
    for a refusal. Refused 1 to 8, as cb_type_extent. */
 cb_refusal cb_member_run(const uint8_t *description, size_t description_length, uint8_t type, cb_part *run);
+
+/* Where each member of a struct or a union lies in it, in bytes and in the members' order, into the first entries of a list of so many;
+   the entries behind them stay. Another kind of type has no members. Refused 1 to 8, as cb_type_extent, then 11 for a list that is
+   shorter than the members. */
+cb_refusal cb_member_offsets(const uint8_t *description, size_t description_length, uint8_t type, size_t *offsets, size_t offsets_length);
 
 /* The layout of the call. Refused 1 to 10. */
 cb_refusal cb_layout_of(const uint8_t *description, size_t description_length, cb_layout *layout);

@@ -23,7 +23,7 @@ import os
 import threading
 from typing import List, NamedTuple, Optional, Tuple, Union
 
-__version__ = '3.0.0'
+__version__ = '3.1.0'
 
 INTERFACE = 3  # CB_VERSION of the header that this module is written for
 MAX_ARGUMENTS = 64
@@ -137,6 +137,7 @@ _FUNCTIONS = {
     'cb_type_extent': (cb_refusal, _in, _size, _byte, _pointer(cb_extent)),
     'cb_type_classes': (cb_refusal, _in, _size, _byte, _pointer(cb_classes)),
     'cb_member_run': (cb_refusal, _in, _size, _byte, _pointer(cb_part)),
+    'cb_member_offsets': (cb_refusal, _in, _size, _byte, _pointer(_size), _size),
     'cb_layout_of': (cb_refusal, _in, _size, _pointer(cb_layout)),
     'cb_lay_out': (cb_refusal, _in, _size, _pointer(cb_layout), _pointer(cb_placement), _size),
     'cb_write_listing': (_size, _in, _size, _out),
@@ -250,6 +251,17 @@ def member_run(description: Bytes, type_number: int) -> Optional[Tuple[int, ...]
     d, out = _bytes(description), cb_part()
     _accepted(_library.cb_member_run(d, len(d), _number(type_number, 8, 'the type'), out))
     return tuple(d[out.offset : out.offset + out.length]) if out.image == 1 else None
+
+
+def member_offsets(description: Bytes, type_number: int) -> Optional[Tuple[int, ...]]:
+    """Where each member of a struct or union lies in it, in bytes and in order; None for another kind of type. Refused as type_extent."""
+    d = _bytes(description)
+    members = member_run(d, type_number)
+    if members is None:
+        return None
+    out = (_size * len(members))()
+    _accepted(_library.cb_member_offsets(d, len(d), _number(type_number, 8, 'the type'), out, len(members)))
+    return tuple(out)
 
 
 # ---- layout

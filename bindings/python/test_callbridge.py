@@ -75,7 +75,8 @@ class Header(Case):
                 kind = kind[:-1].strip()
                 if kind == 'const uint8_t':
                     return ('c_char_p', 'c_void_p')
-                return ('c_void_p',) if kind == 'uint8_t' else ('LP_' + kind.replace('const ', ''),)
+                kind = kind.replace('const ', '')
+                return ('c_void_p',) if kind == 'uint8_t' else ('LP_' + plain.get(kind, kind),)
             return (plain.get(kind, kind),)
 
         declared = re.findall(r'^(\w+) (cb_\w+)\(([^)]*)\);', CODE, flags=re.M)
@@ -136,6 +137,14 @@ class Raw(Case):
         self.assertEqual(self.library.cb_member_run(MIXED, len(MIXED), 3, part).number, 0)
         self.assertEqual((part.offset, part.length, part.image, bytes(part.reserved)), (35, 2, 1, bytes(7)))
 
+    def test_a_list_of_offsets(self):
+        offsets = rubbish(ctypes.c_size_t * 3)
+        self.assertEqual(self.library.cb_member_offsets(MIXED, len(MIXED), 3, offsets, 1).number, 11)
+        self.assertEqual(bytes(offsets), b'\xa5' * 24)
+        self.assertEqual(self.library.cb_member_offsets(MIXED, len(MIXED), 3, offsets, 3).number, 0)
+        self.assertEqual(bytes(offsets), struct.pack('<QQ', 0, 8) + b'\xa5' * 8)
+        self.assertEqual(self.library.cb_member_offsets(MIXED, len(MIXED), 0, None, 0).number, 0)
+
     def test_reserved_bytes(self):
         layout, placements = rubbish(callbridge.cb_layout), rubbish(callbridge.cb_placement * 6)
         self.assertEqual(self.library.cb_lay_out(MIXED, len(MIXED), layout, placements, 4).number, 11)
@@ -175,7 +184,9 @@ class Types(Case):
         self.assertEqual(callbridge.type_classes(MIXED, 3), (Class.SSE, Class.INTEGER))
         self.assertEqual(callbridge.member_run(MIXED, 3), (1, 2))
         self.assertIsNone(callbridge.member_run(MIXED, 0))
-        for call in (callbridge.type_extent, callbridge.type_classes, callbridge.member_run):
+        self.assertEqual(callbridge.member_offsets(MIXED, 3), (0, 8))
+        self.assertIsNone(callbridge.member_offsets(MIXED, 0))
+        for call in (callbridge.type_extent, callbridge.type_classes, callbridge.member_run, callbridge.member_offsets):
             self.refused(8, call, MIXED, 6)
             self.refused(8, call, MIXED, 255)
 
@@ -190,6 +201,7 @@ class Types(Case):
             self.refused(number, callbridge.type_extent, d, 1, type_number=wrong)
             self.refused(number, callbridge.type_classes, d, 1, type_number=wrong)
             self.refused(number, callbridge.member_run, d, 1, type_number=wrong)
+            self.refused(number, callbridge.member_offsets, d, 1, type_number=wrong)
             self.refused(number, callbridge.layout_of, d, type_number=wrong)
             self.refused(number, callbridge.lay_out, d, type_number=wrong)
             self.refused(number, callbridge.place_values, d, VALUES, type_number=wrong)
@@ -214,6 +226,7 @@ class Types(Case):
             self.assertRaises(ValueError, callbridge.type_extent, MIXED, wrong)
             self.assertRaises(ValueError, callbridge.type_classes, MIXED, wrong)
             self.assertRaises(ValueError, callbridge.member_run, MIXED, wrong)
+            self.assertRaises(ValueError, callbridge.member_offsets, MIXED, wrong)
         for wrong in (-1, 1 << 64):
             self.assertRaises(ValueError, callbridge.place_values, MIXED, VALUES, wrong)
             self.assertRaises(ValueError, callbridge.put_returned, MIXED, bytes(8), wrong)

@@ -48,7 +48,8 @@ enum command {
     PLACE_VALUES = 41,   /* u64 hidden, part values, part registers, part stack */
     GATHER_VALUES = 42,  /* part registers, part stack, part values */
     PUT_RETURNED = 43,   /* u64 hidden, part value, part image */
-    TAKE_RETURNED = 44   /* part image, part value */
+    TAKE_RETURNED = 44,  /* part image, part value */
+    MEMBER_OFFSETS = 45  /* u8 type, u16 entries of the list */
 };
 
 /* What is lent. Its number is in its canaries. */
@@ -242,6 +243,19 @@ static void member_run(void)
     answer_part(run);
 }
 
+static void member_offsets(void)
+{
+    uint8_t type = byte();
+    size_t entries = number(2);
+    size_t *offsets = lend_filled(LIST, entries * sizeof *offsets);
+    size_t *list = (size_t *)pointer_to(LIST, lent[LIST].length);
+    told(cb_member_offsets(BUFFER(DESCRIPTION), type, list, entries));
+    for (size_t i = 0; i < entries; i++) {
+        field(offsets[i]);
+    }
+    answer_canaries(LIST);
+}
+
 static void answer_layout(const cb_layout *layout)
 {
     field(layout->general_registers);
@@ -358,6 +372,7 @@ static void play_description(uint8_t command)
     case TYPE_EXTENT: type_extent(); break;
     case TYPE_CLASSES: type_classes(); break;
     case MEMBER_RUN: member_run(); break;
+    case MEMBER_OFFSETS: member_offsets(); break;
     case LAYOUT_OF: layout_of(); break;
     case LAY_OUT: lay_out(); break;
     case WRITE_LISTING: write_listing(); break;

@@ -18,6 +18,7 @@ typedef struct desk {
     cb_extent extent;
     cb_classes classes;
     cb_part part;
+    size_t offsets[16];
     cb_placed placed;
     cb_gathered gathered;
     cb_station station;
@@ -80,6 +81,12 @@ static cb_refusal type_classes(desk *d, unsigned empty)
 static cb_refusal member_run(desk *d, unsigned empty)
 {
     return cb_member_run(DESCRIPTION, 0, &d->part);
+}
+
+static cb_refusal member_offsets(desk *d, unsigned empty)
+{
+    int empty_list = empty >> 1 & 1;
+    return cb_member_offsets(DESCRIPTION, 0, empty_list && nothing == NULL ? NULL : d->offsets, empty_list ? 0 : 16);
 }
 
 static cb_refusal layout_of(desk *d, unsigned empty)
@@ -161,6 +168,7 @@ static const struct call {
     {"cb_type_extent", 1, type_extent},
     {"cb_type_classes", 1, type_classes},
     {"cb_member_run", 1, member_run},
+    {"cb_member_offsets", 2, member_offsets},
     {"cb_layout_of", 1, layout_of},
     {"cb_lay_out", 2, lay_out},
     {"cb_write_listing", 1, write_listing},

@@ -107,12 +107,15 @@ static void questions(void)
     LENT(cb_extent) extent;
     LENT(cb_classes) classes;
     LENT(cb_part) part;
+    size_t offsets[3];
     FRESH(extent);
     FRESH(classes);
     FRESH(part);
+    FRESH(offsets);
     answered("cb_type_extent", cb_type_extent(mixed, sizeof mixed, 3, &extent.value));
     answered("cb_type_classes", cb_type_classes(mixed, sizeof mixed, 3, &classes.value));
     answered("cb_member_run", cb_member_run(mixed, sizeof mixed, 3, &part.value));
+    answered("cb_member_offsets", cb_member_offsets(mixed, sizeof mixed, 3, offsets, 3));
     GUARDED(extent);
     GUARDED(classes);
     GUARDED(part);
@@ -124,6 +127,9 @@ static void questions(void)
     expect("part.length", part.value.length, 2);
     expect("part.image", part.value.image, CB_DESCRIPTION);
     RESERVED(part.value);
+    expect("offsets[0]", offsets[0], 0);
+    expect("offsets[1]", offsets[1], 8);
+    all_are("the entries behind the offsets", &offsets[2], sizeof offsets[2], FILLING);
     printf("cb_extent %zu: size %zu align %zu\n", sizeof(cb_extent), offsetof(cb_extent, size), offsetof(cb_extent, align));
     printf("cb_classes %zu: first %zu second %zu\n", sizeof(cb_classes), offsetof(cb_classes, first), offsetof(cb_classes, second));
     printf("cb_part %zu: offset %zu length %zu image %zu reserved %zu\n", sizeof(cb_part), offsetof(cb_part, offset),
@@ -292,6 +298,7 @@ static void refused_description(void)
     LENT(cb_placed) placed;
     LENT(cb_gathered) gathered;
     cb_placement records[4];
+    size_t offsets[2];
     uint8_t values[60], registers[CB_REGISTER_IMAGE], stack[16], image[CB_RETURN_IMAGE];
     FRESH(extent);
     FRESH(classes);
@@ -300,6 +307,7 @@ static void refused_description(void)
     FRESH(placed);
     FRESH(gathered);
     FRESH(records);
+    FRESH(offsets);
     FRESH(values);
     FRESH(registers);
     FRESH(stack);
@@ -314,6 +322,12 @@ static void refused_description(void)
     answered("cb_member_run", cb_member_run(mixed, sizeof mixed, 0, &part.value));
     part_empty("cb_member_run, of an int: the part", &part.value);
     GUARDED(part);
+    told("cb_member_offsets", cb_member_offsets(mixed, sizeof mixed, 6, offsets, 2), CB_WRONG_TYPE_NUMBER, 0);
+    KEPT("cb_member_offsets", offsets);
+    told("cb_member_offsets", cb_member_offsets(mixed, sizeof mixed, 3, offsets, 1), CB_WRONG_BUFFER, 0);
+    KEPT("cb_member_offsets", offsets);
+    answered("cb_member_offsets", cb_member_offsets(mixed, sizeof mixed, 0, offsets, 2));
+    KEPT("cb_member_offsets, of an int", offsets);
     told("cb_layout_of", cb_layout_of(mixed, sizeof mixed - 1, &whole.value), CB_WRONG_LENGTH, 0);
     KEPT("cb_layout_of", whole);
     told("cb_lay_out", cb_lay_out(mixed, sizeof mixed, &whole.value, records, 4), CB_WRONG_BUFFER, 0);
@@ -438,6 +452,7 @@ static void told_of_description(const uint8_t *bad, uint8_t number, uint8_t type
     cb_extent extent;
     cb_classes classes;
     cb_part run;
+    size_t offsets[2];
     cb_layout whole;
     cb_placement list[2];
     cb_placed placed;
@@ -447,6 +462,7 @@ static void told_of_description(const uint8_t *bad, uint8_t number, uint8_t type
     told("cb_type_extent", cb_type_extent(bad, INTS, 0, &extent), number, type);
     told("cb_type_classes", cb_type_classes(bad, INTS, 0, &classes), number, type);
     told("cb_member_run", cb_member_run(bad, INTS, 0, &run), number, type);
+    told("cb_member_offsets", cb_member_offsets(bad, INTS, 0, offsets, 2), number, type);
     told("cb_layout_of", cb_layout_of(bad, INTS, &whole), number, type);
     told("cb_lay_out", cb_lay_out(bad, INTS, &whole, list, 2), number, type);
     told("cb_place_values", cb_place_values(bad, INTS, 0, bytes, 8, registers, sizeof registers, stack, 0, &placed), number, type);

@@ -72,7 +72,7 @@ pub use moving::{
 };
 pub use refusal::Refusal;
 pub use station::{Station, Walk, SEAT};
-pub use types::{check, classes, extent, listing, members, Class, Extent};
+pub use types::{check, classes, extent, listing, members, offsets, Class, Extent};
 
 /// The version of the library that is linked.
 pub fn version() -> u32 {

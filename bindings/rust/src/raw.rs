@@ -159,6 +159,13 @@ extern "C" {
     pub fn cb_type_extent(d: *const u8, n: usize, asked: u8, extent: *mut Extent) -> Refusal;
     pub fn cb_type_classes(d: *const u8, n: usize, asked: u8, classes: *mut Classes) -> Refusal;
     pub fn cb_member_run(d: *const u8, n: usize, asked: u8, run: *mut Part) -> Refusal;
+    pub fn cb_member_offsets(
+        d: *const u8,
+        n: usize,
+        asked: u8,
+        offsets: *mut usize,
+        room: usize,
+    ) -> Refusal;
     pub fn cb_layout_of(d: *const u8, n: usize, layout: *mut Layout) -> Refusal;
     pub fn cb_lay_out(
         d: *const u8,

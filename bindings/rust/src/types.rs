@@ -76,6 +76,19 @@ pub fn members(description: &[u8], type_number: u8) -> Result<&[u8], Refusal> {
     Ok(&description[run.offset..run.offset + run.length])
 }
 
+/// Where each member of a struct or union lies in it, in bytes and in order; empty for another kind
+/// of type. Refused 1 to 8.
+pub fn offsets(description: &[u8], type_number: u8) -> Result<Vec<usize>, Refusal> {
+    let mut offsets = vec![0; members(description, type_number)?.len()];
+    // Safety: each pointer goes with the length of its slice; the list is this function's own.
+    let answer = unsafe {
+        let (list, room) = (offsets.as_mut_ptr(), offsets.len());
+        raw::cb_member_offsets(description.as_ptr(), description.len(), type_number, list, room)
+    };
+    Refusal::of(answer)?;
+    Ok(offsets)
+}
+
 /// The layout as text, or the line `refused n`, or `refused n type t` where the refusal names a type.
 pub fn listing(description: &[u8]) -> String {
     let mut out = [0u8; 4096];

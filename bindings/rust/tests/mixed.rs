@@ -37,6 +37,9 @@ fn questions_about_types() {
     assert_eq!(callbridge::classes(MIXED, 3), Ok([Class::Sse, Class::Integer]));
     assert_eq!(callbridge::members(MIXED, 3), Ok(&[1u8, 2][..]));
     assert_eq!(callbridge::members(MIXED, 0), Ok(&[][..]));
+    assert_eq!(callbridge::offsets(MIXED, 3), Ok(vec![0, 8]));
+    assert_eq!(callbridge::offsets(MIXED, 0), Ok(vec![]));
+    assert_eq!(callbridge::offsets(MIXED, 6).map_err(number), Err(8));
     assert_eq!(callbridge::extent(MIXED, 6).map_err(number), Err(8));
 }
 
@@ -67,6 +70,7 @@ fn a_refusal_says_which_type_is_wrong() {
         assert_eq!(callbridge::extent(&bytes, 1), Err(refusal));
         assert_eq!(callbridge::classes(&bytes, 1), Err(refusal));
         assert_eq!(callbridge::members(&bytes, 1), Err(refusal));
+        assert_eq!(callbridge::offsets(&bytes, 1), Err(refusal));
         assert_eq!(callbridge::lay_out(&bytes), Err(refusal));
         assert_eq!(Station::new().attach(&bytes), Err(refusal));
     }

@@ -19,6 +19,18 @@ fn a_refused_part_is_empty() {
 }
 
 #[test]
+fn a_list_of_offsets_is_long_enough_or_stays() {
+    let (d, n) = (MIXED.as_ptr(), MIXED.len());
+    let mut offsets = [99; 3];
+    let refusal = unsafe { cb_member_offsets(d, n, 3, offsets.as_mut_ptr(), 1) };
+    assert_eq!((refusal.number, offsets), (11, [99; 3]));
+    let refusal = unsafe { cb_member_offsets(d, n, 3, offsets.as_mut_ptr(), 3) };
+    assert_eq!((refusal.number, offsets), (0, [0, 8, 99]));
+    let refusal = unsafe { cb_member_offsets(d, n, 0, null_mut(), 0) };
+    assert_eq!(refusal.number, 0);
+}
+
+#[test]
 fn any_number_but_0_is_attached() {
     let (registers, stack) = ([0; 176], [0; 16]);
     for attached in 1..=255 {

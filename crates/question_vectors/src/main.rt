@@ -80,13 +80,44 @@ fn print_part(part: &[u8]) {
     }
 }
 
+fn print_offset(offset: usize) {
+    print_number(b" ", offset as u64);
+}
+
+fn print_offsets(offsets: &[usize]) {
+    print(b" offsets");
+    for i in 0..offsets.len() {
+        print_offset(offsets[i]);
+    }
+}
+
+// What a list holds that is lent for the members' offsets.
+fn fill_offsets(d: &[u8], t: u8, offsets: &mut [usize]) {
+    let refusal = questions::member_offsets(d, t, offsets);
+    if refusal.number != 0 {
+        print_refusal(refusal);
+        return;
+    }
+    print_offsets(offsets);
+}
+
+// Where the `count` members lie, in a list that is just as long.
+fn ask_offsets(d: &[u8], t: u8, count: usize, space: &mut [usize]) {
+    if space.len() < count {
+        return;
+    }
+    fill_offsets(d, t, &mut space[..count]);
+}
+
 // Where the run lies, and the part that is handed out for it: its bytes are those that stand there only where it begins there.
 fn print_run(d: &[u8], t: u8) {
     let part = questions::member_run(d, t);
+    let mut offsets = [0usize; 255];
     match questions::run_at(d, t) {
-        RunAnswer::Run(offset, _) => {
+        RunAnswer::Run(offset, count) => {
             print_number(b" run ", offset.0 as u64);
             print_part(part);
+            ask_offsets(d, t, count, &mut offsets);
         }
         RunAnswer::NoRun => {
             print(b" run none");

@@ -136,8 +136,8 @@ static void judge_one(const struct judged *one)
     take(return_image, sizeof return_image);
     judge_caller(one);
     judge_callee(one, length, al, &start);
-    give(&one->types, sizeof one->types);
-    give(one->measures, 2 * one->types * sizeof(unsigned));
+    give(&one->numbers, sizeof one->numbers);
+    give(one->measures, one->numbers * sizeof(unsigned));
     fflush(answers);
 }
 

@@ -9,8 +9,8 @@ struct judged {
     void (*call)(const unsigned char *values); /* calls the probe */
     void (*callee)();                          /* reads named parameters, va_arg, returns */
     void (*walk)(va_list *list);               /* va_arg alone, where none is named */
-    const unsigned *measures;                  /* sizeof and _Alignof of each type */
-    unsigned types;
+    const unsigned *measures;                  /* of each type sizeof, _Alignof and, for each member, offsetof */
+    unsigned numbers;                          /* so many in all */
 };
 
 extern const struct judged judged[];

@@ -1,4 +1,5 @@
 /* Names of the types that are no keywords everywhere. */
+#include <stddef.h>
 
 /* As gcc's own headers define them; those headers are not installed everywhere. */
 typedef int __m64 __attribute__((__vector_size__(8), __may_alias__));

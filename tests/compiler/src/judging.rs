@@ -66,14 +66,11 @@ pub fn judge(subject: &Subject, answer: &Answer) -> Judgement {
     judgement
 }
 
-/// sizeof and _Alignof of every type.
+/// sizeof and _Alignof of every type, and offsetof of its members.
 fn judge_measures(subject: &Subject, answer: &Answer, judgement: &mut Judgement) {
-    let types = &subject.accepted.types;
-    for (number, [size, alignment]) in answer.measures.iter().enumerate() {
-        let measure = types.measure(number as u8);
-        let what = format!("size and alignment of type {number}");
-        let layout = format!("{} {}", measure.size.0, measure.alignment.0);
-        judgement.equal(&what, format!("{size} {alignment}"), layout);
+    for (number, (found, layout)) in answer.measures.iter().zip(subject.measures()).enumerate() {
+        let what = format!("size, alignment and members' offsets of type {number}");
+        judgement.equal(&what, format!("{found:?}"), format!("{layout:?}"));
     }
 }
 

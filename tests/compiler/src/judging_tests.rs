@@ -27,10 +27,6 @@ fn agreeing(subject: &Subject) -> Answer {
         let offsets = offsets_after(taken);
         [offsets.gp_offset, offsets.fp_offset, offsets.overflow].map(|bytes| bytes.0 as u32)
     });
-    let measures = (0..types.description().types() as u8).map(|number| {
-        let measure = types.measure(number);
-        [measure.size.0 as u32, measure.alignment.0 as u32]
-    });
     Answer {
         registers: subject.registers.clone(),
         rax: layout.vector_count().0 as u64,
@@ -40,7 +36,7 @@ fn agreeing(subject: &Subject) -> Answer {
         notes: notes.collect(),
         after,
         hidden_room: subject.returned.clone(),
-        measures: measures.collect(),
+        measures: subject.measures(),
     }
 }
 
@@ -81,6 +77,8 @@ fn each_kind_of_wrong_answer_is_a_difference() {
     assert_eq!(differences(text, |answer| answer.after[16] ^= 1), 2);
     assert_eq!(differences(text, |answer| answer.after[48 + 8] ^= 1), 1);
     assert_eq!(differences(text, |answer| answer.measures[2][1] += 1), 1);
+    // Type 2 is the struct of long and double; its second member is at 8.
+    assert_eq!(differences(text, |answer| answer.measures[2][3] -= 8), 1);
 }
 
 #[test]

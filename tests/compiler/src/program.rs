@@ -59,8 +59,8 @@ pub struct Answer {
     /// rax, rdx, xmm0, xmm1 and the x87 state after the callee returned.
     pub after: Vec<u8>,
     pub hidden_room: Vec<u8>,
-    /// sizeof and _Alignof of each type.
-    pub measures: Vec<[u32; 2]>,
+    /// sizeof and _Alignof of each type, and offsetof of its members.
+    pub measures: Vec<Vec<u32>>,
 }
 
 impl Workshop {
@@ -134,7 +134,8 @@ impl Workshop {
         self.gcc(&["-fsyntax-only", "batch.c"])
     }
 
-    /// sizeof and _Alignof of each type of a batch, subject after subject.
+    /// sizeof and _Alignof of each type of a batch, and offsetof of its members,
+    /// subject after subject.
     pub fn run_sizes(&self, subjects: &[Subject]) -> Result<Vec<Answer>, String> {
         let path = self.directory.join("sizes.c");
         std::fs::write(path, sizes_source(subjects)).map_err(|error| error.to_string())?;
@@ -144,12 +145,13 @@ impl Workshop {
         let mut numbers = text.lines().filter_map(|line| line.parse::<u32>().ok());
         let mut answers = Vec::new();
         for subject in subjects {
-            let count = subject.accepted.types.description().types();
             let mut answer = Answer::default();
-            for _ in 0..count {
-                let pair = numbers.next().zip(numbers.next());
-                let (size, alignment) = pair.ok_or("the sizes end too early")?;
-                answer.measures.push([size, alignment]);
+            for layout in subject.measures() {
+                let measures: Vec<u32> = numbers.by_ref().take(layout.len()).collect();
+                if measures.len() < layout.len() {
+                    return Err("the sizes end too early".to_string());
+                }
+                answer.measures.push(measures);
             }
             answers.push(answer);
         }
@@ -207,8 +209,12 @@ impl Cursor<'_> {
         }
         answer.after = self.bytes(48 + 108)?;
         answer.hidden_room = self.bytes(subject.returned.len())?;
-        for _ in 0..self.number()? {
-            answer.measures.push([self.number()?, self.number()?]);
+        let layouts = subject.measures();
+        if self.number()? as usize != layouts.iter().map(Vec::len).sum() {
+            return None;
+        }
+        for layout in layouts {
+            answer.measures.push(layout.iter().map(|_| self.number()).collect::<Option<_>>()?);
         }
         Some(answer)
     }

@@ -42,8 +42,8 @@ pub fn source(subjects: &[Subject]) -> String {
     text
 }
 
-/// A program that prints sizeof and _Alignof of every type of a batch, and does
-/// nothing that depends on the machine's calls.
+/// A program that prints sizeof, _Alignof and each member's offsetof of every type
+/// of a batch, and does nothing that depends on the machine's calls.
 pub fn sizes_source(subjects: &[Subject]) -> String {
     let mut text = String::from("#include \"sizes.h\"\n");
     let mut all = Vec::new();
@@ -219,8 +219,13 @@ fn measures(index: usize, types: &Types) -> String {
 
 fn measure_list(index: usize, types: &Types) -> String {
     let each: Vec<String> = (0..types.description().types() as u8)
-        .map(|number| type_name(index, number))
-        .map(|name| format!("sizeof({name}), _Alignof({name})"))
+        .map(|number| {
+            let name = type_name(index, number);
+            let members = 0..types.member_offsets(number).len();
+            let offsets: String =
+                members.map(|place| format!(", offsetof({name}, m{place})")).collect();
+            format!("sizeof({name}), _Alignof({name}){offsets}")
+        })
         .collect();
     each.join(", ")
 }
@@ -232,10 +237,10 @@ fn table(subjects: &[Subject]) -> String {
             true => format!("f{index}_walk"),
             false => "0".to_string(),
         };
-        let types = subject.accepted.types.description().types();
+        let numbers: usize = subject.measures().iter().map(Vec::len).sum();
         writeln!(
             text,
-            "{{ f{index}_call, (void (*)())f{index}_callee, {walk}, f{index}_measures, {types} }},"
+            "{{ f{index}_call, (void (*)())f{index}_callee, {walk}, f{index}_measures, {numbers} }},"
         )
         .expect("text");
     }

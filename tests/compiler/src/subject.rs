@@ -73,6 +73,18 @@ impl<'a> Subject<'a> {
         description.is_variadic() && description.named() == 0
     }
 
+    /// Of each type: size, alignment and its members' offsets.
+    pub fn measures(&self) -> Vec<Vec<u32>> {
+        let types = &self.accepted.types;
+        let each = (0..types.description().types() as u8).map(|number| {
+            let measure = types.measure(number);
+            let mut all = vec![measure.size, measure.alignment];
+            all.extend(types.member_offsets(number));
+            all.iter().map(|bytes| bytes.0 as u32).collect()
+        });
+        each.collect()
+    }
+
     /// The offsets at the start of the walk.
     pub fn start(&self) -> Offsets {
         let named = self.accepted.types.description().named();

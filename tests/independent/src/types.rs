@@ -1,4 +1,5 @@
-//! Sizes and alignments, refusal 7, and the question for a member run.
+//! Sizes and alignments, refusal 7, and the questions for a member run and for
+//! the members' offsets.
 
 use crate::description::{form, Description, Record, ARRAY, BASIC, STRUCT, UNION};
 use crate::refusal::Refusal;
@@ -125,6 +126,15 @@ impl<'a> Types<'a> {
         run.iter().map(|&member| Part { type_number: member, offset: Bytes(0) }).collect()
     }
 
+    /// Where the members lie, in their order; a basic type and an array have
+    /// none.
+    pub fn member_offsets(&self, type_number: u8) -> Vec<Bytes> {
+        match self.record(type_number).kind {
+            STRUCT | UNION => self.parts(type_number).iter().map(|part| part.offset).collect(),
+            _ => Vec::new(),
+        }
+    }
+
     /// The measure of a type whose parts are measured.
     fn measured(&self, type_number: u8) -> Measure {
         let record = self.record(type_number);
@@ -204,4 +214,18 @@ pub fn run_range(bytes: &[u8], type_number: u8) -> Range<usize> {
 
 pub fn run(bytes: &[u8], type_number: u8) -> &[u8] {
     &bytes[run_range(bytes, type_number)]
+}
+
+/// The members' offsets into the first entries of a lent list, the others as
+/// they were. A question about one type, then 11, as for "a placement list under
+/// A", for a list of fewer entries than there are members.
+pub fn offsets(bytes: &[u8], type_number: u8, list: &mut [u64]) -> Result<(), Refusal> {
+    let found = asked(bytes, type_number)?.member_offsets(type_number);
+    if list.len() < found.len() {
+        return Err(Refusal::WrongLength);
+    }
+    for (entry, offset) in list.iter_mut().zip(found) {
+        *entry = offset.0 as u64;
+    }
+    Ok(())
 }

@@ -19,6 +19,7 @@ use crate::station::Station;
 use crate::types::{asked, run_range};
 use crate::units::Bytes;
 use crate::walk::Walk;
+use std::fmt::Display;
 
 /// One file pair.
 pub struct Pair {
@@ -123,9 +124,14 @@ pub fn question_line(bytes: &[u8], type_number: u8) -> String {
     let measure = types.measure(type_number);
     let [first, second] = classes_of(&types, type_number);
     let run = run_range(bytes, type_number);
-    let members: String = bytes[run.clone()].iter().map(|member| format!(" {member}")).collect();
-    let run_text =
-        if run.is_empty() { "none".to_string() } else { format!("{} part{members}", run.start) };
+    let run_text = match run.is_empty() {
+        true => "none".to_string(),
+        false => {
+            let members = words(bytes[run.clone()].iter());
+            let offsets = words(types.member_offsets(type_number).iter().map(|offset| offset.0));
+            format!("{} part{members} offsets{offsets}", run.start)
+        }
+    };
     format!(
         "size {} align {} classes {} {} run {run_text}\n",
         measure.size.0,
@@ -133,6 +139,11 @@ pub fn question_line(bytes: &[u8], type_number: u8) -> String {
         first.name(),
         second.name()
     )
+}
+
+/// Each number with a blank before it.
+fn words<T: Display>(numbers: impl Iterator<Item = T>) -> String {
+    numbers.map(|number| format!(" {number}")).collect()
 }
 
 // ---- layouts

@@ -10,7 +10,7 @@ use independent::notation::{description, draft};
 use independent::places::{accepted, check, layout, Place, Placement};
 use independent::refusal::Refusal;
 use independent::station::{attach, Station, SEAT};
-use independent::types::{alignment, run, run_range, size};
+use independent::types::{alignment, offsets, run, run_range, size};
 use independent::units::Bytes;
 use independent::walk::{open, shown_piece};
 
@@ -54,6 +54,29 @@ fn an_inner_type_is_classified_at_its_offset_in_the_whole() {
     assert_eq!(place_of("void: struct{int, complex_float}"), "rdi xmm0");
     assert_eq!(place_of("void: struct{float, struct{float, int}}"), "xmm0 rdi");
     assert_eq!(place_of("void: struct{float, float[3]}"), "xmm0 xmm1");
+}
+
+/// Of the first argument's type, in a list of so many entries that hold 99.
+fn offsets_of(text: &str, room: usize) -> Result<Vec<u64>, Refusal> {
+    let bytes = description(text);
+    let argument = *bytes.last().expect("a description");
+    let mut list = vec![99; room];
+    offsets(&bytes, argument, &mut list).map(|()| list)
+}
+
+#[test]
+fn members_lie_at_the_lowest_aligned_offset_and_those_of_a_union_at_0() {
+    let text = "void: struct{char, double, short, int128, char[3], int}";
+    assert_eq!(offsets_of(text, 6), Ok(vec![0, 8, 16, 32, 48, 52]));
+    assert_eq!(offsets_of(text, 8), Ok(vec![0, 8, 16, 32, 48, 52, 99, 99]));
+    assert_eq!(offsets_of(text, 5), Err(Refusal::WrongLength));
+    assert_eq!(offsets_of("void: union{char, double, struct{int, char}}", 3), Ok(vec![0; 3]));
+    assert_eq!(offsets_of("void: struct{char, struct{char, long}}", 2), Ok(vec![0, 8]));
+    assert_eq!(offsets_of("void: int", 0), Ok(vec![]));
+    assert_eq!(offsets_of("void: int", 2), Ok(vec![99; 2]));
+    let bytes = description(text);
+    assert_eq!(offsets(&bytes, bytes[5], &mut []), Err(Refusal::WrongTypeNumber));
+    assert_eq!(offsets(&bytes[..9], 0, &mut []), Err(Refusal::UnderElevenBytes));
 }
 
 #[test]

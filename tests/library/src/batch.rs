@@ -22,6 +22,7 @@ pub enum Code {
     GatherValues = 42,
     PutReturned = 43,
     TakeReturned = 44,
+    MemberOffsets = 45,
 }
 
 /// What is lent, in the driver's order: its number is in its canaries.

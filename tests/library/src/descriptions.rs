@@ -10,7 +10,7 @@ use independent::places::{self, accepted, Accepted, Place, Register, ReturnPlace
 use independent::random::Random;
 use independent::refusal::{told, Refusal};
 use independent::returning::{putting, taking, value_length, RETURN_IMAGE};
-use independent::types::{asked, run_range};
+use independent::types::{asked, offsets, run_range};
 
 pub fn ask(random: &mut Random, bytes: &[u8], batch: &mut Batch) {
     batch.about = About::Description(bytes.to_vec());
@@ -33,11 +33,9 @@ fn end(name: &'static str, bytes: &[u8], batch: &mut Batch) {
 
 fn ask_questions(random: &mut Random, bytes: &[u8], batch: &mut Batch) {
     let count = bytes.get(5).copied().unwrap_or(0);
-    for number in 0..count.min(64) {
+    for number in (0..count.min(64)).chain([count, 255, random.byte()]) {
         ask_question(bytes, number, batch);
-    }
-    for number in [count, 255, random.byte()] {
-        ask_question(bytes, number, batch);
+        ask_offsets(random, bytes, number, batch);
     }
 }
 
@@ -84,6 +82,20 @@ fn ask_question(bytes: &[u8], number: u8, batch: &mut Batch) {
     batch.command(Code::MemberRun).byte(number).told(refusal);
     batch.record(Thing::Record, &left(Part::FILLED, run));
     end("cb_member_run", bytes, batch);
+}
+
+/// A list of just so many entries, of one too few, and of any other length.
+fn ask_offsets(random: &mut Random, bytes: &[u8], number: u8, batch: &mut Batch) {
+    let members = run_range(bytes, number).len();
+    let other = random.below(members + 4);
+    for room in [members, members.saturating_sub(1), other] {
+        let mut list = vec![Offset::FILLED.offset; room];
+        let answer = offsets(bytes, number, &mut list);
+        let list: Vec<Offset> = list.into_iter().map(|offset| Offset { offset }).collect();
+        batch.command(Code::MemberOffsets).byte(number).short(room).told(told(&answer));
+        batch.list(&list);
+        end("cb_member_offsets", bytes, batch);
+    }
 }
 
 // ---- layouts

@@ -67,6 +67,7 @@ macro_rules! structs {
 structs! {
     Extent { size: u64, align: u64, }
     Classes { first: u8, second: u8, }
+    Offset { offset: u64, }
     Part { offset: u64, length: u64, image: u8, reserved: [u8; 7], }
     Placement {
         size: u64,
