@@ -291,7 +291,7 @@ pub record B7-Records : Type 0 where
   pub size : (d : List ℕ) (i : ℕ) → placementAt d i .size .0 ≡ sizeTy (modelIn d) (tyAt d (argumentAt d i))
   pub align : (d : List ℕ) (i : ℕ) → placementAt d i .align .0 ≡ alignTy (modelIn d) (tyAt d (argumentAt d i))
 
--- ---- B8 to B12: placing and gathering, which moving/specs/Statements.antt states of what the two calls answer and leave
+-- ---- B8 to B12: placing and gathering, which moving/specs/Statements.antt states, of any layout, of what the two calls answer and leave
 
 pub record B8-B12-Moving : Type 0 where
   -- B8: each value byte is at its place, the hidden address in rdi where it is used, and every other byte is zero, whatever stood there
