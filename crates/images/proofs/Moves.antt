@@ -18,7 +18,7 @@ use Rattle.places.specs.declared.Register.{Register}
 use Rattle.places.specs.declared.Register.the-variants.{General, Vector, Upper}
 use Rattle.places.specs.declared.Place.{Place}
 use Rattle.places.specs.declared.Place.the-variants.{One, Two, Stack}
-use Rattle.places.specs.Images.{addressOf, bytesOf}
+use Rattle.places.specs.Images.{stackAt, addressOf, bytesOf}
 use Rattle.places.specs.Recorded.{placeOf}
 use Rattle.images.specs.Asks.{Known, Inside, AskMove}
 
@@ -82,7 +82,7 @@ copied-left : (r s vals : List ℕ) (a i n : ℕ) → a + n ≤ length r → cop
 unfolding copied
 copied-left r s vals a i n h = sym (scatter-left (run a n) (gather vals (run i n)) r s (below-run a n (length r) h))
 
-copied-right : (r s vals : List ℕ) (o i n : ℕ) → length r ≡ 176 → r ++ copied s o vals i n ≡ scatter (r ++ s) (run (176 + o) n) (gather vals (run i n))
+copied-right : (r s vals : List ℕ) (o i n : ℕ) → length r ≡ stackAt → r ++ copied s o vals i n ≡ scatter (r ++ s) (run (stackAt + o) n) (gather vals (run i n))
 unfolding copied
 copied-right r s vals o i n h =
     sym (scatter-right (run o n) (gather vals (run i n)) r s)
@@ -91,7 +91,7 @@ copied-right r s vals o i n h =
 gather-left-run : (r s : List ℕ) (a n : ℕ) → a + n ≤ length r → gather r (run a n) ≡ gather (r ++ s) (run a n)
 gather-left-run r s a n h = sym (gather-left (run a n) r s (below-run a n (length r) h))
 
-gather-right-run : (r s : List ℕ) (o n : ℕ) → length r ≡ 176 → gather s (run o n) ≡ gather (r ++ s) (run (176 + o) n)
+gather-right-run : (r s : List ℕ) (o n : ℕ) → length r ≡ stackAt → gather s (run o n) ≡ gather (r ++ s) (run (stackAt + o) n)
 gather-right-run r s o n h =
     sym (gather-right (run o n) r s) ∙ ap (λ (ps : List ℕ). gather (r ++ s) ps) (run-shift (length r) o n ∙ ap (λ (q : ℕ). run (q + o) n) h)
 
@@ -116,7 +116,7 @@ scatter-two img vals a b i n m =
 
 module _ (r s vals : List ℕ) (p : Place) (size k : ℕ) (h : AskMove p size k (length r) (length s) (length vals)) where
   pub placed-one : (a : Register) → p ≡ One a → (x : ℕ) → x ≡ addressOf a → (r′ : List ℕ) → r′ ≡ copied r x vals k size
-      → r′ ++ s ≡ scatter (r ++ s) (bytesOf 176 (placeOf p) size) (gather vals (run k size))
+      → r′ ++ s ≡ scatter (r ++ s) (bytesOf stackAt (placeOf p) size) (gather vals (run k size))
   placed-one a e x q r′ f =
       let room = room-one p size k _ _ _ h a e x q in
       rw (e, f, ← q)
@@ -124,12 +124,12 @@ module _ (r s vals : List ℕ) (p : Place) (size k : ℕ) (h : AskMove p size k 
       ∙ ap (λ (ps : List ℕ). scatter (r ++ s) ps (gather vals (run k size))) (sym (spread-one x size (ask-one p size k _ _ _ h a e .1))))
 
   pub placed-stack : (o : Bytes) → p ≡ Stack o → (s′ : List ℕ) → s′ ≡ copied s (o .0) vals k size
-      → r ++ s′ ≡ scatter (r ++ s) (bytesOf 176 (placeOf p) size) (gather vals (run k size))
+      → r ++ s′ ≡ scatter (r ++ s) (bytesOf stackAt (placeOf p) size) (gather vals (run k size))
   placed-stack o e s′ f = rw (e, f) (copied-right r s vals (o .0) k size (h .whole))
 
   pub placed-two : (a b : Register) → p ≡ Two a b → (x y j m : ℕ) → x ≡ addressOf a → y ≡ addressOf b → j ≡ k + 8 → m ≡ size - 8
       → (r′ r″ : List ℕ) → r′ ≡ copied r x vals k 8 → r″ ≡ copied r′ y vals j m
-      → r″ ++ s ≡ scatter (r ++ s) (bytesOf 176 (placeOf p) size) (gather vals (run k size))
+      → r″ ++ s ≡ scatter (r ++ s) (bytesOf stackAt (placeOf p) size) (gather vals (run k size))
   placed-two a b e x y j m qx qy qj qm r′ r″ f g =
       let low = room-low p size k _ _ _ h a b e x qx in
       let high = room-high p size k _ _ _ h a b e y j m qy qj qm in
@@ -148,7 +148,7 @@ module _ (r s vals : List ℕ) (p : Place) (size k : ℕ) (h : AskMove p size k 
 
 module _ (r s vals : List ℕ) (p : Place) (size k : ℕ) (h : AskMove p size k (length r) (length s) (length vals)) where
   pub gathered-one : (a : Register) → p ≡ One a → (x : ℕ) → x ≡ addressOf a → (v : List ℕ) → v ≡ copied vals k r x size
-      → v ≡ scatter vals (run k size) (gather (r ++ s) (bytesOf 176 (placeOf p) size))
+      → v ≡ scatter vals (run k size) (gather (r ++ s) (bytesOf stackAt (placeOf p) size))
   unfolding copied
   gathered-one a e x q v f =
       let room = room-one p size k _ _ _ h a e x q in
@@ -158,13 +158,13 @@ module _ (r s vals : List ℕ) (p : Place) (size k : ℕ) (h : AskMove p size k 
       ∙ ap (λ (ps : List ℕ). gather (r ++ s) ps) (sym (spread-one x size (ask-one p size k _ _ _ h a e .1)))))
 
   pub gathered-stack : (o : Bytes) → p ≡ Stack o → (v : List ℕ) → v ≡ copied vals k s (o .0) size
-      → v ≡ scatter vals (run k size) (gather (r ++ s) (bytesOf 176 (placeOf p) size))
+      → v ≡ scatter vals (run k size) (gather (r ++ s) (bytesOf stackAt (placeOf p) size))
   unfolding copied
   gathered-stack o e v f = rw (e, f) (ap (λ (vs : List ℕ). scatter vals (run k size) vs) (gather-right-run r s (o .0) size (h .whole)))
 
   pub gathered-two : (a b : Register) → p ≡ Two a b → (x y j m : ℕ) → x ≡ addressOf a → y ≡ addressOf b → j ≡ k + 8 → m ≡ size - 8
       → (v w : List ℕ) → v ≡ copied vals k r x 8 → w ≡ copied v j r y m
-      → w ≡ scatter vals (run k size) (gather (r ++ s) (bytesOf 176 (placeOf p) size))
+      → w ≡ scatter vals (run k size) (gather (r ++ s) (bytesOf stackAt (placeOf p) size))
   unfolding copied
   gathered-two a b e x y j m qx qy qj qm v w f g =
       let low = room-low p size k _ _ _ h a b e x qx in

@@ -6,7 +6,7 @@ ghost use mathlib.Core.Path.{_≡_};
 ghost use Prim.Native.Nat.{_+_, _≤_};
 ghost use lib.ListN.{length};
 ghost use Rattle.addresses.specs.Copy.{copied};
-ghost use Rattle.places.specs.Images.{addressOf, bytesOf};
+ghost use Rattle.places.specs.Images.{stackAt, addressOf, bytesOf};
 ghost use Rattle.images.specs.Asks.{Known, AskMove};
 ghost use mathlib.Core.List.{_++_};
 ghost use Rattle.addresses.specs.Addresses.{run, gather, scatter};
@@ -59,7 +59,7 @@ pub fn place_one(
 )
     requires { ⌜ AskMove place (size .0) (at .0) (length (now registers)) (length (now stack)) (length (now values)) ⌝ }
     ensures { λ _. ⌜ now (registers .exit) ++ now (stack .exit)
-        ≡ scatter (now (registers .entry) ++ now (stack .entry)) (bytesOf 176 (placeOf place) (size .0)) (gather (now (values .entry)) (run (at .0) (size .0))) ⌝ }
+        ≡ scatter (now (registers .entry) ++ now (stack .entry)) (bytesOf stackAt (placeOf place) (size .0)) (gather (now (values .entry)) (run (at .0) (size .0))) ⌝ }
 {
     match place {
         Place::One(only) => copy_bytes(registers, address_of(only), values, at, size),
@@ -89,7 +89,7 @@ pub fn gather_one(
 )
     requires { ⌜ AskMove place (size .0) (at .0) (length (now registers)) (length (now stack)) (length (now values)) ⌝ }
     ensures { λ _. ⌜ now (values .exit)
-        ≡ scatter (now (values .entry)) (run (at .0) (size .0)) (gather (now (registers .entry) ++ now (stack .entry)) (bytesOf 176 (placeOf place) (size .0))) ⌝ }
+        ≡ scatter (now (values .entry)) (run (at .0) (size .0)) (gather (now (registers .entry) ++ now (stack .entry)) (bytesOf stackAt (placeOf place) (size .0))) ⌝ }
 {
     match place {
         Place::One(only) => copy_bytes(values, at, registers, address_of(only), size),

@@ -12,7 +12,7 @@ use Rattle.uses.specs.Uses.{usesRefusal}
 use Rattle.uses.proofs.Uses.{accepted-types}
 use Rattle.places.specs.declared.Used.{Used}
 use Rattle.places.specs.Places.{eights, Place, place, area}
-use Rattle.places.specs.Images.{bytesOf, addresses}
+use Rattle.places.specs.Images.{stackAt, bytesOf, addresses}
 use Rattle.places.specs.Recorded.{placeOf}
 use Rattle.places.proofs.Records.{place-written}
 use Rattle.places.proofs.Offsets.{area-rounded}
@@ -27,20 +27,20 @@ use Rattle.layout.proofs.Bounds.{argument-shaped}
 use Rattle.layout.proofs.Layouts.{asks-at, valuesAt}
 
 module _ (d : List ℕ) (right : usesRefusal d ≡ 0) where
-  record-bytes : (i : ℕ) → i < argumentsIn d → bytesOf 176 (placeOf (placementAt d i .place)) (placementAt d i .size .0) ≡ bytesOf 176 (place eights (usedAt d i) (shapeAt d i)) (shapeAt d i .size)
+  record-bytes : (i : ℕ) → i < argumentsIn d → bytesOf stackAt (placeOf (placementAt d i .place)) (placementAt d i .size .0) ≡ bytesOf stackAt (place eights (usedAt d i) (shapeAt d i)) (shapeAt d i .size)
   unfolding placementAt
-  record-bytes i h = ap (λ (p : Place). bytesOf 176 p (shapeAt d i .size)) (place-written (usedAt d i) (shapeAt d i) (argument-shaped d right i h))
+  record-bytes i h = ap (λ (p : Place). bytesOf stackAt p (shapeAt d i .size)) (place-written (usedAt d i) (shapeAt d i) (argument-shaped d right i h))
 
   -- bytes are moved by the addresses of the records that `lay_out` writes, one after the other
-  pub records-addresses : (n i : ℕ) → i + n ≤ argumentsIn d → recordAddresses d i n ≡ addresses 176 eights (usedAt d i) (shapesFrom d i n)
+  pub records-addresses : (n i : ℕ) → i + n ≤ argumentsIn d → recordAddresses d i n ≡ addresses stackAt eights (usedAt d i) (shapesFrom d i n)
   unfolding recordAddresses shapesFrom
   records-addresses zero i h = refl
   records-addresses (suc n) i h =
       ap₂ (λ (xs ys : List ℕ). xs ++ ys) (record-bytes i (omega arith))
-      (records-addresses n (i + 1) (omega arith) ∙ ap (λ (u : Used). addresses 176 eights u (shapesFrom d (i + 1) n)) (used-next d i))
+      (records-addresses n (i + 1) (omega arith) ∙ ap (λ (u : Used). addresses stackAt eights u (shapesFrom d (i + 1) n)) (used-next d i))
 
-  pub all-addresses : recordAddresses d 0 (argumentsIn d) ≡ addresses 176 eights (usedFirst d) (shapes d)
-  all-addresses = records-addresses (argumentsIn d) 0 (omega arith) ∙ ap (λ (u : Used). addresses 176 eights u (shapes d)) (used-none d)
+  pub all-addresses : recordAddresses d 0 (argumentsIn d) ≡ addresses stackAt eights (usedFirst d) (shapes d)
+  all-addresses = records-addresses (argumentsIn d) 0 (omega arith) ∙ ap (λ (u : Used). addresses stackAt eights u (shapes d)) (used-none d)
 
 pub accepted-bounded : (d : List ℕ) → IsBytes d → verdict d ≡ 0 → Bounded d
 unfolding valuesOf valuesAt areaOf

@@ -7,7 +7,7 @@ use Rattle.description.specs.Description.{typesIn, argumentsIn, modelIn}
 use Rattle.types.specs.Size.{sizeTy, alignTy}
 use Rattle.types.specs.Decode.{tyAt}
 use Rattle.types.specs.Alignments.{Alignment}
-use Rattle.places.specs.Images.{bytesOf}
+use Rattle.places.specs.Images.{stackAt, bytesOf}
 use Rattle.places.specs.Recorded.{placeOf}
 use Rattle.layout.specs.Arguments.{shapeAt, usedAt, areaOf}
 use Rattle.layout.specs.Layout.{valuesOf}
@@ -29,4 +29,4 @@ pub record Bounded (d : List ℕ) : Type 0 where
 -- the addresses of the bytes of n records from the i-th on, one record after the other
 unfoldable pub recordAddresses : List ℕ → ℕ → ℕ → List ℕ
 recordAddresses d i zero = []
-recordAddresses d i (suc n) = bytesOf 176 (placeOf (placementAt d i .place)) (placementAt d i .size .0) ++ recordAddresses d (i + 1) n
+recordAddresses d i (suc n) = bytesOf stackAt (placeOf (placementAt d i .place)) (placementAt d i .size .0) ++ recordAddresses d (i + 1) n

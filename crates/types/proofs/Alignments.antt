@@ -1,6 +1,6 @@
 -- Of the alignments, and of numbers that are multiples of them: whatever goes by their cases is here. Assumes nothing.
 use mathlib.Core.Path.{_≡_, refl}
-use Prim.Native.Nat.{ℕ, zero, suc, _+_, _*_, _-_, _^_, _/_, _%_, _≤_, _<_, _∣_, max}
+use Prim.Native.Nat.{ℕ, zero, suc, _+_, _-_, _^_, _/_, _%_, _≤_, _<_, _∣_, max}
 use native.Mathlib.Nat.{zero-add, suc-add, dvd-refl, dvd-trans, dvd-add, dvd-mul-right-of-dvd, dvd-of-mod-eq-zero, mod-eq-zero-of-dvd, pow-suc, pow-le-pow-right, two-pow-succ, max-eq-left, max-eq-right, max-comm}
 use native.Mathlib.Decide.{decLt}
 use native.Mathlib.Omega.{arith}

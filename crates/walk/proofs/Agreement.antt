@@ -15,7 +15,7 @@ use Rattle.places.specs.declared.Kind.{Kind}
 use Rattle.places.specs.declared.Kind.the-variants.{General as general, Vector as vector, Upper as upper}
 use Rattle.places.specs.declared.Used.{Used}
 use Rattle.places.specs.Shapes.{Shape, some?, Led, Shaped}
-use Rattle.places.specs.Places.{Slot, fours, eights, wide, Place, inRegisters, onStack, generals, vectors, registersFor, enough, fits, start, placeIf, nextIf, place, next, places, after}
+use Rattle.places.specs.Places.{Slot, wide, Place, inRegisters, onStack, generals, vectors, registersFor, enough, fits, start, placeIf, nextIf, place, next, places, after}
 use Rattle.places.specs.Images.{slots, bytesOf}
 use Rattle.places.proofs.Returning.{kinds-few}
 use Rattle.places.proofs.Prefix.{places-append}
