@@ -5,7 +5,7 @@
 #include <stdio.h>
 #include <string.h>
 
-enum { CASES = 13, BASIC = 0, ARRAY = 1, STRUCT = 2, UNION = 3, CHAR = 1, FLOAT = 6, DOUBLE = 7, NOTHING = 255 };
+enum { CASES = 17, BASIC = 0, ARRAY = 1, STRUCT = 2, UNION = 3, CHAR = 1, INT = 3, FLOAT = 6, DOUBLE = 7, NOTHING = 255 };
 
 typedef struct hostile {
     const char *name;
@@ -162,6 +162,48 @@ static void shifted(void)
     end("63 shifted runs of 255 chars", 64);
 }
 
+/* Unions of one char below unions of nine, each of all types before it: the classes differ from member to member at every offset. */
+static void mixed_tower(int small, const char *name)
+{
+    begin(CHAR);
+    add_type(ARRAY, 0, 9);
+    add_member(0);
+    for (int i = 0; i < 192; i++) {
+        add_member(1);
+    }
+    for (int k = 2; k < 2 + small; k++) {
+        add_type(UNION, 0, 1);
+        add_member(k);
+    }
+    for (int k = 2 + small; k < 64; k++) {
+        add_type(UNION, 1, 190 + k);
+        if (k < 63) {
+            add_member(k);
+        }
+    }
+    end(name, 62);
+}
+
+/* Two floats, two ints and unions of them in turn: the classes differ, and no test of the numbers shows what they merge to. */
+static void class_tower(void)
+{
+    begin(FLOAT);
+    add_type(BASIC, INT, 0);
+    add_type(ARRAY, 0, 2);
+    add_type(ARRAY, 1, 2);
+    for (int i = 0; i < 95; i++) {
+        add_member(2);
+        add_member(3);
+    }
+    for (int k = 4; k < 64; k++) {
+        add_type(UNION, 0, k % 2 ? 1 : 186 + k);
+        if (k < 63) {
+            add_member(k);
+        }
+    }
+    end("unions of float[2], int[2]", 60);
+}
+
 /* ---- what is counted */
 
 static cb_placement list[CB_MAX_ARGUMENTS];
@@ -222,6 +264,10 @@ int main(void)
     wide(UNION, FLOAT, 64, "63 unions of 255 floats");
     wide(UNION, DOUBLE, 64, "63 unions of 255 doubles");
     shifted();
+    mixed_tower(8, "8 small, 54 large unions of chars");
+    mixed_tower(31, "31 small, 31 large unions of chars");
+    mixed_tower(20, "20 small, 42 large unions of chars");
+    class_tower();
     for (int which = 0; which < made; which++) {
         count_case(which);
     }

@@ -180,6 +180,13 @@ pub fn word_of(classes: [Class; 2]) -> u32
     pack(classes) as u32 + 128 * asks
 }
 
+// The same of classes that are packed.
+pub fn packed_word(packed: u8) -> u32
+    ensures { λ r. ⌜ r ≡ wordOf (unpackedOf packed) ⌝ }
+{
+    word_of(unpack(wide(packed)))
+}
+
 fn widened(word: u16) -> u32
     ensures { λ r. ⌜ r ≡ word ⌝ }
 {

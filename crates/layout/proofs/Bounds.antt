@@ -6,8 +6,7 @@ use native.Mathlib.Omega.{arith}
 use Rattle.addresses.specs.Addresses.{All}
 use Rattle.description.specs.Description.{typesIn, argumentsIn, argumentAt}
 use Rattle.form.proofs.Form.{accepted-counts}
-use Rattle.types.proofs.Large.{accepted-form, accepted-small, accepted-sized}
-use Rattle.classify.specs.Asks.{AskType}
+use Rattle.types.proofs.Large.{accepted-form}
 use Rattle.uses.specs.Uses.{usesRefusal}
 use Rattle.uses.proofs.Uses.{accepted-types, accepted-typed}
 use Rattle.places.specs.declared.Used.{Used}
@@ -29,10 +28,6 @@ module _ (d : List ℕ) (right : usesRefusal d ≡ 0) where
 
   pub argument-known : (i : ℕ) → i < argumentsIn d → argumentAt d i < typesIn d
   argument-known i h = accepted-typed d right .below i h
-
-  -- a type below T can be classified as a whole
-  pub type-asked : (k : ℕ) → k < typesIn d → AskType d k 0
-  type-asked k h = record { sized = accepted-sized d (accepted-types d right) k h; fits = omega (arith, accepted-small d (accepted-types d right) k h) }
 
   pub argument-small : (i : ℕ) → i < argumentsIn d → Small (shapeAt d i)
   unfolding shapeAt

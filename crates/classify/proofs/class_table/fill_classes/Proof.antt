@@ -7,12 +7,11 @@ use borrow.Author.Needs.{needs}
 use lib.ListN.{length}
 use denote.Ref.{now}
 use Rattle.classify.specs.Table.{Right, fullEntry}
-use Rattle.classify.proofs.Table.{right-none, word-small, full-is, full-more, sizes-kept, classes-kept, tabled}
+use Rattle.classify.proofs.Table.{word-small, right-none, full-is, full-more, sizes-kept, classes-kept, tabled}
 use Rattle.description.specs.Description.{typesIn, modelIn}
 use Rattle.form.proofs.Form.{accepted-headed}
-use Rattle.types.specs.Basic.{sizes}
 use Rattle.types.specs.Table.{filled, Sizes}
-use Rattle.types.proofs.Large.{accepted-form, accepted-small, accepted-sized}
+use Rattle.types.proofs.Large.{accepted-form, accepted-sized}
 use Rattle.types.proofs.Table.{filled-none}
 use Rattle.classify.proofs.class_table.fill_classes.Statement.{statement}
 use Rattle.classify.proofs.class_table.fill_classes.Tie as tie
@@ -32,35 +31,28 @@ byte-at-requires c κs = omega (arith, accepted-headed (now (c .before .before .
 loop-holds : tie.Need-loop-holds Inv-loop μ-loop
 loop-holds c = (right-none (now (c .before .before .before .before .args .d)) 512, filled-none (fullEntry (now (c .before .before .before .before .args .d))) (now (c .before .before .before .before .args .table)), omega arith, c .byte-at .ensures .0)
 
-finish-requires : tie.Need-finish-requires Inv-loop μ-loop
-finish-requires c κs =
-    let full : length (now (c .before .before .before .before .before .before .before .before .args .table)) ≡ 64 = sym (c .before .before .before .before .before .entries .ensures .1) ∙ c .before .before .before .before .before .entries .ensures .0 in (
-      accepted-sized (now (c .before .before .before .before .before .before .before .before .args .d)) (c .before .before .before .before .before .before .before .before .pre .0) (c .before .before .before .loop .k) (omega (arith, c .before .before .loop-test .taken, c .before .before .before .loop .inv .3)),
-      record { sizes = rw (c .before .before .before .loop .inv .1) (sizes-kept (now (c .before .before .before .before .before .before .before .before .args .d)) (now (c .before .before .before .before .before .before .before .before .args .table)) (c .before .before .before .before .before .before .before .before .pre .1) full (c .before .before .before .loop .k) (omega (arith, c .before .before .loop-test .taken, c .before .before .before .loop .inv .3))); right = c .before .before .before .loop .inv .0; classes = rw (c .before .before .before .loop .inv .1) (classes-kept (now (c .before .before .before .before .before .before .before .before .args .d)) (now (c .before .before .before .before .before .before .before .before .args .table)) (c .before .before .before .before .before .before .before .before .pre .1) full (c .before .before .before .loop .k) (omega (arith, c .before .before .loop-test .taken, c .before .before .before .loop .inv .3))) },
-    )
-
 word-at-requires : tie.Need-word-at-requires Inv-loop μ-loop
 word-at-requires c κs =
-    let full : length (now (c .before .before .before .before .before .before .before .before .before .before .before .args .table)) ≡ 64 = sym (c .before .before .before .before .before .before .before .before .entries .ensures .1) ∙ c .before .before .before .before .before .before .before .before .entries .ensures .0 in
-    let low : c .before .before .before .before .before .before .loop .k < typesIn (now (c .before .before .before .before .before .before .before .before .before .before .before .args .d)) = omega (arith, c .before .before .before .before .before .loop-test .taken, c .before .before .before .before .before .before .loop .inv .3) in (
-      record { sized = accepted-sized (now (c .before .before .before .before .before .before .before .before .before .before .before .args .d)) (c .before .before .before .before .before .before .before .before .before .before .before .pre .0) (c .before .before .before .before .before .before .loop .k) low; fits = omega (arith, accepted-small (now (c .before .before .before .before .before .before .before .before .before .before .before .args .d)) (c .before .before .before .before .before .before .before .before .before .before .before .pre .0) (c .before .before .before .before .before .before .loop .k) low) },
-      record { sizes = rw (c .before .before .before .before .before .before .loop .inv .1) (sizes-kept (now (c .before .before .before .before .before .before .before .before .before .before .before .args .d)) (now (c .before .before .before .before .before .before .before .before .before .before .before .args .table)) (c .before .before .before .before .before .before .before .before .before .before .before .pre .1) full (c .before .before .before .before .before .before .loop .k) (omega (arith, low))); right = c .before .before .finish .ensures; classes = rw (c .before .before .before .before .before .before .loop .inv .1) (classes-kept (now (c .before .before .before .before .before .before .before .before .before .before .before .args .d)) (now (c .before .before .before .before .before .before .before .before .before .before .before .args .table)) (c .before .before .before .before .before .before .before .before .before .before .before .pre .1) full (c .before .before .before .before .before .before .loop .k) (omega (arith, low))) },
+    let full : length (now (c .before .before .before .before .before .before .before .before .args .table)) ≡ 64 = sym (c .before .before .before .before .before .entries .ensures .1) ∙ c .before .before .before .before .before .entries .ensures .0 in
+    let low : c .before .before .before .loop .k < typesIn (now (c .before .before .before .before .before .before .before .before .args .d)) = omega (arith, c .before .before .loop-test .taken, c .before .before .before .loop .inv .3) in (
+      accepted-sized (now (c .before .before .before .before .before .before .before .before .args .d)) (c .before .before .before .before .before .before .before .before .pre .0) (c .before .before .before .loop .k) low,
+      record { sizes = rw (c .before .before .before .loop .inv .1) (sizes-kept (now (c .before .before .before .before .before .before .before .before .args .d)) (now (c .before .before .before .before .before .before .before .before .args .table)) (c .before .before .before .before .before .before .before .before .pre .1) full (c .before .before .before .loop .k) (omega (arith, low))); right = c .before .before .before .loop .inv .0; classes = rw (c .before .before .before .loop .inv .1) (classes-kept (now (c .before .before .before .before .before .before .before .before .args .d)) (now (c .before .before .before .before .before .before .before .before .args .table)) (c .before .before .before .before .before .before .before .before .pre .1) full (c .before .before .before .loop .k) (omega (arith, low))) },
     )
 
 mul-with-word : tie.Need-mul-with-word Inv-loop μ-loop
 mul-with-word c = search needs
 
 element-copy-out-with-word : tie.Need-element-copy-out-with-word Inv-loop μ-loop
-element-copy-out-with-word c = omega (arith, c .before .before .before .before .before .before .before .before .before .before .before .before .pre .1 .few, c .before .before .before .before .before .before .loop-test .taken, c .before .before .before .before .before .before .before .loop .inv .3)
+element-copy-out-with-word c = omega (arith, c .before .before .before .before .before .before .before .before .before .pre .1 .few, c .before .before .before .loop-test .taken, c .before .before .before .before .loop .inv .3)
 
 with-word-requires : tie.Need-with-word-requires Inv-loop μ-loop
-with-word-requires c κs = rw (c .before .word-at .ensures) (word-small _)
+with-word-requires c κs = rw (c .before .word-at .ensures .0) (word-small _)
 
 mul-table : tie.Need-mul-table Inv-loop μ-loop
 mul-table c = search needs
 
 element-write-table : tie.Need-element-write-table Inv-loop μ-loop
-element-write-table c = omega (arith, c .before .before .before .before .before .before .before .before .before .before .before .before .before .before .pre .1 .few, c .before .before .before .before .before .before .before .before .loop-test .taken, c .before .before .before .before .before .before .before .before .before .loop .inv .3)
+element-write-table c = omega (arith, c .before .before .before .before .before .before .before .before .before .before .before .pre .1 .few, c .before .before .before .before .before .loop-test .taken, c .before .before .before .before .before .before .loop .inv .3)
 
 add-k : tie.Need-add-k Inv-loop μ-loop
 add-k c = search needs
@@ -70,10 +62,10 @@ loop-less c = search needs
 
 loop-again : tie.Need-loop-again Inv-loop μ-loop
 loop-again c =
-    let full : length (now (c .before .before .before .before .before .before .before .before .before .before .before .before .before .before .args .table)) ≡ 64 = sym (c .before .before .before .before .before .before .before .before .before .before .before .entries .ensures .1) ∙ c .before .before .before .before .before .before .before .before .before .before .before .entries .ensures .0 in
-    let low : c .before .before .before .before .before .before .before .before .before .loop .k < typesIn (now (c .before .before .before .before .before .before .before .before .before .before .before .before .before .before .args .d)) = omega (arith, c .before .before .before .before .before .before .before .before .loop-test .taken, c .before .before .before .before .before .before .before .before .before .loop .inv .3) in
-    let sizes : Sizes (modelIn (now (c .before .before .before .before .before .before .before .before .before .before .before .before .before .before .args .d))) (now (c .before .before .before .before .before .before .before .before .before .before .before .before .before .before .args .d)) (typesIn (now (c .before .before .before .before .before .before .before .before .before .before .before .before .before .before .args .d))) (c .before .before .before .before .before .before .before .before .before .loop .table) = rw (c .before .before .before .before .before .before .before .before .before .loop .inv .1) (sizes-kept (now (c .before .before .before .before .before .before .before .before .before .before .before .before .before .before .args .d)) (now (c .before .before .before .before .before .before .before .before .before .before .before .before .before .before .args .table)) (c .before .before .before .before .before .before .before .before .before .before .before .before .before .before .pre .1) full (c .before .before .before .before .before .before .before .before .before .loop .k) (omega (arith, low))) in
-    (c .before .before .before .before .before .finish .ensures, full-more (now (c .before .before .before .before .before .before .before .before .before .before .before .before .before .before .args .d)) (now (c .before .before .before .before .before .before .before .before .before .before .before .before .before .before .args .table)) (c .before .before .before .before .before .before .before .before .before .loop .table) (c .before .before .before .before .before .before .before .before .before .loop .k) (c .with-word .result) (c .before .before .before .before .before .before .before .before .before .loop .inv .1) (full-is (now (c .before .before .before .before .before .before .before .before .before .before .before .before .before .before .args .d)) (c .before .before .before .before .before .before .before .before .before .loop .table) sizes (c .before .before .before .before .before .before .before .before .before .loop .k) low (c .before .before .word-at .result) (c .before .before .word-at .ensures) (c .with-word .result) (c .with-word .ensures)), omega (arith, c .before .before .before .before .before .before .before .before .loop-test .taken), c .before .before .before .before .before .before .before .before .before .loop .inv .3)
+    let full : length (now (c .before .before .before .before .before .before .before .before .before .before .before .args .table)) ≡ 64 = sym (c .before .before .before .before .before .before .before .before .entries .ensures .1) ∙ c .before .before .before .before .before .before .before .before .entries .ensures .0 in
+    let low : c .before .before .before .before .before .before .loop .k < typesIn (now (c .before .before .before .before .before .before .before .before .before .before .before .args .d)) = omega (arith, c .before .before .before .before .before .loop-test .taken, c .before .before .before .before .before .before .loop .inv .3) in
+    let sizes : Sizes (modelIn (now (c .before .before .before .before .before .before .before .before .before .before .before .args .d))) (now (c .before .before .before .before .before .before .before .before .before .before .before .args .d)) (typesIn (now (c .before .before .before .before .before .before .before .before .before .before .before .args .d))) (c .before .before .before .before .before .before .loop .table) = rw (c .before .before .before .before .before .before .loop .inv .1) (sizes-kept (now (c .before .before .before .before .before .before .before .before .before .before .before .args .d)) (now (c .before .before .before .before .before .before .before .before .before .before .before .args .table)) (c .before .before .before .before .before .before .before .before .before .before .before .pre .1) full (c .before .before .before .before .before .before .loop .k) (omega (arith, low))) in
+    (c .before .before .word-at .ensures .1, full-more (now (c .before .before .before .before .before .before .before .before .before .before .before .args .d)) (now (c .before .before .before .before .before .before .before .before .before .before .before .args .table)) (c .before .before .before .before .before .before .loop .table) (c .before .before .before .before .before .before .loop .k) (c .with-word .result) (c .before .before .before .before .before .before .loop .inv .1) (full-is (now (c .before .before .before .before .before .before .before .before .before .before .before .args .d)) (c .before .before .before .before .before .before .loop .table) sizes (c .before .before .before .before .before .before .loop .k) low (c .before .before .word-at .result) (c .before .before .word-at .ensures .0) (c .with-word .result) (c .with-word .ensures)), omega (arith, c .before .before .before .before .before .loop-test .taken), c .before .before .before .before .before .before .loop .inv .3)
 
 returns : tie.Need-returns Inv-loop μ-loop
 returns c =
@@ -91,7 +83,6 @@ fill-classes-spec =
     entries-requires
     byte-at-requires
     loop-holds
-    finish-requires
     word-at-requires
     mul-with-word
     element-copy-out-with-word
