@@ -16,7 +16,7 @@ ghost use Rattle.classify.specs.Classify.{classesAt, classesOf};
 ghost use Rattle.classify.specs.Asks.{AskType};
 ghost use Rattle.classify.specs.Table.{wordOf, Right, Ready, Listed, fullEntry, Tabled};
 
-// The classes at offset 0 of aggregate k, a union with n members listed or another one and n is 0, and what they ask for, in one number.
+// The classes of aggregate k at offset 0 and what they ask for, in one number. The list has the n different members of a union; n is 0 for another kind.
 fn first_word(
     d: &[u8],
     k: usize,
@@ -35,7 +35,7 @@ fn first_word(
     table_words::packed_word(packed)
 }
 
-// The finished answer for it at offset `at`.
+// Its finished answer at offset `at`.
 fn finish_at(
     d: &[u8],
     k: usize,
@@ -55,7 +55,7 @@ fn finish_at(
     finished[8 * k + at] = aggregates::classify_listed(d, k, list, n, Bytes(at), table, finished);
 }
 
-// The finished answers for it: at each offset at which it lies in both eightbytes.
+// Its finished answers: at each offset at which it lies in both eightbytes.
 fn finish(
     d: &[u8],
     k: usize,

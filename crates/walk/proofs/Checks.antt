@@ -13,6 +13,7 @@ use Rattle.form.specs.Order.{Rule, rule, first, NoneHolds, Answers, Positive}
 use Rattle.form.specs.Reading.{refusalOf}
 use Rattle.form.specs.declared.Refusal.{Refusal}
 use Rattle.form.proofs.Form.{accepted-headed}
+use Rattle.types.specs.Asks.{Sized}
 use Rattle.types.proofs.Large.{accepted-form, accepted-sized}
 use Rattle.uses.specs.Uses.{usesRefusal}
 use Rattle.uses.proofs.Uses.{accepted-types}
@@ -31,7 +32,6 @@ use Rattle.layout.specs.Verdict.{verdict}
 use Rattle.layout.specs.Layout.{layoutOf, layoutAnswer, refusalIn}
 use Rattle.layout.proofs.Verdict.{accepted-uses}
 use Rattle.layout.proofs.Bounds.{argument-known}
-use Rattle.types.specs.Asks.{Sized}
 use Rattle.layout.proofs.Layouts.{laid-accepted, refused-verdict, refused-nonzero}
 use Rattle.layout.proofs.Steps.{shape-of-argument}
 use Rattle.station.specs.declared.Station.{Station}
@@ -192,8 +192,8 @@ at-not d p b e h q = h (q ∙ sym e)
 pub at-is : (d : List ℕ) (p b : ℕ) → b ≡ argumentsIn d → p ≡ b → p ≡ argumentsIn d
 at-is d p b e q = q ∙ e
 
-pub asked-sized : (d : List ℕ) → usesRefusal d ≡ 0 → (p k : ℕ) → p < argumentsIn d → k ≡ argumentAt d p → Sized (modelIn d) d k
-asked-sized d u p k l e = accepted-sized d (accepted-types d u) k (rw e (argument-known d u p l))
+pub asked-type : (d : List ℕ) → usesRefusal d ≡ 0 → (p k : ℕ) → p < argumentsIn d → k ≡ argumentAt d p → Sized (modelIn d) d k
+asked-type d u p k l e = accepted-sized d (accepted-types d u) k (rw e (argument-known d u p l))
 
 pub stack-test : (d : List ℕ) (a : Ask) (l : Layout) (b : Bool) → l ≡ layoutOf d → b ≡ eqb (length (a .stack)) (l .area .0) → wrongStack kcb d a ≡ not b
 unfolding wrongStack layoutOf
