@@ -1,4 +1,4 @@
-/* callbridge.h: the call bridge for C and C++ hosts (System V AMD64, LP64; C99 or later).
+/* callbridge.h: the call bridge for C and C++ hosts (System V AMD64, LP64 and ILP32; C99 or later).
 
    The library reads a description (KCB) of one call of a module's function, says which register or stack slot holds each argument,
    moves the argument bytes into a register image and a stack image and out again, and walks the unnamed arguments as va_arg does.
@@ -63,6 +63,12 @@ extern "C" {
 #define CB_MAX_VALUES 16560      /* bytes of all values of one call, packed: no more than both images have */
 #define CB_VOID 255              /* byte 9 where nothing is returned: no type has this number */
 
+/* Byte 6: either, both or neither. */
+enum cb_flag {
+    CB_VARIADIC = 1,             /* the function has a `...` */
+    CB_ILP32 = 2                 /* the module is built for ILP32, as by gcc -mx32: a pointer has 4 bytes; without it LP64 */
+};
+
 /* The kind of a type: the first byte of its record. */
 enum cb_kind {
     CB_BASIC = 0,
@@ -76,8 +82,8 @@ enum cb_code {
     CB_BOOL = 0,
     CB_CHAR = 1,
     CB_SHORT = 2,
-    CB_INT = 3,                  /* an enum too */
-    CB_LONG = 4,                 /* long long and size_t too */
+    CB_INT = 3,                  /* an enum too; under ILP32 also long and size_t */
+    CB_LONG = 4,                 /* long long and size_t too; under ILP32 long long alone */
     CB_INT128 = 5,
     CB_FLOAT = 6,
     CB_DOUBLE = 7,
@@ -88,7 +94,7 @@ enum cb_code {
     CB_COMPLEX_FLOAT = 12,
     CB_COMPLEX_DOUBLE = 13,
     CB_COMPLEX_LONG_DOUBLE = 14,
-    CB_POINTER = 15              /* to whatever */
+    CB_POINTER = 15              /* to whatever: 8 bytes, under ILP32 4 */
 };
 
 /* ---- refusals */
@@ -114,7 +120,8 @@ enum cb_refusal_number {
     CB_OTHER_ATTACHMENT = 17,
     CB_WALK_ASTRAY = 18,
     CB_WALK_AT_END = 19,
-    CB_OTHER_TYPE = 20
+    CB_OTHER_TYPE = 20,
+    CB_HIDDEN_TOO_WIDE = 27      /* 21 to 26 are no refusals of this library */
 };
 
 /* Why a call was refused: a number of enum cb_refusal_number, 0 for none.
@@ -242,7 +249,7 @@ typedef struct cb_placed {
     size_t vector_registers;
 } cb_placed;
 
-/* What gathering and taking give: the hidden address, 0 where none is passed. */
+/* What gathering and taking give: the hidden address, all 64 bits of its register, 0 where none is passed. */
 typedef struct cb_gathered {
     uint64_t hidden;
 } cb_gathered;
@@ -305,7 +312,8 @@ size_t cb_write_listing(const uint8_t *description, size_t description_length, u
 
 /* Places the values, packed argument after argument, into both images, and zeros everywhere else in them. The hidden address goes
    into rdi where one is passed, and is not looked at otherwise. The lengths are the layout's `values`, CB_REGISTER_IMAGE and the
-   layout's `area`. Refused 1 to 10, then 11 for another length, then 12 for a _Bool argument's byte that is not 0 or 1. */
+   layout's `area`. Refused 1 to 10, then 11 for another length, then 27 for a hidden address of 2^32 or more that is passed under
+   ILP32, then 12 for a _Bool argument's byte that is not 0 or 1. */
 cb_refusal cb_place_values(const uint8_t *description, size_t description_length, uint64_t hidden,
                            const uint8_t *values, size_t values_length,
                            uint8_t *registers, size_t registers_length,
@@ -320,7 +328,8 @@ cb_refusal cb_gather_values(const uint8_t *description, size_t description_lengt
 /* Puts a returned value into the return image, and zeros everywhere else in it: what the called function leaves. A value in memory has
    length 0 here: rax holds the hidden address, which is looked at in no other case. Any other has the layout's `return_size`, which
    is 0 for void. Of each long double ten bytes are put, the other six are zero. Refused 1 to 10, then 11 for another length, or one
-   of the image that is not CB_RETURN_IMAGE, then 12 for a returned _Bool's byte that is not 0 or 1. */
+   of the image that is not CB_RETURN_IMAGE, then 27 for a hidden address of 2^32 or more that is returned under ILP32, then 12 for a
+   returned _Bool's byte that is not 0 or 1. */
 cb_refusal cb_put_returned(const uint8_t *description, size_t description_length, uint64_t hidden,
                            const uint8_t *value, size_t value_length, uint8_t *image, size_t image_length);
 
@@ -395,12 +404,12 @@ static inline const char *cb_register_name(uint8_t number)
 /* What a refusal means, in a line. */
 static inline const char *cb_refusal_text(cb_refusal refusal)
 {
-    static const char *const texts[21] = {
+    static const char *const texts[28] = {
         "accepted",
         "the description has under 11 bytes",
         "the description does not begin with KCB",
         "the description's version is not 1",
-        "the description's counts of types or arguments, or its variadic byte, are against the rules",
+        "the description's counts of types or arguments, or its byte 6, are against the rules",
         "the description has not the length that its counts ask for",
         "a type record is against the rules",
         "a type has over 4096 bytes",
@@ -416,9 +425,16 @@ static inline const char *cb_refusal_text(cb_refusal refusal)
         "the walk is of another attachment",
         "the walk's position or offsets are not those of this description",
         "the walk has passed the last argument",
-        "the argument is of another type"
+        "the argument is of another type",
+        "",
+        "",
+        "",
+        "",
+        "",
+        "",
+        "the hidden address is 2^32 or more, where a pointer has 4 bytes"
     };
-    return refusal.number < 21 ? texts[refusal.number] : "no refusal of this library";
+    return refusal.number < 28 && texts[refusal.number][0] != 0 ? texts[refusal.number] : "no refusal of this library";
 }
 
 /* 1 where the refusal's `type` is the number of a type, else 0. */
@@ -490,7 +506,8 @@ struct cb_builder {
     uint8_t member_count;
     uint8_t argument_count;
     uint8_t named_count;                 /* arguments before cb_ellipsis */
-    uint8_t variadic;                    /* 1 behind cb_ellipsis */
+    uint8_t variadic;                    /* CB_VARIADIC behind cb_ellipsis */
+    uint8_t model;                       /* CB_ILP32 behind cb_begin_ilp32, 0 behind cb_begin */
     uint8_t returns;                     /* 1 behind cb_returns, whose number is `returned` */
     uint8_t returned;
     uint8_t types[4 * CB_MAX_TYPES];     /* records, members and arguments as they will stand in the description */
@@ -582,6 +599,14 @@ static inline cb_builder cb_begin(void)
     return builder;
 }
 
+/* An empty builder for a function of a module that is built for ILP32. */
+static inline cb_builder cb_begin_ilp32(void)
+{
+    cb_builder builder = cb_begin();
+    builder.model = CB_ILP32;
+    return builder;
+}
+
 /* The number of a basic type, by its enum cb_code. */
 static inline uint8_t cb_basic(cb_builder *builder, unsigned code)
 {
@@ -642,7 +667,7 @@ static inline void cb_ellipsis(cb_builder *builder)
         cb_mistake(builder, CB_WRONG_COUNTS, 0);
         return;
     }
-    builder->variadic = 1;
+    builder->variadic = CB_VARIADIC;
     builder->named_count = builder->argument_count;
 }
 
@@ -659,7 +684,8 @@ static inline size_t cb_finish(cb_builder *builder, uint8_t *description, size_t
         cb_mistake(builder, CB_WRONG_BUFFER, 0);
     }
     if (builder->refusal.number == CB_ACCEPTED) {
-        const uint8_t head[11] = {'K', 'C', 'B', CB_FORMAT_VERSION % 256, CB_FORMAT_VERSION / 256, builder->type_count, builder->variadic,
+        const uint8_t head[11] = {'K', 'C', 'B', CB_FORMAT_VERSION % 256, CB_FORMAT_VERSION / 256, builder->type_count,
+                                  (uint8_t)(builder->variadic | builder->model),
                                   builder->variadic ? builder->named_count : builder->argument_count, builder->argument_count,
                                   builder->returns ? builder->returned : (uint8_t)CB_VOID, builder->member_count};
         uint8_t *at = cb_copy_bytes(description, head, 11);

@@ -35,13 +35,13 @@ LISTING_ROOM = 4096
 
 Bytes = Union[bytes, bytearray, memoryview]
 
-# What each refusal means, by number, as the header says it.
+# What each refusal means, by number, as the header says it; 21 to 26 are no refusals of this library.
 TEXTS = (
     'accepted',
     'the description has under 11 bytes',
     'the description does not begin with KCB',
     "the description's version is not 1",
-    "the description's counts of types or arguments, or its variadic byte, are against the rules",
+    "the description's counts of types or arguments, or its byte 6, are against the rules",
     'the description has not the length that its counts ask for',
     'a type record is against the rules',
     'a type has over 4096 bytes',
@@ -58,11 +58,18 @@ TEXTS = (
     "the walk's position or offsets are not those of this description",
     'the walk has passed the last argument',
     'the argument is of another type',
+    '',
+    '',
+    '',
+    '',
+    '',
+    '',
+    'the hidden address is 2^32 or more, where a pointer has 4 bytes',
 )
 
 
 class Refused(Exception):
-    """A call was refused, and changed nothing: its number, 1 to 20, the header's text for it, and the type that is wrong.
+    """A call was refused, and changed nothing: its number, 1 to 20 or 27, the header's text for it, and the type that is wrong.
 
     `type` is a number for 6 and 7, the lowest of a type that breaks that rule, and None for every other refusal.
     """
@@ -70,7 +77,7 @@ class Refused(Exception):
     def __init__(self, number: int, type_number: int = 0):
         self.number = number
         self.type: Optional[int] = type_number if number in (6, 7) else None
-        self.text = TEXTS[number] if 0 < number < len(TEXTS) else 'no refusal of this library'
+        self.text = (TEXTS[number] if 0 < number < len(TEXTS) else '') or 'no refusal of this library'
         super().__init__(number, type_number)
 
     def __str__(self) -> str:
@@ -412,7 +419,7 @@ def place_values(description: Bytes, values: Bytes, hidden: int = 0) -> Placed:
     """Places the values, packed argument after argument, and zeros everywhere else in both images.
 
     The hidden address goes into rdi where one is passed, and is not looked at otherwise. Refused 1 to 10, then 11 for another length of values than
-    the layout's, then 12 for a _Bool argument's byte that is not 0 or 1.
+    the layout's, then 27 for a hidden address of 2^32 or more that is passed in ILP32, then 12 for a _Bool argument's byte that is not 0 or 1.
     """
     d, v, address = _bytes(description), _bytes(values), _number(hidden, 64, 'the hidden address')
     area = layout_of(d).area
@@ -440,7 +447,8 @@ def put_returned(description: Bytes, value: Bytes, hidden: int = 0) -> bytes:
     """The return image that the called function leaves: the value, and zeros everywhere else.
 
     void has no byte here, and neither has a value in memory: rax then holds the hidden address. Of each long double ten bytes are put, the other six
-    are zero. Refused 1 to 10, then 11 for a length other than the returned type's, then 12 for a returned _Bool's byte that is not 0 or 1.
+    are zero. Refused 1 to 10, then 11 for a length other than the returned type's, then 27 for a hidden address of 2^32 or more that is
+    returned in ILP32, then 12 for a returned _Bool's byte that is not 0 or 1.
     """
     d, v, image = _bytes(description), _bytes(value), _room(RETURN_IMAGE)
     _accepted(_library.cb_put_returned(d, len(d), _number(hidden, 64, 'the hidden address'), v, len(v), image, RETURN_IMAGE))

@@ -28,6 +28,7 @@ CODE = re.sub(r'/\*.*?\*/', '', HEADER, flags=re.S)
 # int 7, struct {1.5, 9}, a long double, 2.5, an __int128.
 VALUES = struct.pack('<idq', 7, 1.5, 9) + (0x3FFF8000000000000000).to_bytes(16, 'little') + struct.pack('<d', 2.5) + (1 << 100).to_bytes(16, 'little')
 INT, DOUBLE, LONG_DOUBLE, BOOL = bytes([0, 3, 0, 0]), bytes([0, 7, 0, 0]), bytes([0, 8, 0, 0]), bytes([0, 0, 0, 0])
+POINTER = bytes([0, 15, 0, 0])
 
 
 def described(types, arguments, returns=255, members=b'', named=None):
@@ -89,7 +90,7 @@ class Header(Case):
                 self.assertIn(one, many, name)
 
     def test_texts(self):
-        table = CODE.split('texts[21] = {')[1].split('};')[0]
+        table = CODE.split('texts[28] = {')[1].split('};')[0]
         self.assertEqual(tuple(re.findall(r'"(.*?)"', table)), callbridge.TEXTS)
 
     def test_numbers(self):
@@ -300,6 +301,32 @@ class Moving(Case):
         image = callbridge.put_returned(large, b'', address)
         self.assertEqual(callbridge.take_returned(large, image), (b'', address))
 
+    def test_ilp32(self):
+        pointers = bytearray(described([POINTER, bytes([2, 0, 3, 0])], [0] * 7, returns=1, members=bytes([0] * 3)))
+        self.assertEqual(callbridge.layout_of(pointers).return_size, 24)
+        pointers[6] = 2  # ILP32: a struct of three pointers has 12 bytes, and is returned in rax and rdx
+        layout, placements = callbridge.lay_out(pointers)
+        self.assertEqual((layout.hidden, layout.return_size, layout.values, layout.area), (False, 12, 28, 16))
+        self.assertEqual({(one.size, one.align) for one in placements}, {(4, 4)})
+        placed = callbridge.place_values(pointers, bytes([255]) * 28, 1 << 40)  # no address is passed, and none is looked at
+        self.assertEqual(placed.registers, bytes([255] * 4 + [0] * 4) * 6 + bytes(128))
+        self.assertEqual(placed.stack, bytes([255] * 4 + [0] * 12))
+
+    def test_an_address_too_wide_for_ilp32(self):
+        large = bytearray(described([DOUBLE, bytes([2, 0, 3, 0]), BOOL], [2], returns=1, members=bytes([0, 0, 0])))
+        callbridge.place_values(large, bytes(1), 1 << 32)
+        large[6] = 2
+        low = (1 << 32) - 1
+        placed = callbridge.place_values(large, bytes(1), low)
+        self.assertEqual(placed.registers[:8], low.to_bytes(8, 'little'))
+        self.assertEqual(callbridge.take_returned(large, callbridge.put_returned(large, b'', low)), (b'', low))
+        refusal = self.refused(27, callbridge.place_values, large, b'\2', 1 << 32)  # and not 12
+        self.assertEqual(refusal.text, 'the hidden address is 2^32 or more, where a pointer has 4 bytes')
+        self.refused(12, callbridge.place_values, large, b'\2', low)
+        self.refused(27, callbridge.put_returned, large, b'', 1 << 32)
+        wide = bytes([0, 0, 0, 0, 1]) + bytes(171)  # gathering answers all 64 bits
+        self.assertEqual(callbridge.gather_values(large, wide, b''), (b'\0', 1 << 32))
+
 
 class Walks(Case):
     def test_a_walk_ends_when_its_module_leaves(self):
@@ -406,7 +433,7 @@ class Anything(Case):
             station = Station()
             station.attach(d)
             at = sum(one.size for one in placements[: d[7]])
-            if not d[6]:
+            if d[6] % 2 == 0:
                 self.refused(16, station.open_walk)
                 continue
             walk = station.open_walk()

@@ -74,6 +74,9 @@ static void make(cb_builder *b, const char *word, char *numbers)
         second = *at == '*' ? (at++, take(&at)) : take_times(&at);
     }
     switch (*word) {
+    case 'm':
+        *b = cb_begin_ilp32();
+        return;
     case 'b':
         answer = cb_basic(b, (unsigned)first);
         break;

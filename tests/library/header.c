@@ -98,8 +98,8 @@ static void sizes(void)
     expect("sizeof(cb_builder)", sizeof(cb_builder),
            FIELD(cb_builder, refusal) + FIELD(cb_builder, type_count) + FIELD(cb_builder, member_count) +
                FIELD(cb_builder, argument_count) + FIELD(cb_builder, named_count) + FIELD(cb_builder, variadic) +
-               FIELD(cb_builder, returns) + FIELD(cb_builder, returned) + FIELD(cb_builder, types) + FIELD(cb_builder, members) +
-               FIELD(cb_builder, arguments));
+               FIELD(cb_builder, model) + FIELD(cb_builder, returns) + FIELD(cb_builder, returned) + FIELD(cb_builder, types) +
+               FIELD(cb_builder, members) + FIELD(cb_builder, arguments));
 }
 
 static void questions(void)

@@ -14,9 +14,9 @@ pub enum Basic {
     Bool = raw::BOOL,
     Char = raw::CHAR,
     Short = raw::SHORT,
-    /// An enum too.
+    /// An enum too; in ILP32 also `long` and `size_t`.
     Int = raw::INT,
-    /// `long long` and `size_t` too.
+    /// `long long` and `size_t` too; in ILP32 `long long` alone.
     Long = raw::LONG,
     Int128 = raw::INT128,
     Float = raw::FLOAT,
@@ -28,7 +28,7 @@ pub enum Basic {
     ComplexFloat = raw::COMPLEX_FLOAT,
     ComplexDouble = raw::COMPLEX_DOUBLE,
     ComplexLongDouble = raw::COMPLEX_LONG_DOUBLE,
-    /// To whatever.
+    /// To whatever: 8 bytes, in ILP32 4.
     Pointer = raw::POINTER,
 }
 
@@ -68,6 +68,7 @@ pub struct Builder {
     members: Vec<u8>,
     arguments: Vec<u8>,
     named: Option<u8>,
+    ilp32: bool,
     returned: Option<u8>,
 }
 
@@ -75,6 +76,23 @@ impl Builder {
     /// An empty one.
     pub fn new() -> Builder {
         Builder::default()
+    }
+
+    /// An empty one for a function of a module that is built for ILP32, where a pointer has 4 bytes.
+    ///
+    /// ```
+    /// use callbridge::{Basic, Builder};
+    ///
+    /// let mut builder = Builder::ilp32();
+    /// let pointer = builder.basic(Basic::Pointer);
+    /// let pair = builder.structure(&[pointer, pointer]);
+    /// builder.argument(pair);
+    /// let (_, placements) = callbridge::lay_out(&builder.finish()?)?;
+    /// assert_eq!((placements[0].size, placements[0].place.to_string()), (8, "rdi".to_string()));
+    /// # Ok::<(), callbridge::Refusal>(())
+    /// ```
+    pub fn ilp32() -> Builder {
+        Builder { ilp32: true, ..Builder::default() }
     }
 
     /// The number of a basic type.
@@ -150,13 +168,20 @@ impl Builder {
         let arguments = self.arguments.len() as u8;
         let [low, high] = raw::FORMAT_VERSION.to_le_bytes();
         let mut description = vec![b'K', b'C', b'B', low, high, self.types.len() as u8];
-        description.extend([self.named.is_some() as u8, self.named.unwrap_or(arguments)]);
+        description.extend([self.flags(), self.named.unwrap_or(arguments)]);
         description.extend([arguments, self.returned.unwrap_or(VOID), self.members.len() as u8]);
         description.extend(self.types.iter().flatten());
         description.extend(&self.members);
         description.extend(&self.arguments);
         check(&description)?;
         Ok(description)
+    }
+
+    /// Byte 6.
+    fn flags(&self) -> u8 {
+        let variadic = if self.named.is_some() { raw::VARIADIC } else { 0 };
+        let model = if self.ilp32 { raw::ILP32 } else { 0 };
+        variadic | model
     }
 
     fn has(&self, type_number: u8) -> bool {

@@ -22,7 +22,8 @@ impl Images {
 }
 
 /// Places the values, packed argument after argument, and zeros everywhere else. Answers how many
-/// vector registers are used. Refused 1 to 10, 11 for a length, 12 for a `_Bool` that is not 0 or 1.
+/// vector registers are used. Refused 1 to 10, 11 for a length, 27 for a hidden address of 2^32 or more
+/// that is passed in ILP32, 12 for a `_Bool` that is not 0 or 1.
 pub fn place(
     description: &[u8],
     hidden: u64,
@@ -75,8 +76,8 @@ pub fn gather(description: &[u8], images: &Images, values: &mut [u8]) -> Result<
 pub const RETURN_IMAGE: usize = 80;
 
 /// Puts a returned value into the return image, zeros everywhere else: what the called function
-/// leaves. A value in memory has length 0, and so has void. Refused 1 to 10, 11 for a length, 12 for a
-/// `_Bool` that is not 0 or 1.
+/// leaves. A value in memory has length 0, and so has void. Refused 1 to 10, 11 for a length, 27 for a
+/// hidden address of 2^32 or more that is returned in ILP32, 12 for a `_Bool` that is not 0 or 1.
 pub fn put_returned(
     description: &[u8],
     hidden: u64,

@@ -16,6 +16,10 @@ pub const MAX_ELEMENTS: usize = 4096;
 /// Byte 9 of a description where nothing is returned.
 pub const VOID: u8 = 255;
 
+/// Bits of byte 6 of a description.
+pub const VARIADIC: u8 = 1;
+pub const ILP32: u8 = 2;
+
 /// Kinds of a type: the first byte of its record.
 pub const BASIC: u8 = 0;
 pub const ARRAY: u8 = 1;

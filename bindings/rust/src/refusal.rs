@@ -4,19 +4,20 @@ use crate::raw;
 use std::fmt;
 use std::num::NonZeroU8;
 
-/// The number of a refusal, 1 to 20, and for 6 and 7 the type that is wrong.
+/// The number of a refusal, 1 to 20 or 27, and for 6 and 7 the type that is wrong.
 #[derive(Clone, Copy, PartialEq, Eq, Hash)]
 pub struct Refusal {
     number: NonZeroU8,
     type_number: u8,
 }
 
-/// In the order of their numbers; the header has the same.
-const TEXTS: [&str; 20] = [
+/// In the order of their numbers, empty for 21 to 26, which are no refusals of this library; the
+/// header has the same.
+const TEXTS: [&str; 27] = [
     "the description has under 11 bytes",
     "the description does not begin with KCB",
     "the description's version is not 1",
-    "the description's counts of types or arguments, or its variadic byte, are against the rules",
+    "the description's counts of types or arguments, or its byte 6, are against the rules",
     "the description has not the length that its counts ask for",
     "a type record is against the rules",
     "a type has over 4096 bytes",
@@ -33,11 +34,18 @@ const TEXTS: [&str; 20] = [
     "the walk's position or offsets are not those of this description",
     "the walk has passed the last argument",
     "the argument is of another type",
+    "",
+    "",
+    "",
+    "",
+    "",
+    "",
+    "the hidden address is 2^32 or more, where a pointer has 4 bytes",
 ];
 
 impl Refusal {
-    /// What each refusal means, from number 1 on.
-    pub const TEXTS: [&'static str; 20] = TEXTS;
+    /// What each refusal means, from number 1 on; 21 to 26 have none.
+    pub const TEXTS: [&'static str; 27] = TEXTS;
 
     pub fn number(self) -> u8 {
         self.number.get()
@@ -51,7 +59,10 @@ impl Refusal {
 
     /// What it means, in a line.
     pub fn text(self) -> &'static str {
-        TEXTS.get(self.number() as usize - 1).copied().unwrap_or("no refusal of this library")
+        match TEXTS.get(self.number() as usize - 1) {
+            None | Some(&"") => "no refusal of this library",
+            Some(text) => text,
+        }
     }
 
     /// An answer of the library as a result.

@@ -42,6 +42,8 @@ fn names_are_those_of_the_header() {
         assert_eq!(basic as usize, in_header(name), "{name}");
     }
     for (value, name) in [
+        (usize::from(raw::VARIADIC), "CB_VARIADIC"),
+        (usize::from(raw::ILP32), "CB_ILP32"),
         (usize::from(raw::BASIC), "CB_BASIC"),
         (usize::from(raw::ARRAY), "CB_ARRAY"),
         (usize::from(raw::STRUCT), "CB_STRUCT"),
@@ -79,6 +81,10 @@ fn make(builder: &mut Builder, word: &str) -> Option<u8> {
     let (call, rest) = word.split_at(1);
     let (what, times) = repeated(rest);
     match call {
+        "m" => {
+            *builder = Builder::ilp32();
+            return None;
+        }
         "b" => return Some(builder.basic(BASICS[number(what)].0)),
         "a" => {
             let (element, count) = what.split_once('*').expect("a count");

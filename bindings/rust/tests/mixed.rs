@@ -23,8 +23,8 @@ fn values() -> Vec<u8> {
 #[test]
 fn texts_are_those_of_the_header() {
     let header = include_str!("../../../include/callbridge.h");
-    let table = header.split("texts[21] = {").nth(1).expect("the table of texts");
-    let texts: Vec<&str> = table.split('"').skip(1).step_by(2).take(21).collect();
+    let table = header.split("texts[28] = {").nth(1).expect("the table of texts");
+    let texts: Vec<&str> = table.split('"').skip(1).step_by(2).take(28).collect();
     assert_eq!(texts[0], "accepted");
     assert_eq!(texts[1..], callbridge::Refusal::TEXTS);
 }

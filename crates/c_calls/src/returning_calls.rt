@@ -12,7 +12,7 @@ ghost use Rattle.c_calls.specs.ReturningCalls.{putGiven, takenGiven};
 
 // Putting a returned value, with the return image at exit: no record.
 pub fn put_returned(d: &[u8], hidden: u64, value: &[u8], image: &mut [u8]) -> Refusal
-    ensures { λ r. ⌜ (r ≡ putGiven (putAnswer (now (d .entry)) (now (value .entry)) (length (now (image .entry)))))
+    ensures { λ r. ⌜ (r ≡ putGiven (putAnswer (now (d .entry)) hidden (now (value .entry)) (length (now (image .entry)))))
         × (now (image .exit) ≡ imageAfter (now (d .entry)) hidden (now (value .entry)) (now (image .entry))) ⌝ }
 {
     let answer = returning::put_returned(d, hidden, value, image);

@@ -154,7 +154,7 @@ shown-told s seat w a =
 
 pub put-told : PutTold
 unfolding putAnswer
-put-told d v n = through putGiven (eqb (putRefusal d v n) 0) _ _ ∙ refusal-zero d (putRefusal d v n)
+put-told d h v n = through putGiven (eqb (putRefusal d h v n) 0) _ _ ∙ refusal-zero d (putRefusal d h v n)
 
 pub taken-told : TakenTold
 unfolding takeAnswer

@@ -97,7 +97,7 @@ GatheredTold = (d r s : List ℕ) (valuesLength : ℕ)
 
 -- cb_put_returned has no record, cb_take_returned the hidden address
 abbrev pub PutTold : Type 0
-PutTold = (d value : List ℕ) (imageLength : ℕ) → putGiven (putAnswer d value imageLength) ≡ refusalFor d (putRefusal d value imageLength)
+PutTold = (d : List ℕ) (h : ℕ) (value : List ℕ) (imageLength : ℕ) → putGiven (putAnswer d h value imageLength) ≡ refusalFor d (putRefusal d h value imageLength)
 
 abbrev pub TakenTold : Type 0
 TakenTold = (d image : List ℕ) (valueLength : ℕ)

@@ -179,7 +179,7 @@ pub extern "C" fn cb_gather_values(
 // A returned value into the return image.
 #[no_mangle]
 pub extern "C" fn cb_put_returned(d: &[u8], hidden: u64, value: &[u8], image: &mut [u8]) -> Refusal
-    ensures { λ r. ⌜ (r ≡ putGiven (putAnswer (now (d .entry)) (now (value .entry)) (length (now (image .entry)))))
+    ensures { λ r. ⌜ (r ≡ putGiven (putAnswer (now (d .entry)) hidden (now (value .entry)) (length (now (image .entry)))))
         × (now (image .exit) ≡ imageAfter (now (d .entry)) hidden (now (value .entry)) (now (image .entry))) ⌝ }
 {
     c_calls::put_returned(d, hidden, value, image)

@@ -3,7 +3,7 @@ use mathlib.Core.Path.{_≡_, refl}
 use mathlib.Core.List.{List, map}
 use Rattle.addresses.specs.Addresses.{run}
 use Rattle.units.specs.Raise.{raise}
-use Rattle.description.specs.Description.{kindAt, aAt, countAt, memberAt, argumentAt, argumentsIn, modelIn}
+use Rattle.description.specs.Description.{kindAt, aAt, countAt, memberAt, argumentAt, argumentsIn, variadicIn, modelIn}
 use Rattle.form.specs.Search.{firstFrom}
 use Rattle.form.specs.Conditions.{tooShort, wrongMark, wrongVersion, wrongCounts, wrongLength, brokenBasic, brokenArray, brokenRun, brokenRecord, wrongRecord}
 use Rattle.types.specs.Basic.{basicSize, basicAlign}
@@ -34,5 +34,5 @@ abbrev want : Case → LayoutAnswer × List Placement
 want c = (Laid (c .laid), c .records)
 
 pub cases-hold : map got cases ≡ map want cases
-unfolding cases raise kindAt aAt countAt memberAt argumentAt firstFrom tooShort wrongMark wrongVersion wrongCounts wrongLength brokenBasic brokenArray brokenRun brokenRecord wrongRecord basicSize basicAlign alignTy sizeTy offsetAfter endAfter tysFrom tyBy tyAt modelIn large tooLarge same isX87 mergeOf mergeAll upAlone settled cleanUp firstClass secondClass gap oneClass basicAt elementsAt classesAt classesOf wrongNumber wrongReturn wrongUse narrow narrowUnnamed kindsOf shapeOf enough fits start place next area returnOf hiddenBy shapeAt shapesFrom isVoid returnPlace hidden usedAt areaOf wideArea verdict valuesOf returnedSize layoutOf layoutAnswer placementAt
+unfolding cases raise kindAt aAt countAt memberAt argumentAt firstFrom tooShort wrongMark wrongVersion wrongCounts wrongLength brokenBasic brokenArray brokenRun brokenRecord wrongRecord basicSize basicAlign alignTy sizeTy offsetAfter endAfter tysFrom tyBy tyAt variadicIn modelIn large tooLarge same isX87 mergeOf mergeAll upAlone settled cleanUp firstClass secondClass gap oneClass basicAt elementsAt classesAt classesOf wrongNumber wrongReturn wrongUse narrow narrowUnnamed kindsOf shapeOf enough fits start place next area returnOf hiddenBy shapeAt shapesFrom isVoid returnPlace hidden usedAt areaOf wideArea verdict valuesOf returnedSize layoutOf layoutAnswer placementAt
 cases-hold = refl

@@ -2,7 +2,7 @@
 use mathlib.Core.Path.{_≡_, refl}
 use mathlib.Core.List.{map}
 use Rattle.units.specs.Raise.{raise}
-use Rattle.description.specs.Description.{kindAt, aAt, countAt, memberAt, argumentAt, modelIn}
+use Rattle.description.specs.Description.{kindAt, aAt, countAt, memberAt, argumentAt, variadicIn, modelIn}
 use Rattle.form.specs.Search.{firstFrom}
 use Rattle.form.specs.Conditions.{tooShort, wrongMark, wrongVersion, wrongCounts, wrongLength, brokenBasic, brokenArray, brokenRun, brokenRecord, wrongRecord}
 use Rattle.types.specs.Basic.{basicSize, basicAlign}
@@ -27,5 +27,5 @@ use Rattle.cases.specs.Cases.{Case, cases}
 use Rattle.cases.specs.Listings.{listings}
 
 pub listings-hold : map (λ (c : Case). listing (c .bytes)) cases ≡ listings
-unfolding cases raise kindAt aAt countAt memberAt argumentAt firstFrom tooShort wrongMark wrongVersion wrongCounts wrongLength brokenBasic brokenArray brokenRun brokenRecord wrongRecord basicSize basicAlign alignTy sizeTy offsetAfter endAfter tysFrom tyBy tyAt modelIn large tooLarge same isX87 mergeOf mergeAll upAlone settled cleanUp firstClass secondClass gap oneClass basicAt elementsAt classesAt classesOf wrongNumber wrongReturn wrongUse narrow narrowUnnamed kindsOf shapeOf enough fits start place next area returnOf hiddenBy shapeAt shapesFrom isVoid returnPlace hidden usedAt areaOf wideArea verdict valuesOf layoutOf layoutAnswer placementAt digits decimal generalWord vectorWord headLine recordLine recordLines returnLine walkLine refusedLine laidText listing listings
+unfolding cases raise kindAt aAt countAt memberAt argumentAt firstFrom tooShort wrongMark wrongVersion wrongCounts wrongLength brokenBasic brokenArray brokenRun brokenRecord wrongRecord basicSize basicAlign alignTy sizeTy offsetAfter endAfter tysFrom tyBy tyAt variadicIn modelIn large tooLarge same isX87 mergeOf mergeAll upAlone settled cleanUp firstClass secondClass gap oneClass basicAt elementsAt classesAt classesOf wrongNumber wrongReturn wrongUse narrow narrowUnnamed kindsOf shapeOf enough fits start place next area returnOf hiddenBy shapeAt shapesFrom isVoid returnPlace hidden usedAt areaOf wideArea verdict valuesOf layoutOf layoutAnswer placementAt digits decimal generalWord vectorWord headLine recordLine recordLines returnLine walkLine refusedLine laidText listing listings
 listings-hold = refl

@@ -10,7 +10,7 @@ use borrow.Author.Tests.{ltb-false, leb-true, leb-false}
 use lib.Dec.{leb, ltb}
 use lib.ListN.{getD}
 use Rattle.description.specs.declared.Model.{Model}
-use Rattle.description.specs.declared.Model.the-variants.{Lp64}
+use Rattle.description.specs.declared.Model.the-variants.{Lp64, Ilp32}
 use Rattle.classes.specs.declared.Class.{Class}
 use Rattle.classes.specs.declared.Class.the-variants.{NoClass, Memory}
 use Rattle.classes.specs.Classes.{same, there, isX87, mergeOf, mergeAll}
@@ -47,6 +47,7 @@ basic-clean =
 pointer-small : (model : Model) → (basicSize model 15 ≤ 16) ⊎ (onStack (basicAt 2 15 0) ≡ true)
 unfolding basicSize
 pointer-small Lp64 = inl (omega arith)
+pointer-small Ilp32 = inl (omega arith)
 
 basic-large : (model : Model) (code : ℕ) → code < 16 → (basicSize model code ≤ 16) ⊎ (onStack (basicAt 2 code 0) ≡ true)
 unfolding basicSize same isX87 mergeOf mergeAll oneClass gap firstClass secondClass basicAt

@@ -34,7 +34,7 @@ pub fn wrong_counts(d: &[u8]) -> bool
     ensures { λ r. ⌜ r ≡ wrongCounts (now (d .entry)) ⌝ }
 {
     let types = d[5];
-    let variadic = d[6];
+    let flags = d[6];
     let named = d[7];
     let arguments = d[8];
     if 64 < types {
@@ -43,13 +43,13 @@ pub fn wrong_counts(d: &[u8]) -> bool
     if 64 < arguments {
         return true;
     }
-    if 1 < variadic {
+    if 3 < flags {
         return true;
     }
     if arguments < named {
         return true;
     }
-    if variadic == 0 {
+    if flags % 2 == 0 {
         return named != arguments;
     }
     false

@@ -7,7 +7,7 @@ use native.Mathlib.Omega.{arith}
 use borrow.Author.Tests.{ltb-true}
 use lib.Dec.{ltb}
 use Rattle.units.specs.Raise.{raise}
-use Rattle.description.specs.Description.{IsBytes, headerOf, kindAt, aAt, countAt, memberAt, argumentAt, modelIn}
+use Rattle.description.specs.Description.{IsBytes, headerOf, kindAt, aAt, countAt, memberAt, argumentAt, variadicIn, modelIn}
 use Rattle.form.specs.Conditions.{tooShort, wrongMark, wrongVersion, wrongCounts, wrongLength, brokenBasic, brokenArray, brokenRun, brokenRecord, wrongRecord}
 use Rattle.form.specs.Search.{firstFrom}
 use Rattle.types.specs.Basic.{basicSize, basicAlign}
@@ -52,5 +52,5 @@ pub damaged-bytes : IsBytes damaged
 damaged-bytes = small-bytes damaged refl
 
 pub accident-plays : Plays (history lister-bytes other-bytes damaged-bytes)
-unfolding raise headerOf kindAt aAt countAt memberAt argumentAt tooShort wrongMark wrongVersion wrongCounts wrongLength brokenBasic brokenArray brokenRun brokenRecord wrongRecord firstFrom basicSize basicAlign tysFrom tyBy tyAt modelIn large tooLarge offsetAfter endAfter widest sizeTy alignTy same isX87 mergeOf mergeAll upAlone settled cleanUp firstClass secondClass gap oneClass basicAt elementsAt classesAt classesOf wrongNumber wrongReturn wrongUse narrow narrowUnnamed kindsOf shapeOf enough fits start place next area hiddenBy layoutShape shapesFrom isVoid hidden layoutArea wideArea verdictOf arguments shapeAt typeAt usedAt areaOf kcb newStation wrongSeat described seatOf detachRefusal detachStation detachSeat attachRefusal attachStation attachSeat holds raised readAt step walkAt wrongRegisters otherNumber standing openRefusal astray atEnd otherType wrongStack wrongOut stepRefusal showRefusal openWalk bytesAt movedOn stepWalk stepOut withWalk blank imagesFor
+unfolding raise headerOf kindAt aAt countAt memberAt argumentAt tooShort wrongMark wrongVersion wrongCounts wrongLength brokenBasic brokenArray brokenRun brokenRecord wrongRecord firstFrom basicSize basicAlign tysFrom tyBy tyAt variadicIn modelIn large tooLarge offsetAfter endAfter widest sizeTy alignTy same isX87 mergeOf mergeAll upAlone settled cleanUp firstClass secondClass gap oneClass basicAt elementsAt classesAt classesOf wrongNumber wrongReturn wrongUse narrow narrowUnnamed kindsOf shapeOf enough fits start place next area hiddenBy layoutShape shapesFrom isVoid hidden layoutArea wideArea verdictOf arguments shapeAt typeAt usedAt areaOf kcb newStation wrongSeat described seatOf detachRefusal detachStation detachSeat attachRefusal attachStation attachSeat holds raised readAt step walkAt wrongRegisters otherNumber standing openRefusal astray atEnd otherType wrongStack wrongOut stepRefusal showRefusal openWalk bytesAt movedOn stepWalk stepOut withWalk blank imagesFor
 accident-plays = record { answer = refl; whole = refl; parted = refl }

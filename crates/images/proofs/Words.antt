@@ -1,11 +1,11 @@
 -- Laws of a number in eight bytes, and the loop that writes them. Assumes nothing.
 use mathlib.Core.Path.{_≡_, refl, ap, ap₂, _∙_}
 use mathlib.Core.List.{List, [], _∷_}
-use Prim.Native.Nat.{ℕ, suc, _+_, _*_, _-_, _/_, _%_, _^_, _≤_, _<_}
+use Prim.Native.Nat.{ℕ, zero, suc, _+_, _*_, _-_, _/_, _%_, _^_, _≤_, _<_}
 use native.Mathlib.Numerals.{add-one}
 use native.Mathlib.Omega.{arith}
-use lib.ListN.{length, set, length-set}
-use Rattle.addresses.specs.Addresses.{run, scatter, All}
+use lib.ListN.{length, getD, set, length-set}
+use Rattle.addresses.specs.Addresses.{run, gather, scatter, All}
 use Rattle.addresses.proofs.Scatter.{length-scatter}
 use Rattle.description.specs.Description.{wordAt}
 use Rattle.images.specs.Words.{littleEndian, number, rdi, withAddress, addressIn}
@@ -53,3 +53,14 @@ module _ (img₀ : List ℕ) (h : ℕ) where
 
   pub putting-last : (img : List ℕ) (rest i : ℕ) → 8 ≤ i → Putting img rest i → img ≡ withAddress img₀ h
   putting-last img rest i l p = let e : 8 - i ≡ 0 = omega arith in rw e at (p .same)
+
+-- an address below 2^32 leaves the upper half of its register zero
+pub upper-zero : (img : List ℕ) (h : ℕ) → h < 4294967296 → gather img rdi ≡ littleEndian 8 h → (k : ℕ) → 4 ≤ k → k < 8 → getD img k 0 ≡ 0
+upper-zero img h low e k l u = ap (λ (n : ℕ). getD img n 0) (omega arith) ∙ by (k - 4) (omega arith)
+  where
+    by : (j : ℕ) → j < 4 → getD img (4 + j) 0 ≡ 0
+    by zero m = ap (λ (x : List ℕ). getD x 4 0) e ∙ omega arith
+    by (suc zero) m = ap (λ (x : List ℕ). getD x 5 0) e ∙ omega arith
+    by (suc (suc zero)) m = ap (λ (x : List ℕ). getD x 6 0) e ∙ omega arith
+    by (suc (suc (suc zero))) m = ap (λ (x : List ℕ). getD x 7 0) e ∙ omega arith
+    by (suc (suc (suc (suc j)))) m = absurd (omega arith)

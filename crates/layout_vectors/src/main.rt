@@ -143,7 +143,7 @@ fn print_walk(d: &[u8], named: Used) {
     if d.len() < 11 {
         return;
     }
-    if d[6] == 0 {
+    if d[6] % 2 == 0 {
         print(b"walk none\n");
         return;
     }

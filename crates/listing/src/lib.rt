@@ -47,7 +47,7 @@ fn put_laid(d: &[u8], out: &mut [u8; 4096], layout: Layout, table: &[u32; 64]) -
     requires { ⌜ Accepted (now d) layout × Tabled (now d) (now table) ⌝ }
     ensures { λ r. ⌜ Wrote 3452 (now (out .entry)) 0 (laidText (now (d .entry)) layout) (now (out .exit)) r ⌝ }
 {
-    let variadic = description::byte_at(d, 6);
+    let variadic = description::variadic_in(d);
     let first = description::byte_at(d, 7);
     let all = description::byte_at(d, 8);
     let k = description::byte_at(d, 9);

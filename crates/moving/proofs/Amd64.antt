@@ -1,5 +1,5 @@
 -- The two images of document 01 are a sound frame, and its orders are as they should be: so what is proved of any layout holds of it. Assumes nothing.
-use mathlib.Core.Path.{_≡_, refl, sym, _∙_}
+use mathlib.Core.Path.{_≡_, refl, sym, ap, _∙_}
 use mathlib.Core.Bool.{Bool, true, false, cond}
 use mathlib.Core.List.{List, []}
 use mathlib.Core.Logic.{_≢_}
@@ -8,6 +8,7 @@ use native.Mathlib.Omega.{arith}
 use borrow.Author.Tests.{eq-eqb, eqb-true, not-false}
 use lib.Dec.{eqb}
 use lib.ListN.{length}
+use Rattle.description.specs.Description.{modelIn}
 use Rattle.addresses.specs.Addresses.{All, NoDup, Below, Absent}
 use Rattle.addresses.proofs.Lists.{all-map}
 use Rattle.addresses.proofs.Runs.{all-run, nodup-run}
@@ -26,6 +27,7 @@ use Rattle.moving.specs.Orders.{wrongLength, placeRefusal}
 use Rattle.moving.specs.Images.{addressesOf, frameOf, amd64}
 use Rattle.moving.specs.Frames.{Sound, ownAddress, passed}
 use Rattle.moving.specs.Movers.{Ordered}
+use Rattle.moving.proofs.Address.{address-unused}
 use Rattle.moving.proofs.Turns.{right}
 use Rattle.moving.proofs.Orders.{gather-fits, place-accepted}
 
@@ -124,6 +126,13 @@ address-room : (b : Bool) (h : ℕ) → h < 2 ^ 64 → cond b rdi [] ≢ [] → 
 address-room true h l n = l
 address-room false h l n = absurd (n refl)
 
+address-unseen : (d : List ℕ) (h g : ℕ) → frameOf d .address ≡ [] → amd64 .addressOrder d h ≡ amd64 .addressOrder d g
+address-unseen d h g e = by (hidden d) refl e
+  where
+    by : (b : Bool) → hidden d ≡ b → cond b rdi [] ≡ [] → amd64 .addressOrder d h ≡ amd64 .addressOrder d g
+    by true f z = absurd (let n : _≡_ {A = ℕ} 8 0 = ap length z in omega arith)
+    by false f z = rw (f, address-unused (modelIn d) h, address-unused (modelIn d) g)
+
 pub amd64-ordered : Ordered amd64
 unfolding verdict
 amd64-ordered = record {
@@ -134,10 +143,10 @@ amd64-ordered = record {
   );
   positive = check-positive;
   without = λ d. check-without d 12 (omega arith);
-  address-positive = λ d h. tt;
-  address-without = λ d h. tt;
+  address-positive = λ d h. (omega arith, tt);
+  address-without = λ d h. ((λ z. omega arith), tt);
   fits = λ d h l n. address-room (hidden d) h l;
-  unseen = λ d h g e. refl;
+  unseen = address-unseen;
 }
 
 -- what an accepted placing is sure of

@@ -9,8 +9,9 @@ use lib.ListN.{length, take, drop}
 use lib.Seq.{take-at, drop-at}
 use Rattle.addresses.proofs.Runs.{all-run}
 use Rattle.addresses.proofs.Parts.{gather-left}
-use Rattle.description.specs.Description.{argumentsIn}
+use Rattle.description.specs.Description.{argumentsIn, modelIn}
 use Rattle.form.specs.declared.Refusal.{Refusal}
+use Rattle.form.specs.Order.{first}
 use Rattle.form.specs.Reading.{refusalOf}
 use Rattle.types.specs.Wrong.{refusalFor}
 use Rattle.types.proofs.Wrong.{no-type}
@@ -23,6 +24,7 @@ use Rattle.layout.specs.Layout.{layoutOf, layoutAnswer}
 use Rattle.layout.specs.Verdict.{verdict}
 use Rattle.layout.proofs.Layouts.{laid-accepted, refused-verdict, refused-nonzero}
 use Rattle.images.specs.Words.{number, rdi, addressIn}
+use Rattle.moving.specs.Address.{wrongAddress}
 use Rattle.moving.specs.Images.{frameOf, amd64}
 use Rattle.moving.specs.Frames.{placedIn, gatheredIn, ownAddress}
 use Rattle.moving.specs.Orders.{wrongLength, firstBroken, wrongBool, placeRefusal, gatherRefusal}
@@ -32,7 +34,7 @@ use Rattle.moving.specs.declared.PlaceAnswer.{PlaceAnswer}
 use Rattle.moving.specs.declared.PlaceAnswer.the-variants.{Placed, Refused as NotPlaced}
 use Rattle.moving.specs.declared.GatherAnswer.{GatherAnswer}
 use Rattle.moving.specs.declared.GatherAnswer.the-variants.{Gathered, Refused as NotGathered}
-use Rattle.moving.proofs.Orders.{gather-before, gather-behind, place-before, place-behind, broken-holds, broken-none}
+use Rattle.moving.proofs.Orders.{gather-before, gather-behind, place-before, place-behind, place-stopped, broken-holds, broken-none}
 use Rattle.moving.proofs.Amd64.{amd64-ordered, right-lent, own-used, own-unused}
 
 -- ---- by which number gathering is refused, and placing too where there is one
@@ -79,15 +81,27 @@ module _ (d : List ℕ) (h : ℕ) (vals r s : List ℕ) where
       pub place-lengths : Lent d (length vals) (length r) (length s)
       place-lengths = right-lent d (length vals) (length r) (length s) (laid-accepted d l laid .0) (same-lengths false w)
 
-      place-late : (b : Bool) → wrongBool amd64 d vals ≡ b → placeRefusal amd64 d h vals (length r) (length s) ≡ cond b 12 0
-      place-late b e =
-          place-behind amd64 amd64-ordered d h vals (length r) (length s) (by-lengths d (length vals) (length r) (length s) (place-lengths .accepted) false (same-lengths false w)) tt b e
+      lengths-right : gatherRefusal amd64 d (length vals) (length r) (length s) ≡ 0
+      lengths-right = by-lengths d (length vals) (length r) (length s) (place-lengths .accepted) false (same-lengths false w)
 
       pub place-hidden : l .hidden ≡ hidden d
       unfolding layoutOf
       place-hidden = ap (λ (x : Layout). x .hidden) (laid-accepted d l laid .1)
 
-      module _ (n m : ℕ) (found : n ≡ firstBroken amd64 d vals) (all : m ≡ argumentsIn d) where
+      module _ (a : Bool) (wide : a ≡ wrongAddress (modelIn d) (l .hidden) h) where
+        address-is : wrongAddress (modelIn d) (hidden d) h ≡ a
+        address-is = ap (λ (b : Bool). wrongAddress (modelIn d) b h) (sym place-hidden) ∙ sym wide
+
+        pub place-wrong-address : (x : Refusal) → x ≡ refusalOf 27 → a ≡ true → PlaceEnd (NotPlaced x) r s
+        place-wrong-address x e t =
+            let stops : first (amd64 .addressOrder d h) ≡ 27 = rw (address-is ∙ t) in
+            place-refused x 27 (e ∙ sym (no-type d 27 refl refl))
+            (place-stopped amd64 amd64-ordered d h vals (length r) (length s) lengths-right (λ z. omega (arith, stops, z)) ∙ stops) (λ z. omega arith)
+
+      module _ (a : Bool) (wide : a ≡ wrongAddress (modelIn d) (l .hidden) h) (narrow : a ≡ false) (n m : ℕ) (found : n ≡ firstBroken amd64 d vals) (all : m ≡ argumentsIn d) where
+        place-late : (b : Bool) → wrongBool amd64 d vals ≡ b → placeRefusal amd64 d h vals (length r) (length s) ≡ cond b 12 0
+        place-late b e = place-behind amd64 amd64-ordered d h vals (length r) (length s) lengths-right (address-is a wide ∙ narrow, tt) b e
+
         pub place-wrong-bool : (x : Refusal) → x ≡ refusalOf 12 → n < m → PlaceEnd (NotPlaced x) r s
         place-wrong-bool x e t =
             place-refused x 12 (e ∙ sym (no-type d 12 refl refl)) (place-late true (broken-holds amd64 d vals (omega (arith, found, all)))) (λ z. omega arith)

@@ -1,6 +1,8 @@
 pub mod Answers
 pub mod Frames
+pub mod Address
 pub mod Amd64
+pub mod Ilp32
 pub mod Theorems
 pub mod Blanks
 pub mod Turns

@@ -47,7 +47,7 @@ module _ (M : Mover) (O : Ordered M) (d : List ℕ) where
     pub fits-gather : Fits → gatherRefusal M d v r s ≡ 0
     fits-gather f = gather-behind (f .accepted) false (O .lengths d v r s (f .accepted) .1 (f .values, f .registers, f .stack))
 
-    gather-positive : Positive (gatherOrder M d v r s)
+    pub gather-positive : Positive (gatherOrder M d v r s)
     gather-positive = positive-append (M .order d) eleven (O .positive d) (omega arith, tt)
 
     gather-without : Without 12 (gatherOrder M d v r s)
@@ -70,6 +70,13 @@ module _ (M : Mover) (O : Ordered M) (d : List ℕ) where
         first-behind (gatherOrder M d (length vals) r s) (M .addressOrder d h ++ twelve) (gather-positive (length vals) r s) a
         ∙ first-behind (M .addressOrder d h) twelve (O .address-positive d h) (accepts-exactly (M .addressOrder d h) (O .address-positive d h) .1 n)
         ∙ rw e
+
+    -- an address that is refused
+    pub place-stopped : gatherRefusal M d (length vals) r s ≡ 0 → first (M .addressOrder d h) ≢ 0 → placeRefusal M d h vals r s ≡ first (M .addressOrder d h)
+    unfolding gatherRefusal placeRefusal
+    place-stopped a n =
+        first-behind (gatherOrder M d (length vals) r s) (M .addressOrder d h ++ twelve) (gather-positive (length vals) r s) a
+        ∙ first-before (M .addressOrder d h) twelve n
 
     pub place-accepted : placeRefusal M d h vals r s ≡ 0
         → (gatherRefusal M d (length vals) r s ≡ 0) × NoneHolds (M .addressOrder d h) × (wrongBool M d vals ≡ false)

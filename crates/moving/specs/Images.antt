@@ -1,9 +1,10 @@
 -- The two images of a call, as document 01 has them: "The register image is 176 bytes .. The stack image is the rounded area". Of any bytes. Assumes
 -- nothing: these are definitions.
 use mathlib.Core.Bool.{Bool, cond}
-use mathlib.Core.List.{List, []}
+use mathlib.Core.List.{List, [], _∷_}
 use Prim.Native.Nat.{ℕ}
-use Rattle.description.specs.Description.{argumentsIn}
+use Rattle.description.specs.Description.{argumentsIn, modelIn}
+use Rattle.form.specs.Order.{rule}
 use Rattle.types.specs.Wrong.{refusalFor}
 use Rattle.places.specs.Images.{addresses, total}
 use Rattle.places.specs.Places.{eights}
@@ -11,6 +12,7 @@ use Rattle.layout.specs.Arguments.{shapesFrom, shapes, hidden, usedFirst, usedA
 use Rattle.layout.specs.Verdict.{checkOrder}
 use Rattle.layout.specs.Layout.{layoutOf}
 use Rattle.images.specs.Words.{rdi}
+use Rattle.moving.specs.Address.{wrongAddress}
 use Rattle.moving.specs.Frames.{Frame}
 use Rattle.moving.specs.Movers.{Mover}
 use Rattle.moving.specs.Orders.{wrongLength}
@@ -30,14 +32,14 @@ framed used places stackLength = record { places = places; address = cond used r
 abbrev pub frameOf : List ℕ → Frame
 frameOf d = framed (hidden d) (addressesOf d) (areaOf d)
 
--- placing and gathering of document 01: no hidden address is refused, and the vector count is "the number of vector registers used"
+-- placing and gathering of document 01: 27 refuses a hidden address, and the vector count is "the number of vector registers used"
 abbrev pub amd64 : Mover
 amd64 = record {
   frame = frameOf;
   start = valueStart;
   order = checkOrder;
   wrongLength = λ d. wrongLength (layoutOf d);
-  addressOrder = λ d h. [];
+  addressOrder = λ d h. rule 27 (wrongAddress (modelIn d) (hidden d) h) ∷ [];
   count = λ d. usedAt d (argumentsIn d) .vector;
   told = refusalFor;
 }

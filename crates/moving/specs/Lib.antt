@@ -1,6 +1,8 @@
 pub mod Answers
 pub mod Statements
 pub mod Images
+pub mod Address
+pub mod Ilp32
 pub mod Frames
 pub mod Movers
 pub mod Asks

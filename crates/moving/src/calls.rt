@@ -35,6 +35,9 @@ pub fn place_values(
     ) {
         return PlaceAnswer::Refused(form::refusal_of(11));
     }
+    if refusals::wrong_address(d, layout.hidden, hidden) {
+        return PlaceAnswer::Refused(form::refusal_of(27));
+    }
     if refusals::first_broken(d, values, &table) < description::byte_at(d, 8) {
         return PlaceAnswer::Refused(form::refusal_of(12));
     }

@@ -2,9 +2,10 @@
 pub use calls::gather_values;
 pub use calls::place_values;
 pub use refusals::broken_byte;
+pub use refusals::wrong_address;
 
 mod filling; // the images filled, and the values gathered
-mod refusals; // 11 and 12
+mod refusals; // 11, 27 and 12
 mod calls; // the calls: place_values, gather_values
 
 use form::Refusal;

@@ -1,11 +1,14 @@
-// Refusals 11 and 12 of placing and gathering (document 01, "Refusal numbers"): the lengths of the lent buffers, and the bytes of _Bool arguments.
+// Refusals 11, 27 and 12 of placing and gathering (document 01, "Refusal numbers"; request 2026-11): the lengths of the lent buffers, the hidden address,
+// and the bytes of _Bool arguments.
+use description::Model;
 use layout::Layout;
 use units::Bytes;
 ghost use mathlib.Core.Path.{_≡_};
 ghost use Rattle.moving.specs.Orders.{wrongLength, isBool, brokenByte, firstBroken};
 ghost use Rattle.moving.specs.Images.{amd64};
-ghost use Prim.Native.Nat.{_<_};
-ghost use Rattle.description.specs.Description.{typesIn, Whole};
+ghost use Rattle.moving.specs.Address.{wrongAddress};
+ghost use Prim.Native.Nat.{_<_, _≤_};
+ghost use Rattle.description.specs.Description.{typesIn, modelIn, Whole};
 ghost use lib.ListN.{length};
 ghost use Rattle.classify.specs.Table.{Tabled};
 ghost use Rattle.layout.specs.Layout.{valuesOf};
@@ -25,6 +28,20 @@ pub fn wrong_length(layout: Layout, values: Bytes, registers: Bytes, stack: Byte
         return true;
     }
     !units::same(stack, layout.area)
+}
+
+// ---- 27
+
+// 27: whether the hidden address is used, and does not fit into the 4 bytes of a pointer.
+pub fn wrong_address(d: &[u8], used: bool, address: u64) -> bool
+    requires { ⌜ 11 ≤ length (now d) ⌝ }
+    ensures { λ r. ⌜ r ≡ wrongAddress (modelIn (now (d .entry))) used address ⌝ }
+{
+    let model = description::model_of(d);
+    match model {
+        Model::Lp64 => false,
+        Model::Ilp32 => used && 4294967296 <= address,
+    }
 }
 
 // ---- 12: the byte of one _Bool

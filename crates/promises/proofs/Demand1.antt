@@ -78,7 +78,7 @@ a2-layout = record {
 
 a2-returned : A2-Returned
 unfolding putRefusal takeRefusal
-a2-returned = record { put-returned = λ d v n. answered refl (putting-means d v n); take-returned = λ d i n. answered refl (taking-means d i n) }
+a2-returned = record { put-returned = λ d h v n. answered refl (putting-means d h v n); take-returned = λ d i n. answered refl (taking-means d i n) }
 
 a2-walk : A2-Walk
 unfolding kcb attachRefusal detachRefusal openRefusal stepRefusal showRefusal refusalUnder refusalBy refusalOf refusalAt
@@ -106,7 +106,7 @@ a3 = record {
       let e = ne-eqb (placeRefusal amd64 d h values (length r) (length s)) 0 (λ e. n (decided-number _ _ (placing-means d h values (length r) (length s)) ∙ e)) in
       (rw e refl, rw e refl);
   gather-values = λ d r s v n. rw (ne-eqb (gatherRefusal amd64 d (length v) (length r) (length s)) 0 (λ e. n (decided-number _ _ (gathering-means d r s (length v)) ∙ e))) refl;
-  put-returned = λ d h v i n. rw (ne-eqb (putRefusal d v (length i)) 0 (λ e. n (decided-number _ _ (putting-means d v (length i)) ∙ e))) refl;
+  put-returned = λ d h v i n. rw (ne-eqb (putRefusal d h v (length i)) 0 (λ e. n (decided-number _ _ (putting-means d h v (length i)) ∙ e))) refl;
   take-returned = λ d i v n. rw (ne-eqb (takeRefusal d i (length v)) 0 (λ e. n (decided-number _ _ (taking-means d i (length v)) ∙ e))) refl;
   attach = λ s seat d h. (sym (attach-left kcb s seat d h .0), sym (attach-left kcb s seat d h .1));
   detach = λ s seat h. (sym (detach-left s seat h .0), sym (detach-left s seat h .1));

@@ -2,13 +2,13 @@
 use mathlib.Core.Path.{_≡_, refl, ap}
 use mathlib.Core.Bool.{Bool, true, false}
 use mathlib.Core.List.{List, [], _∷_, map}
-use Prim.Native.Nat.{ℕ, _<_, _≤_}
+use Prim.Native.Nat.{ℕ, _/_, _%_, _<_, _≤_}
 use native.Mathlib.Omega.{arith}
-use borrow.Author.Tests.{lt-ltb, eq-eqb}
+use borrow.Author.Tests.{lt-ltb, eq-eqb, ne-eqb}
 use lib.ListN.{length, getD}
 use Rattle.description.specs.declared.Model.{Model}
-use Rattle.description.specs.declared.Model.the-variants.{Lp64}
-use Rattle.description.specs.Description.{argumentsIn, modelIn}
+use Rattle.description.specs.declared.Model.the-variants.{Lp64, Ilp32}
+use Rattle.description.specs.Description.{byteAt, argumentsIn, modelIn}
 use Rattle.addresses.specs.Addresses.{run}
 use Rattle.types.specs.Tree.{Ty, Tys, group}
 use Rattle.types.specs.Basic.{basicSize, basicAlign}
@@ -63,11 +63,13 @@ size-rounded m false ts = rounded-up (alignTys m ts) (endOf m ts false 0) (align
 extents-are : (m : Model) → map (λ code. (basicSize m code, basicAlign m code)) (run 0 16) ≡ extents m
 unfolding basicSize basicAlign
 extents-are Lp64 = refl
+extents-are Ilp32 = refl
 
 b1 : B1-Sizes
 unfolding modelIn alignTy sizeTy offsetAfter
 b1 = record {
-  model = λ d. refl;
+  lp64 = λ d e. rw (ne-eqb (byteAt d 6 / 2 % 2) 1 (λ z. omega arith));
+  ilp32 = λ d e. rw (eq-eqb (byteAt d 6 / 2 % 2) 1 e);
   table = extents-are;
   is-basic = λ d t a. at-basic d t (answered-sized d t a);
   is-array = λ d t a. at-array d t (answered-sized d t a);

@@ -274,14 +274,14 @@ refusal-told d n r e = ap (λ (x : Refusal). x .number) e ∙ number-for d n
 answered-by : (d : List ℕ) (n : ℕ) (r : Refusal) (rules : List Rule) → r ≡ refusalFor d n → Answered {X = Unit {0}} (outcome n tt) rules tt → Answered (ofRefusal r) rules tt
 answered-by d n r rules e a = subst (λ (k : ℕ). Answered {X = Unit {0}} (outcome k tt) rules tt) (sym (refusal-told d n r e)) a
 
-puts-flat : (d : List ℕ) (h : ℕ) (v i : List ℕ) → PutsFlat d h v i (putGiven (putAnswer d v (length i))) (imageAfter d h v i)
+puts-flat : (d : List ℕ) (h : ℕ) (v i : List ℕ) → PutsFlat d h v i (putGiven (putAnswer d h v (length i))) (imageAfter d h v i)
 puts-flat d h v i =
-    let n = putRefusal d v (length i) in
-    let t = put-told d v (length i) in
+    let n = putRefusal d h v (length i) in
+    let t = put-told d h v (length i) in
     record {
-      answered = answered-by d n _ (putOrder d v (length i)) t (subst (λ x. Answered x (putOrder d v (length i)) tt) (putting-means d v (length i)) (demand-1 .returned .put-returned d v (length i)));
-      names = subst (Names d) (sym t) (wrong-type .put-returned d v (length i));
-      refused = λ p. demand-1 .frame .put-returned d h v i (λ z. p (refusal-told d n _ t ∙ sym (decided-number _ _ (putting-means d v (length i))) ∙ z));
+      answered = answered-by d n _ (putOrder d h v (length i)) t (subst (λ x. Answered x (putOrder d h v (length i)) tt) (putting-means d h v (length i)) (demand-1 .returned .put-returned d h v (length i)));
+      names = subst (Names d) (sym t) (wrong-type .put-returned d h v (length i));
+      refused = λ p. demand-1 .frame .put-returned d h v i (λ z. p (refusal-told d n _ t ∙ sym (decided-number _ _ (putting-means d h v (length i))) ∙ z));
       put = λ z. bringing-back .puts-all d h v i (sym (refusal-told d n _ t) ∙ z) (imageAfter d h v i) .0 refl;
     }
 
@@ -524,14 +524,14 @@ never-the-same c e r w q v a b z y d h registers stack =
     (sym (told bytes (a .ensured) (λ f. f .1 .1 .0)) ∙ registers ∙ told bytes (b .ensured) (λ f. f .1 .1 .0))
     (sym (told bytes (a .ensured) (λ f. f .1 .1 .1)) ∙ stack ∙ told bytes (b .ensured) (λ f. f .1 .1 .1))
 
-taken-back : (d : List ℕ) (h : ℕ) (v i d′ i′ w : List ℕ) → h < 2 ^ 64 → putRefusal d v (length i) ≡ 0 → d′ ≡ d → i′ ≡ imageAfter d h v i → length w ≡ length v
+taken-back : (d : List ℕ) (h : ℕ) (v i d′ i′ w : List ℕ) → h < 2 ^ 64 → putRefusal d h v (length i) ≡ 0 → d′ ≡ d → i′ ≡ imageAfter d h v i → length w ≡ length v
     → (takeAnswer d′ i′ (length w) ≡ TakenOut (cond (inMemory (returnPlace d)) h 0)) × (valueAfter d′ i′ w ≡ trimmed (returnPlace d) v)
 taken-back d h v i d′ i′ w small p e f l = rw (e, f) (bringing-back .takes-put d h v i w small p l)
 
 pub takes-back : TakesBack
 takes-back c r w a z small e q v b k =
     let d = now (c .passed .0) in
-    let right = sym (refusal-told d _ _ (put-told d (now (c .passed .1 .1 .0)) (length (now (c .passed .1 .1 .1 .0))))) ∙ sym (ap (λ (x : Refusal). x .number) (told (result cb_put_returned.ended c) (a .ensured) (λ f. f .0))) ∙ z in
+    let right = sym (refusal-told d _ _ (put-told d (c .passed .1 .0) (now (c .passed .1 .1 .0)) (length (now (c .passed .1 .1 .1 .0))))) ∙ sym (ap (λ (x : Refusal). x .number) (told (result cb_put_returned.ended c) (a .ensured) (λ f. f .0))) ∙ z in
     let t = taken-back d (c .passed .1 .0) (now (c .passed .1 .1 .0)) (now (c .passed .1 .1 .1 .0)) (now (e .passed .0)) (now (e .passed .1 .0)) (now (e .passed .1 .1 .0)) small right
     (k .description) (k .image ∙ told bytes (a .ensured) (λ f. f .1)) (k .value) in (
       ap (λ (x : Refusal). x .number) (told (result cb_take_returned.ended e) (b .ensured) (λ f. f .0) ∙ ap (λ x. refusalIn (takenGiven x)) (t .0)) ∙ number-of 0,

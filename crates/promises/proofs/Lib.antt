@@ -9,6 +9,7 @@ pub mod Placements
 pub mod MemberOffsets
 pub mod Demand2
 pub mod BringingBack
+pub mod Ilp32
 pub mod PlacedFor
 pub mod ValueBytes
 pub mod Demand3

@@ -104,9 +104,9 @@ unfolding gatherAnswer refusalFor refusalBy refusalAt
 gathering-means d r s values =
     decided ofGathering (Gathered (ownAddress (frameOf d) (r ++ s))) (λ n. NotGathered (refusalFor d n)) (ownAddress (frameOf d) (r ++ s)) refl (λ n. refl) (gatherRefusal amd64 d values (length r) (length s))
 
-pub putting-means : (d v : List ℕ) (n : ℕ) → ofPutting (putAnswer d v n) ≡ outcome (putRefusal d v n) tt
+pub putting-means : (d : List ℕ) (h : ℕ) (v : List ℕ) (n : ℕ) → ofPutting (putAnswer d h v n) ≡ outcome (putRefusal d h v n) tt
 unfolding putAnswer refusalFor refusalBy refusalAt
-putting-means d v n = decided ofPutting Put (λ m. NotPut (refusalFor d m)) tt refl (λ m. refl) (putRefusal d v n)
+putting-means d h v n = decided ofPutting Put (λ m. NotPut (refusalFor d m)) tt refl (λ m. refl) (putRefusal d h v n)
 
 pub taking-means : (d i : List ℕ) (n : ℕ) → ofTaking (takeAnswer d i n) ≡ outcome (takeRefusal d i n) (returnedAddress (returnPlace d) i)
 unfolding takeAnswer refusalFor refusalBy refusalAt

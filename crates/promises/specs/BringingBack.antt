@@ -23,7 +23,7 @@ pub record BringingBack : Type 0 where
   -- "Putting then taking gives the same value, those six bytes apart", and the very same of every other class
   pub takes-put : TakesPut
   pub same-elsewhere : SameElsewhere
-  -- taking then putting gives the same image exactly when its unused bytes are zero and a _Bool's byte is 0 or 1
+  -- taking then putting gives the same image exactly when its unused bytes are zero, a _Bool's byte is 0 or 1 and, in ILP32, its address is below 2^32
   pub puts-taken : PutsTaken
   pub unused-unseen : UnusedUnseen
   -- different values never give the same image, those six bytes apart

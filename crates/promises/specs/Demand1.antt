@@ -85,13 +85,13 @@ pub record A2-Layout : Type 0 where
   pub layout-of : (d : List ℕ) → Answered (ofLayout (layoutAnswer d)) (checkOrder d) (layoutOf d)
   pub lay-out : (d : List ℕ) (room : ℕ) → Answered (ofLayout (listAnswer d room)) (layoutOrder d room) (layoutOf d)
   pub place-values : (d : List ℕ) (h : ℕ) (values : List ℕ) (registersLength stackLength : ℕ)
-      → Answered (ofPlacing (placeAnswer amd64 d h values registersLength stackLength)) (placeOrder d values registersLength stackLength) (usedAt d (argumentsIn d) .vector .0)
+      → Answered (ofPlacing (placeAnswer amd64 d h values registersLength stackLength)) (placeOrder d h values registersLength stackLength) (usedAt d (argumentsIn d) .vector .0)
   pub gather-values : (d r s : List ℕ) (valuesLength : ℕ)
       → Answered (ofGathering (gatherAnswer amd64 d r s valuesLength)) (gatherOrder d valuesLength (length r) (length s)) (ownAddress (frameOf d) (r ++ s))
 
 -- returned values (request 2026-02). The hidden address is that of rax
 pub record A2-Returned : Type 0 where
-  pub put-returned : (d value : List ℕ) (imageLength : ℕ) → Answered (ofPutting (putAnswer d value imageLength)) (putOrder d value imageLength) tt
+  pub put-returned : (d : List ℕ) (h : ℕ) (value : List ℕ) (imageLength : ℕ) → Answered (ofPutting (putAnswer d h value imageLength)) (putOrder d h value imageLength) tt
   pub take-returned : (d image : List ℕ) (valueLength : ℕ)
       → Answered (ofTaking (takeAnswer d image valueLength)) (takeOrder d image valueLength) (returnedAddress (returnPlace d) image)
 
@@ -115,7 +115,7 @@ pub record A3-Frame : Type 0 where
   pub place-values : (d : List ℕ) (h : ℕ) (values r s : List ℕ) → numberOf (ofPlacing (placeAnswer amd64 d h values (length r) (length s))) ≢ 0
       → (registersAfter amd64 d h values r s ≡ r) × (stackAfter amd64 d h values r s ≡ s)
   pub gather-values : (d r s v : List ℕ) → numberOf (ofGathering (gatherAnswer amd64 d r s (length v))) ≢ 0 → valuesAfter amd64 d r s v ≡ v
-  pub put-returned : (d : List ℕ) (h : ℕ) (value image : List ℕ) → numberOf (ofPutting (putAnswer d value (length image))) ≢ 0 → imageAfter d h value image ≡ image
+  pub put-returned : (d : List ℕ) (h : ℕ) (value image : List ℕ) → numberOf (ofPutting (putAnswer d h value (length image))) ≢ 0 → imageAfter d h value image ≡ image
   pub take-returned : (d image value : List ℕ) → numberOf (ofTaking (takeAnswer d image (length value))) ≢ 0 → valueAfter d image value ≡ value
   pub attach : (s : Station) (seat d : List ℕ) → attachRefusal kcb s seat d ≢ 0 → (attachStation kcb s seat d ≡ s) × (attachSeat kcb s seat d ≡ seat)
   pub detach : (s : Station) (seat : List ℕ) → detachRefusal s seat ≢ 0 → (detachStation s seat ≡ s) × (detachSeat s seat ≡ seat)

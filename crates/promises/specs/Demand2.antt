@@ -12,8 +12,8 @@ use lib.Dec.{eqb}
 use lib.ListN.{length, getD, set}
 use Rattle.addresses.specs.Addresses.{run}
 use Rattle.description.specs.declared.Model.{Model}
-use Rattle.description.specs.declared.Model.the-variants.{Lp64}
-use Rattle.description.specs.Description.{argumentsIn, returnIn, kindAt, aAt, countAt, memberAt, argumentAt, modelIn}
+use Rattle.description.specs.declared.Model.the-variants.{Lp64, Ilp32}
+use Rattle.description.specs.Description.{byteAt, argumentsIn, returnIn, kindAt, aAt, countAt, memberAt, argumentAt, modelIn}
 use Rattle.types.specs.Tree.{Ty, basic, array, Tys, none, more, group}
 use Rattle.types.specs.Basic.{basicSize, basicAlign}
 use Rattle.types.specs.Size.{alignTy, alignTys, sizeTy, offsetAfter, endAfter, endOf, widest}
@@ -59,14 +59,19 @@ use Rattle.walk.specs.Steps.{movedOn, bytesAt, stepWalk, stepOut}
 
 -- ---- B1: sizes and alignments, which `type_size`, `type_align` and every record give
 
--- the table, code by code: size and alignment
+-- the table, code by code: size and alignment, in document 01's model and in that of request 2026-11, "Pointers (code 15) become 4 bytes, alignment 4"
 abbrev pub extents : Model → List (ℕ × ℕ)
 extents Lp64 =
     (1, 1) ∷ (1, 1) ∷ (2, 2) ∷ (4, 4) ∷ (8, 8) ∷ (16, 16) ∷ (4, 4) ∷ (8, 8) ∷ (16, 16) ∷ (16, 16) ∷ (8, 8) ∷ (16, 16) ∷ (8, 4) ∷ (16, 8) ∷ (32, 16) ∷ (8, 8)
     ∷ []
+extents Ilp32 =
+    (1, 1) ∷ (1, 1) ∷ (2, 2) ∷ (4, 4) ∷ (8, 8) ∷ (16, 16) ∷ (4, 4) ∷ (8, 8) ∷ (16, 16) ∷ (16, 16) ∷ (8, 8) ∷ (16, 16) ∷ (8, 4) ∷ (16, 8) ∷ (32, 16) ∷ (4, 4)
+    ∷ []
 
 pub record B1-Sizes : Type 0 where
-  pub model : (d : List ℕ) → modelIn d ≡ Lp64
+  -- request 2026-11: "Bit 1 of byte 6 selects" ILP32. What follows is of any model, and what is said of a description d is of its own
+  pub lp64 : (d : List ℕ) → byteAt d 6 / 2 % 2 ≡ 0 → modelIn d ≡ Lp64
+  pub ilp32 : (d : List ℕ) → byteAt d 6 / 2 % 2 ≡ 1 → modelIn d ≡ Ilp32
   pub table : (m : Model) → map (λ code. (basicSize m code, basicAlign m code)) (run 0 16) ≡ extents m
   -- what a type number means, by its record's kind
   pub is-basic : (d : List ℕ) (t : ℕ) → questionRefusal d t ≡ 0 → kindAt d t ≡ 0 → tyAt d t ≡ basic (aAt d t)
@@ -301,11 +306,11 @@ pub record B8-B12-Moving : Type 0 where
   -- B9: "Values placed and gathered back are the same bytes"
   pub gathers-placed : GathersPlaced amd64
   -- B10: "Images gathered and placed again, with their own hidden address, are the same images exactly when their unused bytes are zero and each
-  -- _Bool argument's byte is 0 or 1"
+  -- _Bool argument's byte is 0 or 1", and, request 2026-11, "images placed again under demand 2 need one below" 2^32 in ILP32
   pub places-gathered : PlacesGathered amd64
   -- B11: "looks at no unused byte"
   pub unused-unseen : UnusedUnseen amd64
-  -- B12: "A _Bool argument's byte must be 0 or 1; one inside an aggregate may be anything"
+  -- B12, where 27 does not refuse the address: "A _Bool argument's byte must be 0 or 1; one inside an aggregate may be anything"
   pub twelve-exactly : TwelveExactly amd64
 
 -- ---- B13: each walk step is that of 3.5.7, and fetches where the layout places

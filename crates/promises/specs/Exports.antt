@@ -142,7 +142,7 @@ pub record Lists (d out : List ℕ) (n : ℕ) (after : List ℕ) : Type 0 where
 
 -- cb_place_values, cb_gather_values
 pub record PlacesFlat (d : List ℕ) (h : ℕ) (values registers stack : List ℕ) (old : Placed) (r : Refusal) (new : Placed) (q s : List ℕ) : Type 0 where
-  pub count : Fills (λ (p : Placed). p .vector .0) d (placeOrder d values (length registers) (length stack)) (usedAt d (argumentsIn d) .vector .0) old r new
+  pub count : Fills (λ (p : Placed). p .vector .0) d (placeOrder d h values (length registers) (length stack)) (usedAt d (argumentsIn d) .vector .0) old r new
   pub refused : r .number ≢ 0 → (q ≡ registers) × (s ≡ stack)
   pub placed : r .number ≡ 0 → IsImage (frameOf d) h values (q ++ s)
 
@@ -153,7 +153,7 @@ pub record GathersFlat (d registers stack values : List ℕ) (old : Gathered) (r
 
 -- cb_put_returned, cb_take_returned
 pub record PutsFlat (d : List ℕ) (h : ℕ) (value image : List ℕ) (r : Refusal) (after : List ℕ) : Type 0 where
-  pub answered : Answered (ofRefusal r) (putOrder d value (length image)) tt
+  pub answered : Answered (ofRefusal r) (putOrder d h value (length image)) tt
   pub names : Names d r
   pub refused : r .number ≢ 0 → after ≡ image
   pub put : r .number ≡ 0 → IsReturnImage (returnPlace d) h value after

@@ -4,6 +4,7 @@ pub mod Demand1
 pub mod WrongType
 pub mod Demand2
 pub mod BringingBack
+pub mod Ilp32
 pub mod Demand3
 pub mod Calls
 pub mod Exports

@@ -12,9 +12,11 @@ use Rattle.types.specs.Large.{tooLarge}
 use Rattle.questions.specs.Questions.{notBelow}
 use Rattle.questions.specs.Offsets.{shortOffsets}
 use Rattle.uses.specs.Uses.{wrongUse, narrowUnnamed}
+use Rattle.layout.specs.Arguments.{hidden}
 use Rattle.layout.specs.Verdict.{wideArea}
 use Rattle.layout.specs.Layout.{layoutOf}
 use Rattle.layout.specs.Lists.{shortList}
+use Rattle.moving.specs.Address.{wrongAddress}
 use Rattle.moving.specs.Images.{amd64}
 use Rattle.moving.specs.Orders.{wrongBool, wrongLength as wrongLengths}
 use Rattle.returning.specs.Returned.{returnLength}
@@ -52,20 +54,24 @@ offsetsOrder d t room = questionOrder d t ++ rule 11 (shortOffsets d t room) ∷
 abbrev pub layoutOrder : List ℕ → ℕ → List Rule
 layoutOrder d room = checkOrder d ++ rule 11 (shortList d room) ∷ []
 
--- "Placing and gathering: 1..10, 11, then 12 (placing only)", by the lengths of values and images
+-- "Placing and gathering: 1..10, 11, then 12 (placing only)", by the lengths of values and images; request 2026-11: "27, after 11 in placing and putting",
+-- and so before 12
 abbrev pub gatherOrder : List ℕ → ℕ → ℕ → ℕ → List Rule
 gatherOrder d valuesLength registersLength stackLength = checkOrder d ++ rule 11 (wrongLengths (layoutOf d) valuesLength registersLength stackLength) ∷ []
 
-abbrev pub placeOrder : List ℕ → List ℕ → ℕ → ℕ → List Rule
-placeOrder d values registersLength stackLength =
-    checkOrder d ++ rule 11 (wrongLengths (layoutOf d) (length values) registersLength stackLength) ∷ rule 12 (wrongBool amd64 d values) ∷ []
+abbrev pub placeOrder : List ℕ → ℕ → List ℕ → ℕ → ℕ → List Rule
+placeOrder d h values registersLength stackLength =
+    checkOrder d ++ rule 11 (wrongLengths (layoutOf d) (length values) registersLength stackLength)
+    ∷ rule 27 (wrongAddress (modelIn d) (hidden d) h) ∷ rule 12 (wrongBool amd64 d values) ∷ []
 
 -- request 2026-02: "after 1..10, 11 for lengths .., then 12 for a returned _Bool byte not 0 or 1, in putting only"
 abbrev pub takeOrder : List ℕ → List ℕ → ℕ → List Rule
 takeOrder d image valueLength = checkOrder d ++ rule 11 (wrongReturnLengths (returnLength d) valueLength (length image)) ∷ []
 
-abbrev pub putOrder : List ℕ → List ℕ → ℕ → List Rule
-putOrder d value imageLength = checkOrder d ++ rule 11 (wrongReturnLengths (returnLength d) (length value) imageLength) ∷ rule 12 (wrongReturnedBool d value) ∷ []
+abbrev pub putOrder : List ℕ → ℕ → List ℕ → ℕ → List Rule
+putOrder d h value imageLength =
+    checkOrder d ++ rule 11 (wrongReturnLengths (returnLength d) (length value) imageLength)
+    ∷ rule 27 (wrongAddress (modelIn d) (hidden d) h) ∷ rule 12 (wrongReturnedBool d value) ∷ []
 
 -- "Attach: 11, 14, 15, 1..10"
 abbrev pub attachOrder : Station → List ℕ → List ℕ → List Rule

@@ -57,7 +57,7 @@ pub record WrongType : Type 0 where
   pub lay-out : (d : List ℕ) (room : ℕ) → Names d (refusalFor d (listRefusal d room))
   pub place-values : (d : List ℕ) (h : ℕ) (values : List ℕ) (registersLength stackLength : ℕ) → Names d (refusalFor d (placeRefusal amd64 d h values registersLength stackLength))
   pub gather-values : (d : List ℕ) (valuesLength registersLength stackLength : ℕ) → Names d (refusalFor d (gatherRefusal amd64 d valuesLength registersLength stackLength))
-  pub put-returned : (d value : List ℕ) (imageLength : ℕ) → Names d (refusalFor d (putRefusal d value imageLength))
+  pub put-returned : (d : List ℕ) (h : ℕ) (value : List ℕ) (imageLength : ℕ) → Names d (refusalFor d (putRefusal d h value imageLength))
   pub take-returned : (d image : List ℕ) (valueLength : ℕ) → Names d (refusalFor d (takeRefusal d image valueLength))
   pub attach : (s : Station) (seat d : List ℕ) → Names d (refusalUnder kcb d (attachRefusal kcb s seat d))
   pub detach : (s : Station) (seat d : List ℕ) → Names d (refusalOf (detachRefusal s seat))

@@ -6,7 +6,7 @@ use Prim.Native.Nat.{ℕ, _<_}
 use native.Mathlib.Omega.{arith}
 use borrow.Author.Tests.{eq-eqb, ne-eqb}
 use lib.ListN.{length, getD}
-use Rattle.description.specs.Description.{typesIn, returnIn}
+use Rattle.description.specs.Description.{typesIn, returnIn, modelIn}
 use Rattle.form.specs.declared.Refusal.{Refusal}
 use Rattle.form.specs.Reading.{refusalOf}
 use Rattle.types.specs.Wrong.{refusalFor}
@@ -14,10 +14,11 @@ use Rattle.types.proofs.Wrong.{no-type}
 use Rattle.places.specs.declared.ReturnPlace.{ReturnPlace}
 use Rattle.layout.specs.declared.Layout.{Layout}
 use Rattle.layout.specs.declared.LayoutAnswer.the-variants.{Laid, Refused}
-use Rattle.layout.specs.Arguments.{isVoid, returnPlace}
+use Rattle.layout.specs.Arguments.{isVoid, returnPlace, hidden}
 use Rattle.layout.specs.Layout.{layoutOf, layoutAnswer}
 use Rattle.layout.specs.Verdict.{verdict}
 use Rattle.layout.proofs.Layouts.{laid-accepted, refused-verdict, refused-nonzero}
+use Rattle.moving.specs.Address.{wrongAddress}
 use Rattle.moving.specs.Orders.{brokenByte}
 use Rattle.returning.specs.Image.{lengthFor, returnImage, returnValue, returnedAddress}
 use Rattle.returning.specs.ImageAsks.{Returnable}
@@ -30,7 +31,7 @@ use Rattle.returning.specs.declared.PutAnswer.the-variants.{Put, Refused
 use Rattle.returning.specs.declared.TakeAnswer.{TakeAnswer}
 use Rattle.returning.specs.declared.TakeAnswer.the-variants.{Taken, Refused as NotTaken}
 use Rattle.returning.proofs.Values.{returned-known, void-short, accepted-returnable}
-use Rattle.returning.proofs.Orders.{right-lent, put-verdict, put-eleven, put-twelve, put-none, take-verdict, take-eleven, take-accepted}
+use Rattle.returning.proofs.Orders.{right-lent, put-verdict, put-eleven, put-twenty-seven, put-twelve, put-none, take-verdict, take-eleven, take-accepted}
 
 -- ---- 12: a value that has a byte is no void
 
@@ -59,6 +60,10 @@ module _ (d : List ℕ) (l : Layout) (laid : layoutAnswer d ≡ Laid l) where
   unfolding layoutOf
   laid-place = ap (λ (x : Layout). x .returns) (laid-accepted d l laid .1)
 
+  pub laid-hidden : l .hidden ≡ hidden d
+  unfolding layoutOf
+  laid-hidden = ap (λ (x : Layout). x .hidden) (laid-accepted d l laid .1)
+
   laid-length : (n : ℕ) → n ≡ lengthFor (l .returns) (l .returned .0) → n ≡ returnLength d
   unfolding returnLength layoutOf
   laid-length n f = f ∙ ap₂ lengthFor laid-place (ap (λ (x : Layout). x .returned .0) (laid-accepted d l laid .1))
@@ -78,32 +83,40 @@ module _ (d : List ℕ) (l : Layout) (laid : layoutAnswer d ≡ Laid l) where
 
 module _ (d : List ℕ) (h : ℕ) (v i : List ℕ) where
   abbrev pub PutEnd : PutAnswer → List ℕ → Type 0
-  PutEnd x img = (x ≡ putAnswer d v (length i)) × (img ≡ imageAfter d h v i)
+  PutEnd x img = (x ≡ putAnswer d h v (length i)) × (img ≡ imageAfter d h v i)
 
-  put-refused : (x : Refusal) (n : ℕ) → x ≡ refusalFor d n → putRefusal d v (length i) ≡ n → (n ≡ 0 → ⊥) → PutEnd (NotPut x) i
+  put-refused : (x : Refusal) (n : ℕ) → x ≡ refusalFor d n → putRefusal d h v (length i) ≡ n → (n ≡ 0 → ⊥) → PutEnd (NotPut x) i
   unfolding putAnswer imageAfter
   put-refused x n e f z =
-      let q = ne-eqb (putRefusal d v (length i)) 0 (λ p. z (sym f ∙ p)) in
+      let q = ne-eqb (putRefusal d h v (length i)) 0 (λ p. z (sym f ∙ p)) in
       (rw q (ap NotPut (e ∙ ap (refusalFor d) (sym f))), rw q)
 
   -- 1 to 10
   pub put-laid-not : (x y : Refusal) → layoutAnswer d ≡ Refused y → x ≡ y → PutEnd (NotPut x) i
   put-laid-not x y a e =
       let nonzero = refused-nonzero d y a in
-      put-refused x (verdict d) (e ∙ refused-verdict d y a) (put-verdict d v (length i) nonzero) nonzero
+      put-refused x (verdict d) (e ∙ refused-verdict d y a) (put-verdict d h v (length i) nonzero) nonzero
 
   pub put-wrong-length : (x : Refusal) → x ≡ refusalOf 11 → verdict d ≡ 0 → wrongLength (returnLength d) (length v) (length i) ≡ true → PutEnd (NotPut x) i
-  put-wrong-length x e a w = put-refused x 11 (e ∙ sym (no-type d 11 refl refl)) (put-eleven d v (length i) a w) (λ z. omega arith)
+  put-wrong-length x e a w = put-refused x 11 (e ∙ sym (no-type d 11 refl refl)) (put-eleven d h v (length i) a w) (λ z. omega arith)
 
-  module _ (lent : Lent d (length v) (length i)) (b : Bool) (w : b ≡ wrongBool d v) where
-    pub put-wrong-bool : (x : Refusal) → x ≡ refusalOf 12 → b ≡ true → PutEnd (NotPut x) i
-    put-wrong-bool x e t = put-refused x 12 (e ∙ sym (no-type d 12 refl refl)) (put-twelve d v (length i) lent (sym w ∙ t)) (λ z. omega arith)
+  module _ (lent : Lent d (length v) (length i)) (used a : Bool) (hides : used ≡ hidden d) (wide : a ≡ wrongAddress (modelIn d) used h) where
+    address-is : wrongAddress (modelIn d) (hidden d) h ≡ a
+    address-is = ap (λ (b : Bool). wrongAddress (modelIn d) b h) (sym hides) ∙ sym wide
 
-    pub put-done : (place : ReturnPlace) (img : List ℕ) → b ≡ false → place ≡ returnPlace d → img ≡ returnImage place h v → PutEnd Put img
-    unfolding putAnswer imageAfter
-    put-done place img t p e =
-        let q = eq-eqb (putRefusal d v (length i)) 0 (put-none d v (length i) lent (sym w ∙ t)) in
-        (rw q, rw q (e ∙ ap (λ (x : ReturnPlace). returnImage x h v) p))
+    pub put-wrong-address : (x : Refusal) → x ≡ refusalOf 27 → a ≡ true → PutEnd (NotPut x) i
+    put-wrong-address x e t = put-refused x 27 (e ∙ sym (no-type d 27 refl refl)) (put-twenty-seven d h v (length i) lent (address-is ∙ t)) (λ z. omega arith)
+
+    module _ (b : Bool) (w : b ≡ wrongBool d v) (narrow : a ≡ false) where
+      pub put-wrong-bool : (x : Refusal) → x ≡ refusalOf 12 → b ≡ true → PutEnd (NotPut x) i
+      put-wrong-bool x e t =
+          put-refused x 12 (e ∙ sym (no-type d 12 refl refl)) (put-twelve d h v (length i) lent (address-is ∙ narrow) (sym w ∙ t)) (λ z. omega arith)
+
+      pub put-done : (place : ReturnPlace) (img : List ℕ) → b ≡ false → place ≡ returnPlace d → img ≡ returnImage place h v → PutEnd Put img
+      unfolding putAnswer imageAfter
+      put-done place img t p e =
+          let q = eq-eqb (putRefusal d h v (length i)) 0 (put-none d h v (length i) lent (address-is ∙ narrow) (sym w ∙ t)) in
+          (rw q, rw q (e ∙ ap (λ (x : ReturnPlace). returnImage x h v) p))
 
 -- ---- taking
 

@@ -8,12 +8,13 @@ use native.Mathlib.Omega.{arith}
 use borrow.Author.Tests.{eq-eqb, ne-eqb, eqb-true, lt-ltb, ltb-true, not-true, not-false}
 use lib.Dec.{eqb, ltb}
 use lib.ListN.{length, getD}
-use Rattle.description.specs.Description.{returnIn, kindAt, aAt}
-use Rattle.form.specs.Order.{rule, Answers}
+use Rattle.description.specs.Description.{returnIn, modelIn, kindAt, aAt}
+use Rattle.form.specs.Order.{Rule, rule, Answers}
 use Rattle.form.proofs.Order.{refuses-exactly, accepts-exactly, first-before, first-behind, first-both, none-till, never, without-append, held}
 use Rattle.form.proofs.Form.{or-none}
-use Rattle.layout.specs.Arguments.{isVoid}
+use Rattle.layout.specs.Arguments.{isVoid, hidden}
 use Rattle.layout.specs.Verdict.{checkOrder, verdict}
+use Rattle.moving.specs.Address.{wrongAddress}
 use Rattle.moving.specs.Orders.{isBool, brokenByte}
 use Rattle.moving.proofs.Amd64.{check-without}
 use Rattle.returning.specs.Returned.{returnLength}
@@ -71,47 +72,64 @@ module _ (d : List ℕ) where
 
   -- ---- putting
 
-  module _ (v : List ℕ) (i : ℕ) where
-    pub put-verdict : (verdict d ≡ 0 → ⊥) → putRefusal d v i ≡ verdict d
+  module _ (h : ℕ) (v : List ℕ) (i : ℕ) where
+    pub put-verdict : (verdict d ≡ 0 → ⊥) → putRefusal d h v i ≡ verdict d
     unfolding putRefusal verdict
-    put-verdict h = first-before (checkOrder d) (furtherPutting d v i) h
+    put-verdict n = first-before (checkOrder d) (furtherPutting d h v i) n
 
-    put-behind : verdict d ≡ 0 → (a b : Bool) → wrongLength (returnLength d) (length v) i ≡ a → wrongBool d v ≡ b → putRefusal d v i ≡ cond a 11 (cond b 12 0)
+    abbrev late : List Rule
+    late = furtherPutting d h v i
+
+    put-behind : verdict d ≡ 0 → (a b c : Bool) → wrongLength (returnLength d) (length v) i ≡ a → wrongAddress (modelIn d) (hidden d) h ≡ b → wrongBool d v ≡ c
+        → putRefusal d h v i ≡ cond a 11 (cond b 27 (cond c 12 0))
     unfolding putRefusal verdict
-    put-behind ok a b e f =
-        first-behind (checkOrder d) (furtherPutting d v i) (check-positive d) ok ∙ rw (e, f)
+    put-behind ok a b c e f g = first-behind (checkOrder d) late (check-positive d) ok ∙ rw (e, f, g)
 
-    pub put-eleven : verdict d ≡ 0 → wrongLength (returnLength d) (length v) i ≡ true → putRefusal d v i ≡ 11
-    put-eleven ok e = put-behind ok true _ e refl
+    pub put-eleven : verdict d ≡ 0 → wrongLength (returnLength d) (length v) i ≡ true → putRefusal d h v i ≡ 11
+    put-eleven ok e = put-behind ok true _ _ e refl refl
 
-    pub put-twelve : Lent d (length v) i → wrongBool d v ≡ true → putRefusal d v i ≡ 12
-    put-twelve h e = put-behind (h .accepted) false true (lent-right (length v) i h) e
+    pub put-twenty-seven : Lent d (length v) i → wrongAddress (modelIn d) (hidden d) h ≡ true → putRefusal d h v i ≡ 27
+    put-twenty-seven l e = put-behind (l .accepted) false true _ (lent-right (length v) i l) e refl
 
-    pub put-none : Lent d (length v) i → wrongBool d v ≡ false → putRefusal d v i ≡ 0
-    put-none h e = put-behind (h .accepted) false false (lent-right (length v) i h) e
+    pub put-twelve : Lent d (length v) i → wrongAddress (modelIn d) (hidden d) h ≡ false → wrongBool d v ≡ true → putRefusal d h v i ≡ 12
+    put-twelve l a e = put-behind (l .accepted) false false true (lent-right (length v) i l) a e
 
-    put-lent : putRefusal d v i ≡ 0 → Lent d (length v) i × (wrongBool d v ≡ false)
+    pub put-none : Lent d (length v) i → wrongAddress (modelIn d) (hidden d) h ≡ false → wrongBool d v ≡ false → putRefusal d h v i ≡ 0
+    put-none l a e = put-behind (l .accepted) false false false (lent-right (length v) i l) a e
+
+    -- what is sure of a call that is accepted
+    pub put-accepted : putRefusal d h v i ≡ 0 → Lent d (length v) i × (wrongAddress (modelIn d) (hidden d) h ≡ false) × (wrongBool d v ≡ false)
     unfolding putRefusal verdict
-    put-lent h =
-        let both = first-both (checkOrder d) (furtherPutting d v i) (check-positive d) h in
-        let none = accepts-exactly (furtherPutting d v i) (omega arith, (omega arith, tt)) .0 (both .1) in
-        (right-lent (length v) i (both .0) (none .0), none .1 .0)
+    put-accepted e =
+        let both = first-both (checkOrder d) late (check-positive d) e in
+        let none = accepts-exactly late (omega arith, (omega arith, (omega arith, tt))) .0 (both .1) in
+        (right-lent (length v) i (both .0) (none .0), none .1 .0, none .1 .1 .0)
 
-    -- putting is accepted exactly when the description is, the lengths are right, and no _Bool is broken
-    pub put-accepted : (putRefusal d v i ≡ 0) ↔ (Lent d (length v) i × (wrongBool d v ≡ false))
-    put-accepted = (put-lent, λ h. put-none (h .0) (h .1))
-
-    pub put-exactly : (n : ℕ) → n ≢ 0 → (putRefusal d v i ≡ n) ↔ Answers (putOrder d v i) n
+    pub put-exactly : (n : ℕ) → n ≢ 0 → (putRefusal d h v i ≡ n) ↔ Answers (putOrder d h v i) n
     unfolding putRefusal
-    put-exactly n h = refuses-exactly (putOrder d v i) n h
+    put-exactly n z = refuses-exactly (putOrder d h v i) n z
 
-    pub twelve-lent : putRefusal d v i ≡ 12 → Lent d (length v) i × (wrongBool d v ≡ true)
+    abbrev lengths : Rule
+    lengths = rule 11 (wrongLength (returnLength d) (length v) i)
+
+    abbrev address : Rule
+    address = rule 27 (wrongAddress (modelIn d) (hidden d) h)
+
+    pub twelve-lent : putRefusal d h v i ≡ 12 → Lent d (length v) i × (wrongBool d v ≡ true)
     unfolding putRefusal verdict
-    twelve-lent h =
-        let ok : verdict d ≡ 0 = none-till (checkOrder d) (furtherPutting d v i) 12 (check-without d 12 (omega arith)) h in
-        let late = held (rule 11 (wrongLength (returnLength d) (length v) i) ∷ []) 12 (wrongBool d v) [] (omega arith, tt) (λ z. omega arith) ((λ z. omega arith), tt) tt
-        (sym (first-behind (checkOrder d) (furtherPutting d v i) (check-positive d) ok) ∙ h) in
-        (right-lent (length v) i ok (late .0 .0), late .1)
+    twelve-lent e =
+        let ok : verdict d ≡ 0 = none-till (checkOrder d) late 12 (check-without d 12 (omega arith)) e in
+        let k = held (lengths ∷ address ∷ []) 12 (wrongBool d v) [] (omega arith, (omega arith, tt)) (λ z. omega arith) ((λ z. omega arith), ((λ z. omega arith), tt)) tt
+        (sym (first-behind (checkOrder d) late (check-positive d) ok) ∙ e) in
+        (right-lent (length v) i ok (k .0 .0), k .1)
+
+    pub address-lent : putRefusal d h v i ≡ 27 → Lent d (length v) i × (wrongAddress (modelIn d) (hidden d) h ≡ true)
+    unfolding putRefusal verdict
+    address-lent e =
+        let ok : verdict d ≡ 0 = none-till (checkOrder d) late 27 (check-without d 27 (omega arith)) e in
+        let k = held (lengths ∷ []) 27 (wrongAddress (modelIn d) (hidden d) h) (rule 12 (wrongBool d v) ∷ []) (omega arith, tt) (λ z. omega arith) ((λ z. omega arith), tt) ((λ z. omega arith), tt)
+        (sym (first-behind (checkOrder d) late (check-positive d) ok) ∙ e) in
+        (right-lent (length v) i ok (k .0 .0), k .1)
 
   -- ---- a returned _Bool
 

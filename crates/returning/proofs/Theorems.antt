@@ -9,13 +9,18 @@ use borrow.Author.Tests.{eq-eqb, ne-eqb, eqb-true}
 use lib.Dec.{eqb}
 use lib.ListN.{length, getD}
 use Rattle.addresses.specs.Addresses.{gather, scatter}
-use Rattle.description.specs.Description.{IsBytes}
+use Rattle.description.specs.Description.{modelIn, IsBytes}
 use Rattle.form.specs.Reading.{refusalAt, refusalBy}
 use Rattle.types.specs.Wrong.{refusalFor}
 use Rattle.places.specs.declared.ReturnPlace.{ReturnPlace}
 use Rattle.places.specs.declared.ReturnPlace.the-variants.{Void, Memory, One, Two, St0, St0St1}
 use Rattle.places.specs.declared.Register.the-variants.{General}
-use Rattle.layout.specs.Arguments.{returnPlace}
+use Rattle.layout.specs.Arguments.{returnPlace, hidden}
+use Rattle.layout.specs.Verdict.{verdict}
+use Rattle.images.proofs.Words.{upper-zero}
+use Rattle.moving.specs.Address.{wrongAddress}
+use Rattle.moving.proofs.Address.{address-right, address-unused}
+use Rattle.moving.proofs.Ilp32.{wide-wrong}
 use Rattle.returning.specs.Moved.{partsOf, sources, targets}
 use Rattle.returning.specs.Image.{inMemory, returnImage, returnValue, returnedAddress}
 use Rattle.returning.specs.ImageAsks.{Returnable}
@@ -23,25 +28,26 @@ use Rattle.returning.specs.Returned.{returnLength}
 use Rattle.returning.specs.Orders.{putRefusal, takeRefusal}
 use Rattle.returning.specs.Asks.{Lent}
 use Rattle.returning.specs.Answers.{putAnswer, imageAfter, takeAnswer, valueAfter, putNumber, takeNumber}
-use Rattle.returning.specs.Statements.{Unused, PutsAll, AddressUnseen, TakesPut, SameElsewhere, ReturnsBool, Clean, ComesBack, PutsTaken, UnusedUnseen, RefusalsTold, TwelveExactly, NeverTwelve, NoSharedImage}
+use Rattle.returning.specs.Statements.{Unused, PutsAll, AddressUnseen, TakesPut, SameElsewhere, ReturnsBool, Clean, ComesBack, PutsTaken, UnusedUnseen, RefusalsTold, TwelveExactly, TwentySevenExactly, NeverTwelve, PointerUpper, HiddenUpper, NoSharedImage}
+use Rattle.returning.specs.declared.PutAnswer.{PutAnswer}
 use Rattle.returning.specs.declared.PutAnswer.the-variants.{Put, Refused as NotPut}
 use Rattle.returning.specs.declared.TakeAnswer.the-variants.{Taken, Refused as NotTaken}
-use Rattle.returning.proofs.Values.{accepted-returnable, bool-place, bool-length}
-use Rattle.returning.proofs.Orders.{put-accepted, take-accepted, take-never, put-twelve, put-none, twelve-lent, bool-broken, broken-bool, bool-right}
+use Rattle.returning.proofs.Values.{memory-hidden, accepted-returnable, bool-place, bool-length, bool-seen, pointer-place, pointer-length}
+use Rattle.returning.proofs.Orders.{put-accepted, take-accepted, take-never, put-twenty-seven, put-twelve, put-none, twelve-lent, address-lent, bool-broken, broken-bool, bool-right}
 use Rattle.returning.proofs.Images.{blank-unseen, length-image, length-value, value-image, address-image, image-zero, put-image, image-put, image-value, own-address, value-same, address-same}
 
 -- ---- what stands in the buffers after a call that is accepted
 
-module _ (d : List ℕ) (h : ℕ) (v i : List ℕ) (accepted : putRefusal d v (length i) ≡ 0) where
+module _ (d : List ℕ) (h : ℕ) (v i : List ℕ) (accepted : putRefusal d h v (length i) ≡ 0) where
   lent : Lent d (length v) (length i)
-  lent = put-accepted d v (length i) .0 accepted .0
+  lent = put-accepted d h v (length i) accepted .0
 
   suits : Returnable (returnPlace d) (returnLength d)
   suits = accepted-returnable d (lent .accepted)
 
   image-is : imageAfter d h v i ≡ returnImage (returnPlace d) h v
   unfolding imageAfter
-  image-is = rw (eq-eqb (putRefusal d v (length i)) 0 accepted)
+  image-is = rw (eq-eqb (putRefusal d h v (length i)) 0 accepted)
 
   image-long : length (imageAfter d h v i) ≡ 80
   image-long = ap length image-is ∙ length-image (returnPlace d) (returnLength d) suits h v
@@ -66,10 +72,21 @@ puts-all d h v i a img =
     )
 
 pub address-unseen : AddressUnseen
-unfolding imageAfter returnImage
-address-unseen d h g v i e =
-    ap (λ (x : List ℕ). cond (eqb (putRefusal d v (length i)) 0) (scatter x (targets (returnPlace d) (length v)) (gather v (sources (returnPlace d) (length v)))) i)
-    (blank-unseen (inMemory (returnPlace d)) h g e)
+unfolding putAnswer imageAfter putRefusal returnImage
+address-unseen d h g v i e = (
+  ap answer same,
+  ap₂ (λ (n : ℕ) (x : List ℕ). cond (eqb n 0) (scatter x (targets (returnPlace d) (length v)) (gather v (sources (returnPlace d) (length v)))) i) same
+      (blank-unseen (inMemory (returnPlace d)) h g e),
+)
+  where
+    none : hidden d ≡ false
+    none = sym (memory-hidden d) ∙ e
+
+    answer : ℕ → PutAnswer
+    answer n = cond (eqb n 0) Put (NotPut (refusalFor d n))
+
+    same : putRefusal d h v (length i) ≡ putRefusal d g v (length i)
+    same = rw (none, address-unused (modelIn d) h, address-unused (modelIn d) g)
 
 pub takes-put : TakesPut
 takes-put d h v i w b a e =
@@ -144,17 +161,46 @@ module _ (d : List ℕ) (n : ℕ) where
 pub refusals-told : RefusalsTold
 unfolding putAnswer imageAfter takeAnswer valueAfter
 refusals-told d h v i = record {
-  put = put-told d (putRefusal d v (length i));
-  unput = λ z. rw (ne-eqb (putRefusal d v (length i)) 0 z);
+  put = put-told d (putRefusal d h v (length i));
+  unput = λ z. rw (ne-eqb (putRefusal d h v (length i)) 0 z);
   take = take-told d (takeRefusal d i (length v)) (returnedAddress (returnPlace d) i);
   untaken = λ z. rw (ne-eqb (takeRefusal d i (length v)) 0 z);
 }
 
+-- a _Bool is returned in rax, so that no hidden address is refused
+bool-narrow : (d : List ℕ) → verdict d ≡ 0 → ReturnsBool d → (h : ℕ) → wrongAddress (modelIn d) (hidden d) h ≡ false
+bool-narrow d a b h = ap (λ (x : Bool). wrongAddress (modelIn d) x h) (bool-seen d a b) ∙ address-unused (modelIn d) h
+
 pub twelve-exactly : TwelveExactly
-twelve-exactly d v image = (
-  λ e. let l = twelve-lent d v image e in (l .0, bool-broken d v (l .1)),
-  λ p. put-twelve d v image (p .0) (broken-bool d v (p .1 .0) (p .1 .1)),
+twelve-exactly d h v image = (
+  λ e. let l = twelve-lent d h v image e in (l .0, bool-broken d v (l .1)),
+  λ p. put-twelve d h v image (p .0) (bool-narrow d (p .0 .accepted) (p .1 .0) h) (broken-bool d v (p .1 .0) (p .1 .1)),
 )
+
+pub twenty-seven-exactly : TwentySevenExactly
+twenty-seven-exactly d h v image = (
+  λ e. let l = address-lent d h v image e in (l .0, wide-wrong d h .0 (l .1)),
+  λ p. put-twenty-seven d h v image (p .0) (wide-wrong d h .1 (p .1)),
+)
+
+-- ---- ILP32: the upper half of rax
+
+-- four bytes in rax leave its upper half unused
+upper-unused : (k : ℕ) → 4 ≤ k → Unused (One (General (record { 0 = 0 }))) 4 k
+unfolding targets partsOf
+upper-unused k l = record { absent = ((λ e. omega arith), ((λ e. omega arith), ((λ e. omega arith), ((λ e. omega arith), tt)))); past = λ e. absurd (true≢false (sym e)) }
+
+pub pointer-upper : PointerUpper
+pointer-upper d h v i m a p k l u =
+    let ok = lent d h v i a .accepted in
+    let narrow : length v ≡ 4 = lent d h v i a .value ∙ pointer-length d ok p m in
+    puts-all d h v i a (imageAfter d h v i) .0 refl .zeros k (rw (pointer-place d ok p, narrow) (upper-unused k l))
+
+pub hidden-upper : HiddenUpper
+hidden-upper d h v i m a used k l u =
+    let e = puts-all d h v i a (imageAfter d h v i) .0 refl .address (memory-hidden d ∙ used) in
+    let low : h < 4294967296 = address-right (modelIn d) (hidden d) h .0 (put-accepted d h v (length i) a .1) m used in
+    upper-zero (imageAfter d h v i) h low e k l u
 
 pub never-twelve : NeverTwelve
 never-twelve d img value = take-never d img value
@@ -194,7 +240,7 @@ module _ (d img v i : List ℕ) (bytes : IsBytes img) (accepted : takeRefusal d 
       one = unfold returnValue sources targets partsOf in refl
 
   back-clean : ComesBack d own value img i → Clean d img
-  back-clean c = record { zeros = zeros; bool = bool }
+  back-clean c = record { zeros = zeros; bool = bool; address = address-right (modelIn d) (hidden d) own .0 (put-accepted d own value (length i) (c .accepted) .1) }
     where
       image : returnImage place own value ≡ img
       image = sym (image-is d own value i (c .accepted)) ∙ c .again
@@ -206,15 +252,16 @@ module _ (d img v i : List ℕ) (bytes : IsBytes img) (accepted : takeRefusal d 
       bool b = by (decLt 1 (getD value 0 0))
         where
           by : Dec (1 < getD value 0 0) → getD img 0 0 ≤ 1
-          by (yes m) = absurd (omega (arith, sym (c .accepted) ∙ put-twelve d value (length i) (lent d own value i (c .accepted)) (broken-bool d value b m)))
+          by (yes m) = absurd (omega (arith, sym (c .accepted) ∙ put-twelve d own value (length i) (lent d own value i (c .accepted)) (bool-narrow d (fit .accepted) b own) (broken-bool d value b m)))
           by (no m) = omega (arith, first-byte b)
 
   clean-back : Clean d img → ComesBack d own value img i
   clean-back c = record { accepted = ok; again = image-is d own value i ok ∙ back }
     where
-      ok : putRefusal d value (length i) ≡ 0
+      ok : putRefusal d own value (length i) ≡ 0
       ok =
-          put-none d value (length i) (record { accepted = fit .accepted; value = taken-long; image = as-long ∙ fit .image })
+          put-none d own value (length i) (record { accepted = fit .accepted; value = taken-long; image = as-long ∙ fit .image })
+          (address-right (modelIn d) (hidden d) own .1 (c .address))
           (bool-right d value (λ b. omega (arith, first-byte b, c .bool b)))
 
       back : returnImage place own value ≡ img

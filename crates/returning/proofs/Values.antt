@@ -5,7 +5,9 @@ use mathlib.Core.List.{List}
 use Prim.Native.Nat.{ℕ, _<_}
 use borrow.Author.Tests.{ne-eqb}
 use lib.ListN.{length}
-use Rattle.description.specs.Description.{typesIn, returnIn, Whole, modelIn}
+use mathlib.Core.Logic.{_≢_}
+use Rattle.description.specs.Description.{typesIn, returnIn, modelIn, kindAt, aAt, Whole}
+use Rattle.description.specs.declared.Model.the-variants.{Ilp32}
 use Rattle.classes.specs.declared.Class.{Class}
 use Rattle.classes.specs.Classes.{same, isX87, mergeOf, mergeAll}
 use Rattle.types.specs.Basic.{basicSize}
@@ -32,7 +34,7 @@ use Rattle.returning.specs.Image.{lengthFor, inMemory}
 use Rattle.returning.specs.ImageAsks.{Returnable}
 use Rattle.returning.proofs.Fitting.{type-suits}
 use Rattle.returning.specs.Returned.{returnLength}
-use Rattle.returning.specs.Statements.{MemoryHidden, ReturnsBool}
+use Rattle.returning.specs.Statements.{MemoryHidden, ReturnsBool, ReturnsPointer}
 
 -- ---- in memory exactly where a hidden address is passed
 
@@ -92,21 +94,46 @@ module _ (d : List ℕ) (accepted : verdict d ≡ 0) where
   unfolding returnLength returnPlace
   void-short e = rw e
 
+  -- ---- a returned type whose own record is basic
+
+  module _ (some : returnIn d ≢ 255) (kind : kindAt d (returnIn d) ≡ 0) where
+    not-void : isVoid d ≡ false
+    unfolding isVoid
+    not-void = ne-eqb (returnIn d) 255 some
+
+    returned-basic : tyAt d (returnIn d) ≡ basic (aAt d (returnIn d))
+    returned-basic = at-basic d (returnIn d) (returned-sized not-void) kind
+
   -- ---- a returned _Bool
 
   module _ (b : ReturnsBool d) where
-    not-void : isVoid d ≡ false
-    unfolding isVoid
-    not-void = ne-eqb (returnIn d) 255 (b .some)
-
     bool-type : tyAt d (returnIn d) ≡ basic 0
-    bool-type = at-basic d (returnIn d) (returned-sized not-void) (b .kind) ∙ ap basic (b .code)
+    bool-type = returned-basic (b .some) (b .kind) ∙ ap basic (b .code)
 
     -- it is one byte, the first of rax
     pub bool-place : returnPlace d ≡ One (General (record { 0 = 0 }))
     unfolding returnPlace returnOf kindsOf same isX87 mergeOf mergeAll oneClass gap firstClass secondClass basicAt classesAt classesOf
-    bool-place = rw (not-void, bool-type)
+    bool-place = rw (not-void (b .some) (b .kind), bool-type)
 
     pub bool-length : returnLength d ≡ 1
     unfolding returnLength returnedSize sizeTy basicSize
-    bool-length = rw (bool-place, not-void, bool-type)
+    bool-length = rw (bool-place, not-void (b .some) (b .kind), bool-type)
+
+    -- so that no hidden address is passed
+    pub bool-seen : hidden d ≡ false
+    bool-seen = sym (memory-hidden d) ∙ ap inMemory bool-place
+
+  -- ---- a returned pointer
+
+  module _ (p : ReturnsPointer d) where
+    pointer-type : tyAt d (returnIn d) ≡ basic 15
+    pointer-type = returned-basic (p .some) (p .kind) ∙ ap basic (p .code)
+
+    -- it is in rax; in ILP32 it has four bytes
+    pub pointer-place : returnPlace d ≡ One (General (record { 0 = 0 }))
+    unfolding returnPlace returnOf kindsOf same isX87 mergeOf mergeAll oneClass gap firstClass secondClass basicAt classesAt classesOf
+    pointer-place = rw (not-void (p .some) (p .kind), pointer-type)
+
+    pub pointer-length : modelIn d ≡ Ilp32 → returnLength d ≡ 4
+    unfolding returnLength returnedSize sizeTy basicSize
+    pointer-length e = rw (pointer-place, not-void (p .some) (p .kind), pointer-type, e)

@@ -14,12 +14,12 @@ use Rattle.returning.specs.declared.PutAnswer.the-variants.{Put, Refused
 use Rattle.returning.specs.declared.TakeAnswer.{TakeAnswer}
 use Rattle.returning.specs.declared.TakeAnswer.the-variants.{Taken, Refused as NotTaken}
 
-unfoldable pub putAnswer : List ℕ → List ℕ → ℕ → PutAnswer
-putAnswer d v imageLength = cond (eqb (putRefusal d v imageLength) 0) Put (NotPut (refusalFor d (putRefusal d v imageLength)))
+unfoldable pub putAnswer : List ℕ → ℕ → List ℕ → ℕ → PutAnswer
+putAnswer d h v imageLength = cond (eqb (putRefusal d h v imageLength) 0) Put (NotPut (refusalFor d (putRefusal d h v imageLength)))
 
 -- the image at exit, i at entry
 unfoldable pub imageAfter : List ℕ → ℕ → List ℕ → List ℕ → List ℕ
-imageAfter d h v i = cond (eqb (putRefusal d v (length i)) 0) (returnImage (returnPlace d) h v) i
+imageAfter d h v i = cond (eqb (putRefusal d h v (length i)) 0) (returnImage (returnPlace d) h v) i
 
 -- the hidden address, 0 where none is carried
 unfoldable pub takeAnswer : List ℕ → List ℕ → ℕ → TakeAnswer

@@ -1,14 +1,15 @@
 -- When putting and taking are refused: document 02, request 2026-02, "Refusals: after 1..10, 11 for lengths .., then 12 for a returned
--- _Bool byte not 0 or 1, in putting only". Of any bytes. Assumes nothing: these are definitions.
+-- _Bool byte not 0 or 1, in putting only"; request 2026-11, "27, after 11 in placing and putting". Of any bytes. Assumes nothing: these are definitions.
 use mathlib.Core.Bool.{Bool, not, _&&_, _||_}
 use mathlib.Core.List.{List, [], _∷_, _++_}
 use Prim.Native.Nat.{ℕ}
 use lib.Dec.{eqb}
 use lib.ListN.{length, getD}
-use Rattle.description.specs.Description.{returnIn}
+use Rattle.description.specs.Description.{returnIn, modelIn}
 use Rattle.form.specs.Order.{Rule, rule, first}
-use Rattle.layout.specs.Arguments.{isVoid}
+use Rattle.layout.specs.Arguments.{isVoid, hidden}
 use Rattle.layout.specs.Verdict.{checkOrder}
+use Rattle.moving.specs.Address.{wrongAddress}
 use Rattle.moving.specs.Orders.{brokenByte}
 use Rattle.returning.specs.Returned.{returnLength}
 
@@ -20,23 +21,24 @@ wrongLength n valueLength imageLength = not (eqb valueLength n) || not (eqb imag
 unfoldable pub wrongBool : List ℕ → List ℕ → Bool
 wrongBool d v = not (isVoid d) && brokenByte d (returnIn d) (getD v 0 0)
 
--- what is judged behind 1 to 10: 11 in taking, and 11, then 12 in putting
+-- what is judged behind 1 to 10: 11 in taking, and 11, 27, then 12 in putting
 abbrev pub furtherTaking : List ℕ → List ℕ → ℕ → List Rule
 furtherTaking d image valueLength = rule 11 (wrongLength (returnLength d) valueLength (length image)) ∷ []
 
-abbrev pub furtherPutting : List ℕ → List ℕ → ℕ → List Rule
-furtherPutting d v imageLength = rule 11 (wrongLength (returnLength d) (length v) imageLength) ∷ rule 12 (wrongBool d v) ∷ []
+abbrev pub furtherPutting : List ℕ → ℕ → List ℕ → ℕ → List Rule
+furtherPutting d h v imageLength =
+    rule 11 (wrongLength (returnLength d) (length v) imageLength) ∷ rule 27 (wrongAddress (modelIn d) (hidden d) h) ∷ rule 12 (wrongBool d v) ∷ []
 
 abbrev pub takeOrder : List ℕ → List ℕ → ℕ → List Rule
 takeOrder d image valueLength = checkOrder d ++ furtherTaking d image valueLength
 
-abbrev pub putOrder : List ℕ → List ℕ → ℕ → List Rule
-putOrder d v imageLength = checkOrder d ++ furtherPutting d v imageLength
+abbrev pub putOrder : List ℕ → ℕ → List ℕ → ℕ → List Rule
+putOrder d h v imageLength = checkOrder d ++ furtherPutting d h v imageLength
 
 -- which of them refuses taking so many value bytes from this image; or 0
 unfoldable pub takeRefusal : List ℕ → List ℕ → ℕ → ℕ
 takeRefusal d image valueLength = first (takeOrder d image valueLength)
 
--- and putting this value into an image of so many bytes
-unfoldable pub putRefusal : List ℕ → List ℕ → ℕ → ℕ
-putRefusal d v imageLength = first (putOrder d v imageLength)
+-- and putting this hidden address and this value into an image of so many bytes
+unfoldable pub putRefusal : List ℕ → ℕ → List ℕ → ℕ → ℕ
+putRefusal d h v imageLength = first (putOrder d h v imageLength)

@@ -1,4 +1,4 @@
--- What is said of putting and taking a returned value, of any bytes: document 02, request 2026-02. Assumes nothing: these are definitions.
+-- What is said of putting and taking a returned value, of any bytes: document 02, requests 2026-02 and 2026-11. Assumes nothing: these are definitions.
 use mathlib.Core.Path.{_≡_}
 use mathlib.Core.Bool.{true, false, cond}
 use mathlib.Core.List.{List}
@@ -6,10 +6,12 @@ use mathlib.Core.Logic.{_↔_, _≢_}
 use Prim.Native.Nat.{ℕ, _^_, _≤_, _<_}
 use lib.ListN.{length, getD}
 use Rattle.addresses.specs.Addresses.{gather, Absent}
-use Rattle.description.specs.Description.{returnIn, kindAt, aAt, IsBytes}
+use Rattle.description.specs.Description.{returnIn, modelIn, kindAt, aAt, IsBytes}
+use Rattle.description.specs.declared.Model.the-variants.{Ilp32}
 use Rattle.places.specs.declared.ReturnPlace.{ReturnPlace}
 use Rattle.layout.specs.Arguments.{returnPlace, hidden}
 use Rattle.images.specs.Words.{littleEndian}
+use Rattle.moving.specs.Ilp32.{TooWide}
 use Rattle.returning.specs.Moved.{sources, targets}
 use Rattle.returning.specs.Image.{inMemory, onX87, rax, returnedAddress, trimmed}
 use Rattle.returning.specs.Returned.{returnLength}
@@ -32,7 +34,7 @@ pub record IsImage (place : ReturnPlace) (h : ℕ) (v image : List ℕ) : Type 0
 
 -- accepted, the image is that, and no other
 abbrev pub PutsAll : Type 0
-PutsAll = (d : List ℕ) (h : ℕ) (v i : List ℕ) → putRefusal d v (length i) ≡ 0
+PutsAll = (d : List ℕ) (h : ℕ) (v i : List ℕ) → putRefusal d h v (length i) ≡ 0
     → (image : List ℕ) → (imageAfter d h v i ≡ image) ↔ IsImage (returnPlace d) h v image
 
 -- a value is in memory exactly where a hidden address is passed for it
@@ -41,11 +43,12 @@ MemoryHidden = (d : List ℕ) → inMemory (returnPlace d) ≡ hidden d
 
 -- the hidden address is looked at only where the value is in memory
 abbrev pub AddressUnseen : Type 0
-AddressUnseen = (d : List ℕ) (h g : ℕ) (v i : List ℕ) → inMemory (returnPlace d) ≡ false → imageAfter d h v i ≡ imageAfter d g v i
+AddressUnseen = (d : List ℕ) (h g : ℕ) (v i : List ℕ) → inMemory (returnPlace d) ≡ false
+    → (putAnswer d h v (length i) ≡ putAnswer d g v (length i)) × (imageAfter d h v i ≡ imageAfter d g v i)
 
 -- "Putting then taking gives the same value, those six bytes apart", and the hidden address where it is carried
 abbrev pub TakesPut : Type 0
-TakesPut = (d : List ℕ) (h : ℕ) (v i w : List ℕ) → h < 2 ^ 64 → putRefusal d v (length i) ≡ 0 → length w ≡ length v
+TakesPut = (d : List ℕ) (h : ℕ) (v i w : List ℕ) → h < 2 ^ 64 → putRefusal d h v (length i) ≡ 0 → length w ≡ length v
     → (takeAnswer d (imageAfter d h v i) (length w) ≡ Taken (cond (inMemory (returnPlace d)) h 0))
     × (valueAfter d (imageAfter d h v i) w ≡ trimmed (returnPlace d) v)
 
@@ -59,14 +62,15 @@ pub record ReturnsBool (d : List ℕ) : Type 0 where
   pub kind : kindAt d (returnIn d) ≡ 0
   pub code : aAt d (returnIn d) ≡ 0
 
--- unused bytes are zero, and a _Bool's byte, the first of rax, is 0 or 1
+-- unused bytes are zero, a _Bool's byte, the first of rax, is 0 or 1, and in ILP32 the hidden address is below 2^32
 pub record Clean (d image : List ℕ) : Type 0 where
   pub zeros : (k : ℕ) → k < length image → Unused (returnPlace d) (returnLength d) k → getD image k 0 ≡ 0
   pub bool : ReturnsBool d → getD image 0 0 ≤ 1
+  pub address : modelIn d ≡ Ilp32 → hidden d ≡ true → returnedAddress (returnPlace d) image < 4294967296
 
 -- the image comes back where the value v is put into i
 pub record ComesBack (d : List ℕ) (h : ℕ) (v image i : List ℕ) : Type 0 where
-  pub accepted : putRefusal d v (length i) ≡ 0
+  pub accepted : putRefusal d h v (length i) ≡ 0
   pub again : imageAfter d h v i ≡ image
 
 -- a value taken and put again, with the hidden address that was taken, is accepted and gives the same image exactly when that is clean
@@ -82,8 +86,8 @@ UnusedUnseen = (d image other v : List ℕ) → length image ≡ length other
 
 -- the number of an answer is the order's, and a refusal writes nothing
 pub record Refuses (d : List ℕ) (h : ℕ) (v i : List ℕ) : Type 0 where
-  pub put : putNumber (putAnswer d v (length i)) ≡ putRefusal d v (length i)
-  pub unput : putRefusal d v (length i) ≢ 0 → imageAfter d h v i ≡ i
+  pub put : putNumber (putAnswer d h v (length i)) ≡ putRefusal d h v (length i)
+  pub unput : putRefusal d h v (length i) ≢ 0 → imageAfter d h v i ≡ i
   pub take : takeNumber (takeAnswer d i (length v)) ≡ takeRefusal d i (length v)
   pub untaken : takeRefusal d i (length v) ≢ 0 → valueAfter d i v ≡ v
 
@@ -92,7 +96,29 @@ RefusalsTold = (d : List ℕ) (h : ℕ) (v i : List ℕ) → Refuses d h v i
 
 -- 12 exactly when 1 to 11 do not hold and a _Bool is returned whose byte is neither 0 nor 1
 abbrev pub TwelveExactly : Type 0
-TwelveExactly = (d v : List ℕ) (imageLength : ℕ) → (putRefusal d v imageLength ≡ 12) ↔ (Lent d (length v) imageLength × (ReturnsBool d × (1 < getD v 0 0)))
+TwelveExactly = (d : List ℕ) (h : ℕ) (v : List ℕ) (imageLength : ℕ)
+    → (putRefusal d h v imageLength ≡ 12) ↔ (Lent d (length v) imageLength × (ReturnsBool d × (1 < getD v 0 0)))
+
+-- 27 exactly when 1 to 11 do not hold and an address of 2^32 or more is carried in ILP32
+abbrev pub TwentySevenExactly : Type 0
+TwentySevenExactly = (d : List ℕ) (h : ℕ) (v : List ℕ) (imageLength : ℕ)
+    → (putRefusal d h v imageLength ≡ 27) ↔ (Lent d (length v) imageLength × TooWide d h)
+
+-- the returned type's own record is that of a pointer
+pub record ReturnsPointer (d : List ℕ) : Type 0 where
+  pub some : returnIn d ≢ 255
+  pub kind : kindAt d (returnIn d) ≡ 0
+  pub code : aAt d (returnIn d) ≡ 15
+
+-- request 2026-11, in ILP32: "A pointer in a register .. has its upper half zero", bytes 4 to 7 of rax
+abbrev pub PointerUpper : Type 0
+PointerUpper = (d : List ℕ) (h : ℕ) (v i : List ℕ) → modelIn d ≡ Ilp32 → putRefusal d h v (length i) ≡ 0 → ReturnsPointer d
+    → (k : ℕ) → 4 ≤ k → k < 8 → getD (imageAfter d h v i) k 0 ≡ 0
+
+-- "and so has the hidden address"
+abbrev pub HiddenUpper : Type 0
+HiddenUpper = (d : List ℕ) (h : ℕ) (v i : List ℕ) → modelIn d ≡ Ilp32 → putRefusal d h v (length i) ≡ 0 → hidden d ≡ true
+    → (k : ℕ) → 4 ≤ k → k < 8 → getD (imageAfter d h v i) k 0 ≡ 0
 
 -- taking is refused under 12 by nothing
 abbrev pub NeverTwelve : Type 0
@@ -100,5 +126,5 @@ NeverTwelve = (d image : List ℕ) (valueLength : ℕ) → takeRefusal d image v
 
 -- different values never give the same image, those six bytes apart
 abbrev pub NoSharedImage : Type 0
-NoSharedImage = (d : List ℕ) (h : ℕ) (v w i j : List ℕ) → putRefusal d v (length i) ≡ 0 → putRefusal d w (length j) ≡ 0
+NoSharedImage = (d : List ℕ) (h : ℕ) (v w i j : List ℕ) → putRefusal d h v (length i) ≡ 0 → putRefusal d h w (length j) ≡ 0
     → imageAfter d h v i ≡ imageAfter d h w j → trimmed (returnPlace d) v ≡ trimmed (returnPlace d) w

@@ -12,7 +12,7 @@ ghost use Rattle.returning.specs.Answers.{putAnswer, imageAfter, takeAns
 // Puts a returned value into the return image: every byte of it is written, or none. The hidden address is looked at only where
 // the value is in memory.
 pub fn put_returned(d: &[u8], hidden: u64, value: &[u8], image: &mut [u8]) -> PutAnswer
-    ensures { λ r. ⌜ (r ≡ putAnswer (now (d .entry)) (now (value .entry)) (length (now (image .entry))))
+    ensures { λ r. ⌜ (r ≡ putAnswer (now (d .entry)) hidden (now (value .entry)) (length (now (image .entry))))
         × (now (image .exit) ≡ imageAfter (now (d .entry)) hidden (now (value .entry)) (now (image .entry))) ⌝ }
 {
     let answer = layout::layout_of(d);
@@ -23,6 +23,9 @@ pub fn put_returned(d: &[u8], hidden: u64, value: &[u8], image: &mut [u8]) -> Pu
     let right = return_image::length_for(place, layout.returned);
     if refusals::wrong_length(right, Bytes(value.len()), Bytes(image.len())) {
         return PutAnswer::Refused(form::refusal_of(11));
+    }
+    if moving::wrong_address(d, layout.hidden, hidden) {
+        return PutAnswer::Refused(form::refusal_of(27));
     }
     if refusals::wrong_bool(d, value) {
         return PutAnswer::Refused(form::refusal_of(12));

@@ -61,7 +61,7 @@ module _ (P : Paper) where
   unfoldable pub areaOf : List ℕ → ℕ
   areaOf d = area (P .slot) (P .first d) (P .shapes d)
 
--- document 01's own: "Byte 6: 0, or 1 for a variadic function", N, and the arguments in their order
+-- document 01's own: bit 0 of byte 6 is set for a variadic function, N, and the arguments in their order
 unfoldable pub kcb : Paper
 kcb = record {
   order = checkOrder;

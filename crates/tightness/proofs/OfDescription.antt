@@ -8,6 +8,12 @@ use Rattle.description.proofs.byte_at.Symbol as byte-at-symbol
 use Rattle.description.proofs.word_at
 use Rattle.description.proofs.word_at.Met as word-at-met
 use Rattle.description.proofs.word_at.Symbol as word-at-symbol
+use Rattle.description.proofs.variadic_in
+use Rattle.description.proofs.variadic_in.Met as variadic-in-met
+use Rattle.description.proofs.variadic_in.Symbol as variadic-in-symbol
+use Rattle.description.proofs.model_of
+use Rattle.description.proofs.model_of.Met as model-of-met
+use Rattle.description.proofs.model_of.Symbol as model-of-symbol
 use Rattle.description.proofs.header_of
 use Rattle.description.proofs.header_of.Met as header-of-met
 use Rattle.description.proofs.header_of.Symbol as header-of-symbol
@@ -38,6 +44,18 @@ meets-description-word-at M = word-at-met.met
 
 pub tight-description-word-at : Tight word_at.ended (λ M. word_at.clauses {M = M})
 tight-description-word-at c r q w v a b = (settle (result word_at.ended c) (a .ensured) (b .ensured) (λ e f. e .0 ∙ sym (f .0)), refl)
+
+pub meets-description-variadic-in : Meets variadic_in.ended (λ M. variadic_in.clauses {M = M}) variadic-in-symbol.routine
+meets-description-variadic-in M = variadic-in-met.met
+
+pub tight-description-variadic-in : Tight variadic_in.ended (λ M. variadic_in.clauses {M = M})
+tight-description-variadic-in c r q w v a b = (equal (result variadic_in.ended c) (a .ensured) (b .ensured), refl)
+
+pub meets-description-model-of : Meets model_of.ended (λ M. model_of.clauses {M = M}) model-of-symbol.routine
+meets-description-model-of M = model-of-met.met
+
+pub tight-description-model-of : Tight model_of.ended (λ M. model_of.clauses {M = M})
+tight-description-model-of c r q w v a b = (equal (result model_of.ended c) (a .ensured) (b .ensured), refl)
 
 pub meets-description-header-of : Meets header_of.ended (λ M. header_of.clauses {M = M}) header-of-symbol.routine
 meets-description-header-of M = header-of-met.met

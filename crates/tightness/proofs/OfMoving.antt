@@ -8,6 +8,9 @@ use Rattle.moving.proofs.place_values.Symbol as place-values-symbol
 use Rattle.moving.proofs.gather_values
 use Rattle.moving.proofs.gather_values.Met as gather-values-met
 use Rattle.moving.proofs.gather_values.Symbol as gather-values-symbol
+use Rattle.moving.proofs.wrong_address
+use Rattle.moving.proofs.wrong_address.Met as wrong-address-met
+use Rattle.moving.proofs.wrong_address.Symbol as wrong-address-symbol
 use Rattle.moving.proofs.broken_byte
 use Rattle.moving.proofs.broken_byte.Met as broken-byte-met
 use Rattle.moving.proofs.broken_byte.Symbol as broken-byte-symbol
@@ -32,6 +35,12 @@ tight-moving-gather-values c r q w v a b = (settle (result gather_values.ended c
   where
     same-values : w .1 .1 .1 .0 ≡ v .1 .1 .1 .0
     same-values = settle bytes (a .ensured) (b .ensured) (λ e f. e .1 ∙ sym (f .1))
+
+pub meets-moving-wrong-address : Meets wrong_address.ended (λ M. wrong_address.clauses {M = M}) wrong-address-symbol.routine
+meets-moving-wrong-address M = wrong-address-met.met
+
+pub tight-moving-wrong-address : Tight wrong_address.ended (λ M. wrong_address.clauses {M = M})
+tight-moving-wrong-address c r q w v a b = (equal (result wrong_address.ended c) (a .ensured) (b .ensured), refl)
 
 pub meets-moving-broken-byte : Meets broken_byte.ended (λ M. broken_byte.clauses {M = M}) broken-byte-symbol.routine
 meets-moving-broken-byte M = broken-byte-met.met

@@ -1,11 +1,11 @@
 // Size and alignment of one type, by those of the types below it (document 01, "Size/align").
 use crate::Extent;
 use crate::table_entries;
+use description::Model;
 use units::Bytes;
 ghost use mathlib.Core.Path.{_≡_};
 ghost use Prim.Native.Nat.{_<_, _≤_, _^_};
 ghost use Rattle.description.specs.Description.{modelIn};
-ghost use Rattle.description.specs.declared.Model.the-variants.{Lp64};
 ghost use Rattle.types.specs.Size.{offsetAfter, endAfter};
 ghost use Rattle.types.specs.Basic.{basicSize, basicAlign};
 ghost use Rattle.types.specs.Decode.{tyAt, tysFrom};
@@ -38,20 +38,30 @@ const SIZES: [u8; 16] = [1, 1, 2, 4, 8, 16, 4, 8, 16, 16, 8, 16, 8, 16, 32, 8];
 
 const ALIGNS: [u8; 16] = [1, 1, 2, 4, 8, 16, 4, 8, 16, 16, 8, 16, 4, 8, 16, 8];
 
+const ILP32_SIZES: [u8; 16] = [1, 1, 2, 4, 8, 16, 4, 8, 16, 16, 8, 16, 8, 16, 32, 4];
+
+const ILP32_ALIGNS: [u8; 16] = [1, 1, 2, 4, 8, 16, 4, 8, 16, 16, 8, 16, 4, 8, 16, 4];
+
 fn number(byte: u8) -> usize
     ensures { λ r. ⌜ r ≡ byte ⌝ }
 {
     byte as usize
 }
 
-// Size and alignment of a basic type, from the table.
-fn basic_extent(code: usize) -> Extent
+// Size and alignment of a basic type, from the model's table.
+fn basic_extent(model: Model, code: usize) -> Extent
     requires { ⌜ code < 16 ⌝ }
-    ensures { λ r. ⌜ (r .size .0 ≡ basicSize Lp64 code) × (r .align .0 ≡ basicAlign Lp64 code) ⌝ }
+    ensures { λ r. ⌜ (r .size .0 ≡ basicSize model code) × (r .align .0 ≡ basicAlign model code) ⌝ }
 {
-    Extent {
-        size: Bytes(number(SIZES[code])),
-        align: Bytes(number(ALIGNS[code])),
+    match model {
+        Model::Lp64 => Extent {
+            size: Bytes(number(SIZES[code])),
+            align: Bytes(number(ALIGNS[code])),
+        },
+        Model::Ilp32 => Extent {
+            size: Bytes(number(ILP32_SIZES[code])),
+            align: Bytes(number(ILP32_ALIGNS[code])),
+        },
     }
 }
 
@@ -86,14 +96,14 @@ fn members_extent(
 }
 
 // Size and alignment of type k, by the table of the types below it.
-pub fn extent_of(d: &[u8], k: usize, table: &[u32; 64]) -> Extent
-    requires { ⌜ Sized (modelIn (now d)) (now d) k × Sizes (modelIn (now d)) (now d) k (now table) ⌝ }
+pub fn extent_of(d: &[u8], k: usize, model: Model, table: &[u32; 64]) -> Extent
+    requires { ⌜ Sized (modelIn (now d)) (now d) k × Sizes (modelIn (now d)) (now d) k (now table) × (model ≡ modelIn (now d)) ⌝ }
     ensures { λ r. ⌜ IsExtent (modelIn (now (d .entry))) (tyAt (now (d .entry)) k) r ⌝ }
 {
     let kind = description::kind_at(d, k);
     let a = description::a_at(d, k);
     if kind == 0 {
-        return basic_extent(a);
+        return basic_extent(model, a);
     }
     let count = description::count_at(d, k);
     if kind == 1 {

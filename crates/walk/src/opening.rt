@@ -17,7 +17,7 @@ fn open_on(number: u32, d: &[u8]) -> OpenAnswer
     let LayoutAnswer::Laid(layout) = answer else {
         return OpenAnswer::Refused(layout::refusal_in(answer));
     };
-    if description::byte_at(d, 6) != 1 {
+    if description::variadic_in(d) != 1 {
         return OpenAnswer::Refused(form::refusal_of(16));
     }
     let named = description::byte_at(d, 7);

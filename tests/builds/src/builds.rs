@@ -156,7 +156,7 @@ impl Build {
     fn ellipsis(&mut self) {
         self.calls.push("e".to_string());
         self.builder.ellipsis();
-        if self.draft.variadic == 1 {
+        if self.draft.is_variadic() {
             self.mistaken(4, 0);
         } else {
             self.draft.ellipsis();
@@ -201,7 +201,7 @@ fn passed(random: &mut Random, build: &Build) -> u8 {
         let found = number(random, build);
         let is_fit = match build.shapes.get(found as usize) {
             Some(Shape::Array(..)) => false,
-            Some(Shape::Basic(0 | 1 | 2 | 6)) => build.draft.variadic == 0,
+            Some(Shape::Basic(0 | 1 | 2 | 6)) => !build.draft.is_variadic(),
             _ => true,
         };
         if is_fit || random.one_in(100) {

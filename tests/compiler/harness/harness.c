@@ -8,8 +8,10 @@
 #include <string.h>
 #include <sys/mman.h>
 
-/* The hidden address that the driver counts on. */
+/* The hidden addresses that the driver counts on, of LP64 and of ILP32. */
 #define HIDDEN ((unsigned char *)0x200000000000)
+#define NARROW_HIDDEN ((unsigned char *)0xE0000000)
+static unsigned char *hidden;
 
 __attribute__((aligned(64))) unsigned char sink[ROOM];
 __attribute__((aligned(64))) unsigned char source[ROOM];
@@ -38,11 +40,24 @@ static struct offsets notes[128];
 static uint32_t note_count;
 static unsigned char *overflow_base;
 
-/* The va_list of 000, figure 3.34. */
+/* The va_list of 000, figure 3.34, with room for two pointers of either model: overflow_arg_area and reg_save_area. */
 struct list {
-    unsigned int gp_offset, fp_offset;
-    unsigned char *overflow_arg_area, *reg_save_area;
+    uint32_t gp_offset, fp_offset;
+    unsigned char pointers[16];
 };
+
+static uint64_t pointer_of(const struct list *list, int place)
+{
+    uint64_t pointer = 0;
+    memcpy(&pointer, list->pointers + place * judged_pointer, judged_pointer);
+    return pointer;
+}
+
+static void set_pointer(struct list *list, int place, const void *to)
+{
+    uint64_t pointer = (uint64_t)to;
+    memcpy(list->pointers + place * judged_pointer, &pointer, judged_pointer);
+}
 
 void note(va_list list)
 {
@@ -50,7 +65,7 @@ void note(va_list list)
     unsigned char *base = overflow_base ? overflow_base : entered_stack;
     notes[note_count].gp_offset = fields->gp_offset;
     notes[note_count].fp_offset = fields->fp_offset;
-    notes[note_count].overflow = (uint32_t)(fields->overflow_arg_area - base);
+    notes[note_count].overflow = (uint32_t)(pointer_of(fields, 0) - (uint64_t)base);
     note_count++;
 }
 
@@ -97,7 +112,7 @@ static void judge_callee(const struct judged *one, uint32_t length, uint64_t al,
 {
     static unsigned char after[48 + 108];
     memset(sink, 0xCC, length);
-    memset(HIDDEN, 0xCC, return_size);
+    memset(hidden, 0xCC, return_size);
     note_count = 0;
     overflow_base = 0;
     enter((void *)one->callee, registers, stack, probe_area, al, after);
@@ -107,8 +122,8 @@ static void judge_callee(const struct judged *one, uint32_t length, uint64_t al,
         overflow_base = stack;
         fields->gp_offset = start->gp_offset;
         fields->fp_offset = start->fp_offset;
-        fields->overflow_arg_area = stack + start->overflow;
-        fields->reg_save_area = registers;
+        set_pointer(fields, 0, stack + start->overflow);
+        set_pointer(fields, 1, registers);
         one->walk(&list);
         __asm__ volatile("fninit");
     }
@@ -116,7 +131,7 @@ static void judge_callee(const struct judged *one, uint32_t length, uint64_t al,
     give(&note_count, sizeof note_count);
     give(notes, note_count * sizeof notes[0]);
     give(after, sizeof after);
-    give(HIDDEN, return_size);
+    give(hidden, return_size);
 }
 
 static void judge_one(const struct judged *one)
@@ -150,6 +165,17 @@ static void __attribute__((noinline)) judge_all(void)
         judge_one(&judged[index]);
 }
 
+/* ILP32 code keeps its addresses in four bytes, that of the stack too. A program that is linked without PIE has its own arrays there. */
+__attribute__((aligned(64))) static unsigned char narrow_stack[1 << 23];
+
+static void on_narrow_stack(void (*run)(void))
+{
+    __asm__ volatile("movq %%rsp, %%rbx\n\tmovq %0, %%rsp\n\tcall *%1\n\tmovq %%rbx, %%rsp"
+                     :
+                     : "r"(narrow_stack + sizeof narrow_stack), "r"(run)
+                     : "rbx", "rax", "rcx", "rdx", "rsi", "rdi", "r8", "r9", "r10", "r11", "memory", "cc");
+}
+
 int main(int count, char **words)
 {
     if (count != 3)
@@ -158,10 +184,11 @@ int main(int count, char **words)
     answers = fopen(words[2], "wb");
     if (!jobs || !answers)
         return 2;
-    void *room = mmap(HIDDEN, ROOM, PROT_READ | PROT_WRITE,
+    hidden = judged_pointer == 4 ? NARROW_HIDDEN : HIDDEN;
+    void *room = mmap(hidden, ROOM, PROT_READ | PROT_WRITE,
                       MAP_PRIVATE | MAP_ANONYMOUS | MAP_FIXED_NOREPLACE, -1, 0);
-    if (room != HIDDEN)
+    if (room != hidden)
         return 5;
-    judge_all();
+    on_narrow_stack(judge_all);
     return fclose(answers) ? 4 : 0;
 }

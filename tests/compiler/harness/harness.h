@@ -4,17 +4,19 @@
 
 enum { ROOM = 65536 };
 
-/* One function under judgement. */
+/* One function under judgement. Each address takes eight bytes, in the model of four as well, where the others are zero: the harness
+   reads both. */
 struct judged {
-    void (*call)(const unsigned char *values); /* calls the probe */
-    void (*callee)();                          /* reads named parameters, va_arg, returns */
-    void (*walk)(va_list *list);               /* va_arg alone, where none is named */
-    const unsigned *measures;                  /* of each type sizeof, _Alignof and, for each member, offsetof */
-    unsigned numbers;                          /* so many in all */
+    _Alignas(8) void (*call)(const unsigned char *values); /* calls the probe */
+    _Alignas(8) void (*callee)();                          /* reads named parameters, va_arg, returns */
+    _Alignas(8) void (*walk)(va_list *list);               /* va_arg alone, where none is named */
+    _Alignas(8) const unsigned *measures;                  /* of each type sizeof, _Alignof and, for each member, offsetof */
+    _Alignas(8) unsigned numbers;                          /* so many in all */
 };
 
 extern const struct judged judged[];
 extern const unsigned judged_count;
+extern const unsigned judged_pointer; /* sizeof(void *) of the judged functions: 8, or 4 under ILP32 */
 
 extern unsigned char sink[ROOM];   /* where read values go */
 extern unsigned char source[ROOM]; /* the value to return */

@@ -2,7 +2,7 @@
 
 use crate::program::Answer;
 use crate::source::declaration;
-use crate::subject::{Subject, HIDDEN_ADDRESS};
+use crate::subject::Subject;
 use independent::cases::hex_of_bytes;
 use independent::listing::listing;
 use independent::moving::gathering;
@@ -11,9 +11,6 @@ use independent::refusal::Refusal;
 use independent::returning::taking;
 use independent::station::{attach, Station, SEAT};
 use independent::walk::{open, step, Walk};
-
-/// As an address, a mask that keeps each of its bytes.
-const EVERY_BYTE: u64 = 0x0101_0101_0101_0101;
 
 /// A difference: what was compared, gcc's answer, the layout's answer.
 pub struct Difference {
@@ -127,18 +124,17 @@ fn judge_return(subject: &Subject, answer: &Answer, judgement: &mut Judgement) {
         image.extend(&answer.after[start..start + 10]);
         image.extend([0; 6]);
     }
-    // The mask is put like a value: 0 and 1 are good _Bool bytes.
     judgement.equal_masked(
         "return image that a caller finds",
         &image,
-        &subject.put(HIDDEN_ADDRESS, &subject.returned),
-        &subject.put(EVERY_BYTE, &subject.return_mask),
+        &subject.put(),
+        &subject.return_image_mask(&subject.return_mask),
     );
     let expected = subject.returned_part(&subject.returned);
     let mut taken = vec![0; expected.len()];
     let address = taking(subject.description, &image, &mut taken);
     let in_memory = matches!(subject.accepted.layout.return_place, ReturnPlace::Memory(_));
-    let hidden = if in_memory { HIDDEN_ADDRESS } else { 0 };
+    let hidden = if in_memory { subject.hidden_address() } else { 0 };
     judgement.equal(
         "taking",
         format!("{address:x?}"),

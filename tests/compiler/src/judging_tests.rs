@@ -94,6 +94,25 @@ fn masked_bytes_make_no_difference() {
     assert_eq!(differences(text, |answer| answer.after[1] ^= 1), 0);
 }
 
+/// "When a value of pointer type is returned or passed in a register, bits 32 to 63
+/// shall be zero": so are they under ILP32, but not in a stack slot, nor above a
+/// pointer in a struct.
+#[test]
+fn upper_halves_of_pointers_in_registers_are_judged() {
+    let six = "pointer: pointer, pointer, pointer, pointer, pointer, struct{pointer}, pointer";
+    for (model, halves, slot) in [("", 2, 2), ("ilp32 ", 1, 0)] {
+        let text = &format!("{model}{six}");
+        assert_eq!(differences(text, |answer| answer.registers[7] ^= 1), halves);
+        assert_eq!(differences(text, |answer| answer.registers[5 * 8 + 4] ^= 1), slot);
+        assert_eq!(differences(text, |answer| answer.stack[4] ^= 1), slot);
+        assert_eq!(differences(text, |answer| answer.after[7] ^= 1), halves);
+    }
+    let memory = "ilp32 struct{char[17]}: int";
+    assert_eq!(differences(memory, |answer| answer.registers[3] ^= 1), 0);
+    assert_eq!(differences(memory, |answer| answer.registers[4] ^= 1), 1);
+    assert_eq!(differences(memory, |answer| answer.after[4] ^= 1), 2);
+}
+
 #[test]
 fn returns_in_memory_and_on_the_x87_stack_are_judged() {
     let memory = "struct{char[17]}: int";

@@ -10,7 +10,9 @@ mod source;
 mod subject;
 
 use independent::cases::{bytes_of_hex, CASES, LISTER};
-use independent::generator::{limits, random_description, LARGE, MIDDLE, SMALL, THOUGHT};
+use independent::description::{form, Model, MODELS};
+use independent::draft::in_both_models;
+use independent::generator::{limits, random_description, LARGE, MIDDLE, NARROW, SMALL, THOUGHT};
 use independent::notation::description;
 use independent::places::check;
 use independent::random::Random;
@@ -31,7 +33,7 @@ compiler DIRECTORY [options]   (C files and programs are made in DIRECTORY)
   --optimise O    gcc's option (default -O0)
   --gcc NAME      the gcc to judge by (default gcc); it must make x86-64 code
   --runner NAME   runs x86-64 programs where the machine itself does not
-  --sizes-only    judge sizes and alignments alone; any gcc for the LP64 model can.
+  --sizes-only    judge sizes and alignments of the LP64 model alone; any gcc for it can.
                   The C text of the whole judgement is read by gcc, but not run
 ";
 
@@ -92,18 +94,36 @@ struct Court {
     random: Random,
     batch: usize,
     started: Instant,
-    functions: usize,
+    /// Of each model.
+    functions: [usize; MODELS.len()],
     comparisons: usize,
     mismatches: usize,
 }
 
 impl Court {
     fn judge_all(&mut self, name: &str, descriptions: &[Vec<u8>]) -> Result<(), String> {
-        for batch in descriptions.chunks(self.batch) {
-            self.judge_batch(batch)?;
+        self.judge_model(Model::Lp64, name, descriptions)?;
+        if self.sizes_only {
+            // A gcc for another machine knows no ILP32 of x86-64.
+            return Ok(());
+        }
+        self.judge_model(Model::Ilp32, name, descriptions)
+    }
+
+    /// Those of one model: gcc compiles a file for one.
+    fn judge_model(
+        &mut self,
+        model: Model,
+        name: &str,
+        descriptions: &[Vec<u8>],
+    ) -> Result<(), String> {
+        let is_of_model = |bytes: &&[u8]| form(bytes).is_ok_and(|form| form.model() == model);
+        let all: Vec<&[u8]> = descriptions.iter().map(Vec::as_slice).filter(is_of_model).collect();
+        for batch in all.chunks(self.batch) {
+            self.judge_batch(model, batch)?;
             println!(
-                "{name}: {} functions, {} comparisons, {} mismatches, {:.1} s",
-                self.functions,
+                "{name}: {}, {} comparisons, {} mismatches, {:.1} s",
+                self.functions_text(),
                 self.comparisons,
                 self.mismatches,
                 self.started.elapsed().as_secs_f64()
@@ -112,7 +132,12 @@ impl Court {
         Ok(())
     }
 
-    fn judge_batch(&mut self, descriptions: &[Vec<u8>]) -> Result<(), String> {
+    fn functions_text(&self) -> String {
+        let [wide, narrow] = self.functions;
+        format!("{wide} functions of LP64, {narrow} of ILP32")
+    }
+
+    fn judge_batch(&mut self, model: Model, descriptions: &[&[u8]]) -> Result<(), String> {
         let random = &mut self.random;
         let subjects: Vec<Subject> =
             descriptions.iter().map(|bytes| Subject::new(random, bytes)).collect();
@@ -121,14 +146,14 @@ impl Court {
                 self.workshop.check_syntax(&subjects)?;
                 self.workshop.run_sizes(&subjects)?
             }
-            false => self.workshop.run(&subjects)?,
+            false => self.workshop.run(model, &subjects)?,
         };
         for (subject, answer) in subjects.iter().zip(&answers) {
             let judgement = match self.sizes_only {
                 true => judging::judge_sizes(subject, answer),
                 false => judging::judge(subject, answer),
             };
-            self.functions += 1;
+            self.functions[model as usize] += 1;
             self.comparisons += judgement.comparisons;
             if !judgement.differences.is_empty() {
                 self.mismatches += 1;
@@ -152,12 +177,14 @@ impl Court {
 }
 
 /// The cases of document 01, the aggregates that need thought and the drafts
-/// near the limits, as far as they are accepted.
+/// near the limits, in both models, as far as they are accepted.
 fn printed_functions() -> Vec<Vec<u8>> {
     let texts = CASES.iter().map(|case| case.function).chain(THOUGHT);
     let mut all: Vec<Vec<u8>> = texts.map(description).collect();
     all.push(bytes_of_hex(LISTER));
     all.extend(limits().into_iter().map(|(_, bytes)| bytes));
+    let mut all = in_both_models(all);
+    all.extend(NARROW.iter().map(|text| description(text)));
     all.retain(|bytes| check(bytes).number == 0);
     all
 }
@@ -187,7 +214,7 @@ fn judge(options: &Options) -> Result<Court, String> {
         random: Random::new(options.seed),
         batch: options.batch,
         started: Instant::now(),
-        functions: 0,
+        functions: [0; MODELS.len()],
         comparisons: 0,
         mismatches: 0,
     };
@@ -220,13 +247,14 @@ fn main() -> ExitCode {
     match judge(&options) {
         Ok(court) if court.mismatches == 0 => {
             println!(
-                "compiler: gcc agrees on {what} of {} functions, {} comparisons",
-                court.functions, court.comparisons
+                "compiler: gcc agrees on {what} of {}, {} comparisons",
+                court.functions_text(),
+                court.comparisons
             );
             ExitCode::SUCCESS
         }
         Ok(court) => {
-            println!("compiler: FAILED, {} of {} functions", court.mismatches, court.functions);
+            println!("compiler: FAILED, {} of {}", court.mismatches, court.functions_text());
             ExitCode::FAILURE
         }
         Err(error) => {

@@ -2,6 +2,7 @@
 
 use crate::source::{sizes_source, source};
 use crate::subject::Subject;
+use independent::description::Model;
 use independent::moving::REGISTER_IMAGE;
 use std::path::{Path, PathBuf};
 use std::process::{Command, Output};
@@ -111,14 +112,27 @@ impl Workshop {
         command.output().map_err(|error| format!("{program}: {error}"))
     }
 
-    /// Compiles and runs a batch. A program that ends too early answers for the
-    /// subjects before the one that it fell over.
-    pub fn run(&self, subjects: &[Subject]) -> Result<Vec<Answer>, String> {
+    /// What of a batch is linked. gcc compiles ILP32 to assembly, and that is
+    /// assembled as 64-bit code, beside the 64-bit harness: so neither a C library
+    /// nor a kernel for ILP32 is needed.
+    fn compiled(&self, model: Model) -> Result<&'static str, String> {
+        match model {
+            Model::Lp64 => Ok("batch.c"),
+            Model::Ilp32 => {
+                self.gcc(&["-mx32", "-fcf-protection=none", "-S", "batch.c", "-o", "batch.s"])?;
+                Ok("batch.s")
+            }
+        }
+    }
+
+    /// Compiles and runs a batch of one model. A program that ends too early
+    /// answers for the subjects before the one that it fell over.
+    pub fn run(&self, model: Model, subjects: &[Subject]) -> Result<Vec<Answer>, String> {
         let path = |name: &str| self.directory.join(name);
         let text = |error: std::io::Error| error.to_string();
         std::fs::write(path("batch.c"), source(subjects)).map_err(text)?;
         std::fs::write(path("jobs.bin"), jobs(subjects)).map_err(text)?;
-        self.gcc(&["batch.c", "harness.o", "probe.o", "-o", "batch"])?;
+        self.gcc(&[self.compiled(model)?, "harness.o", "probe.o", "-o", "batch"])?;
         let output = self.execute("./batch", &["jobs.bin", "answers.bin"])?;
         let answers = std::fs::read(path("answers.bin")).map_err(text)?;
         if !output.status.success() {

@@ -1,7 +1,9 @@
 //! All small aggregates: structs and unions of one to three members over the
-//! sixteen basic types, each as the sole argument and as the return type.
+//! sixteen basic types, each as the sole argument and as the return type; and
+//! those with a pointer under ILP32 as well.
 
-use independent::draft::Draft;
+use independent::draft::{in_ilp32, Draft};
+use independent::types::code;
 
 const CODES: usize = 16;
 
@@ -38,8 +40,11 @@ pub fn small_aggregates(stride: usize, first: usize) -> Vec<Vec<u8>> {
         let is_wanted = number < runs(2) || number % stride == first % stride;
         if is_wanted {
             let codes = codes_of(number);
-            all.push(description(&codes, false));
-            all.push(description(&codes, true));
+            let both = [description(&codes, false), description(&codes, true)];
+            if codes.contains(&code::POINTER) {
+                all.extend(both.iter().map(|bytes| in_ilp32(bytes)));
+            }
+            all.extend(both);
         }
     }
     all

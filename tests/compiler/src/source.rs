@@ -2,8 +2,8 @@
 //! argument is named, one walk for each description.
 
 use crate::subject::Subject;
-use independent::description::{ARRAY, BASIC, VOID};
-use independent::types::Types;
+use independent::description::{Model, ARRAY, BASIC, VOID};
+use independent::types::{code, Types};
 use std::fmt::Write;
 
 const BASIC_NAMES: [&str; 16] = [
@@ -25,7 +25,17 @@ const BASIC_NAMES: [&str; 16] = [
     "void *",
 ];
 
-/// The C file for a batch of subjects.
+/// How C writes a basic type. Under ILP32 "long is described by code 3 and long
+/// long by code 4": int and long take turns there.
+fn basic_name(index: usize, model: Model, basic: u8) -> &'static str {
+    match (model, basic) {
+        (Model::Ilp32, code::LONG) => "long long",
+        (Model::Ilp32, code::INT) if index % 2 == 1 => "long",
+        _ => BASIC_NAMES[basic as usize],
+    }
+}
+
+/// The C file for a batch of subjects of one model.
 pub fn source(subjects: &[Subject]) -> String {
     let mut text = String::from("#include \"harness.h\"\n");
     for (index, subject) in subjects.iter().enumerate() {
@@ -66,11 +76,12 @@ fn type_name(index: usize, type_number: u8) -> String {
 /// One typedef for each type of the description.
 pub fn type_definitions(index: usize, types: &Types) -> String {
     let mut text = String::new();
+    let model = types.description().model();
     for number in 0..types.description().types() as u8 {
         let name = type_name(index, number);
         let record = types.record(number);
         let line = match record.kind {
-            BASIC => format!("typedef {} {name};", BASIC_NAMES[record.a as usize]),
+            BASIC => format!("typedef {} {name};", basic_name(index, model, record.a)),
             ARRAY => {
                 format!("typedef {} {name}[{}];", type_name(index, record.a), record.count)
             }
@@ -245,5 +256,6 @@ fn table(subjects: &[Subject]) -> String {
         .expect("text");
     }
     write!(text, "}};\nconst unsigned judged_count = {};\n", subjects.len()).expect("text");
+    text.push_str("const unsigned judged_pointer = sizeof(void *);\n");
     text
 }

@@ -2,15 +2,22 @@
 
 use crate::significant::{random_value, significant};
 use crate::source::spaced_offsets;
-use independent::description::VOID;
-use independent::moving::{placing, REGISTER_IMAGE};
-use independent::places::{accepted, Accepted, ReturnPlace, ReturnRegister};
+use independent::description::{Model, VOID};
+use independent::moving::{placing, register_start, REGISTER_IMAGE};
+use independent::places::{accepted, Accepted, Place, ReturnPlace, ReturnRegister};
 use independent::random::Random;
-use independent::returning::{putting, RETURN_IMAGE};
+use independent::returning::{putting, return_spots, RETURN_IMAGE};
+use independent::types::{basic_measure, code};
 use independent::walk::{offsets_after, Offsets};
+use std::ops::Range;
 
 /// Where the harness keeps room for a value returned in memory.
-pub const HIDDEN_ADDRESS: u64 = 0x2000_0000_0000;
+fn hidden_address(model: Model) -> u64 {
+    match model {
+        Model::Lp64 => 0x2000_0000_0000,
+        Model::Ilp32 => 0xE000_0000,
+    }
+}
 
 pub struct Subject<'a> {
     pub description: &'a [u8],
@@ -43,11 +50,18 @@ impl<'a> Subject<'a> {
         }
         let (returned, return_mask) = returned_value(random, &accepted);
         let area = accepted.layout.area.0;
-        let (registers, stack) = placed(description, HIDDEN_ADDRESS, &values, area);
+        let address = hidden_address(accepted.types.description().model());
+        let (registers, stack) = placed(description, address, &values, area);
         // The masks are placed like values: 0 and 1 are good _Bool bytes.
-        let (register_mask, stack_mask) = placed(description, 0, &value_mask, area);
-        let (all_registers, all_stack) =
-            placed(description, u64::MAX, &vec![1; values.len()], area);
+        let (mut register_mask, stack_mask) = placed(description, 0, &value_mask, area);
+        let (mut all_registers, all_stack) = placed(description, 0, &vec![1; values.len()], area);
+        if accepted.layout.hidden_address {
+            all_registers[..8].fill(1);
+        }
+        for half in upper_halves(&accepted) {
+            register_mask[half.clone()].fill(1);
+            all_registers[half].fill(1);
+        }
         let entered_registers = with_rubbish(random, &registers, &all_registers);
         let entered_stack = with_rubbish(random, &stack, &all_stack);
         Subject {
@@ -118,21 +132,44 @@ impl<'a> Subject<'a> {
         }
     }
 
+    /// Where the harness has gcc's function lay a value that it returns in memory.
+    pub fn hidden_address(&self) -> u64 {
+        hidden_address(self.accepted.types.description().model())
+    }
+
     /// What the probe leaves: the value in its return places, and no zero where
     /// nothing is put.
     pub fn return_image(&self) -> Vec<u8> {
-        let used = self.put(u64::MAX, &vec![1; self.returned.len()]);
-        let pairs = self.put(HIDDEN_ADDRESS, &self.returned).into_iter().zip(used);
+        let used = self.return_image_mask(&vec![1; self.returned.len()]);
+        let pairs = self.put().into_iter().zip(used);
         pairs.map(|(byte, used)| if used == 0 { 0x77 } else { byte }).collect()
     }
 
-    /// The return image that putting makes of a value; one in memory has no
-    /// bytes there.
-    pub fn put(&self, hidden: u64, value: &[u8]) -> Vec<u8> {
+    /// The return image that putting makes of the returned value; one in memory
+    /// has no bytes there.
+    pub fn put(&self) -> Vec<u8> {
         let mut image = vec![0xDD; RETURN_IMAGE];
-        putting(self.description, hidden, self.returned_part(value), &mut image)
+        let value = self.returned_part(&self.returned);
+        putting(self.description, self.hidden_address(), value, &mut image)
             .expect("right lengths and values");
         image
+    }
+
+    /// Which bytes of the return image are compared, or used, by which of the
+    /// value's are. An address is, to its upper half.
+    pub fn return_image_mask(&self, value_mask: &[u8]) -> Vec<u8> {
+        let mut mask = vec![0; RETURN_IMAGE];
+        for (kept, spot) in value_mask.iter().zip(return_spots(&self.accepted)) {
+            if let Some(offset) = spot {
+                mask[offset.0] = *kept;
+            }
+        }
+        let returned = self.accepted.types.description().return_number();
+        let is_pointer = returned != VOID && self.accepted.types.is_basic(returned, code::POINTER);
+        if is_pointer || self.accepted.layout.hidden_address {
+            mask[..8].fill(1);
+        }
+        mask
     }
 
     /// What of a returned value, or of anything as long, is put and taken.
@@ -142,6 +179,26 @@ impl<'a> Subject<'a> {
             ReturnPlace::Void | ReturnPlace::Memory(_) => &[],
         }
     }
+}
+
+/// The upper halves of pointers in registers, the hidden address among them: "When
+/// a value of pointer type is returned or passed in a register, bits 32 to 63 shall
+/// be zero" (000, section 10.1). Under LP64 they are part of the value, and there
+/// is none.
+fn upper_halves(accepted: &Accepted) -> Vec<Range<usize>> {
+    let pointer = basic_measure(accepted.types.description().model(), code::POINTER).size.0;
+    let mut starts = Vec::new();
+    if accepted.layout.hidden_address {
+        starts.push(0);
+    }
+    for placement in &accepted.layout.placements {
+        if let Place::Registers(registers) = &placement.place {
+            if accepted.types.is_basic(placement.type_number, code::POINTER) {
+                starts.push(register_start(registers[0]).0);
+            }
+        }
+    }
+    starts.into_iter().map(|start| start + pointer..start + 8).collect()
 }
 
 fn returned_value(random: &mut Random, accepted: &Accepted) -> (Vec<u8>, Vec<u8>) {

@@ -1,7 +1,7 @@
 //! Descriptions for each refusal 1 to 10 and for each pair of them, in which
 //! both conditions hold: the lower number must be answered.
 
-use crate::description::{ARRAY, BASIC, STRUCT, UNION, VOID};
+use crate::description::{ARRAY, BASIC, ILP32, STRUCT, UNION, VOID};
 use crate::draft::Draft;
 use crate::random::Random;
 use crate::types::code;
@@ -48,23 +48,24 @@ pub fn damaged(random: &mut Random, refusals: &[u8]) -> Vec<u8> {
 }
 
 /// A plain ground: some basic types, a struct, an array and a variadic function
-/// of a few arguments.
+/// of a few arguments, of either model.
 fn ground(random: &mut Random) -> Draft {
     let mut draft = Draft::new();
-    for code in [code::INT, code::DOUBLE, code::LONG, code::LONG_DOUBLE] {
+    draft.flags = random.choose(&[0, ILP32]);
+    for code in [code::INT, code::DOUBLE, code::LONG, code::LONG_DOUBLE, code::POINTER] {
         draft.basic(code);
     }
-    let pair = [random.below(4) as u8, random.below(4) as u8];
+    let pair = [random.below(5) as u8, random.below(5) as u8];
     let structure = draft.structure(&pair);
     let array = draft.array(1, random.between(1, 5));
     draft.union(&[array, 2]);
     draft.returned = random.choose(&[VOID, 0, 1, 3, structure]);
     for _ in 0..random.below(3) {
-        draft.argument(random.below(4) as u8);
+        draft.argument(random.below(5) as u8);
     }
     draft.ellipsis();
     for _ in 0..random.below(3) {
-        draft.argument(random.below(5) as u8);
+        draft.argument(random.below(6) as u8);
     }
     draft
 }
@@ -102,16 +103,20 @@ fn add_wrong_number(random: &mut Random, draft: &mut Draft) {
 }
 
 fn add_large_type(random: &mut Random, draft: &mut Draft) {
-    match random.below(4) {
+    match random.below(5) {
         0 => {
             draft.array(2, 513);
         }
         1 => {
+            let pointer = draft.basic(code::POINTER);
+            draft.array(pointer, 1025);
+        }
+        2 => {
             let block = draft.block(4096);
             let character = draft.basic(code::CHAR);
             draft.structure(&[block, character]);
         }
-        2 => {
+        3 => {
             let inner = draft.array(2, 512);
             let outer = draft.array(inner, 4096);
             draft.union(&[outer]);
@@ -161,11 +166,12 @@ fn change_counts(random: &mut Random, bytes: &mut [u8]) {
     match random.below(6) {
         0 => bytes[5] = random.choose(&[65, 128, 255]),
         1 => bytes[8] = random.choose(&[65, 255]),
-        2 | 3 => bytes[6] = random.choose(&[2, 128, 255]),
+        2 | 3 => bytes[6] = random.choose(&[4, 5, 6, 7, 128, 255]),
         4 => bytes[7] = bytes[8] + 1,
+        // N is not A, and bit 0 is 0.
         _ => {
-            bytes[6] = 0;
-            bytes[7] = bytes[8] + 1;
+            bytes[6] &= ILP32;
+            bytes[7] = bytes[8].checked_sub(1).unwrap_or(1);
         }
     }
 }

@@ -26,6 +26,20 @@ pub const ARRAY: u8 = 1;
 pub const STRUCT: u8 = 2;
 pub const UNION: u8 = 3;
 
+/// The bits of byte 6: "Bit 1 of byte 6 selects it; bit 0 remains the variadic
+/// mark" (02, 2026-11).
+pub const VARIADIC: u8 = 1;
+pub const ILP32: u8 = 2;
+
+/// The two programming models of 000.
+#[derive(Clone, Copy, Debug, PartialEq, Eq)]
+pub enum Model {
+    Lp64,
+    Ilp32,
+}
+
+pub const MODELS: [Model; 2] = [Model::Lp64, Model::Ilp32];
+
 /// A description whose length is at least that of the head. Only `form` makes
 /// one that the rest of this library may rely on.
 #[derive(Clone, Copy, Debug)]
@@ -48,12 +62,19 @@ impl<'a> Description<'a> {
     }
 
     /// byte 6
-    pub fn variadic_byte(&self) -> u8 {
+    pub fn flags(&self) -> u8 {
         self.bytes[6]
     }
 
     pub fn is_variadic(&self) -> bool {
-        self.variadic_byte() == 1
+        self.flags() & VARIADIC != 0
+    }
+
+    pub fn model(&self) -> Model {
+        match self.flags() & ILP32 {
+            0 => Model::Lp64,
+            _ => Model::Ilp32,
+        }
     }
 
     /// N
@@ -121,13 +142,14 @@ fn has_wrong_version(description: Description) -> bool {
     description.version() != 1
 }
 
-/// 4: "N is at most A, and equals A where byte 6 is 0."
+/// 4: "N is at most A, and equals A where bit 0 is 0"; "4 admits bit 1" (02,
+/// 2026-11), and no other bit.
 fn has_counts_against_rules(description: Description) -> bool {
     description.types() > MOST_TYPES
         || description.arguments() > MOST_ARGUMENTS
-        || description.variadic_byte() > 1
+        || description.flags() > VARIADIC + ILP32
         || description.named() > description.arguments()
-        || (description.variadic_byte() == 0 && description.named() != description.arguments())
+        || (!description.is_variadic() && description.named() != description.arguments())
 }
 
 /// 5: "and nothing more: 11 + 4T + M + A bytes".

@@ -1,7 +1,7 @@
 //! A description in the making. Nothing is checked: drafts may be wrong on
 //! purpose.
 
-use crate::description::{ARRAY, BASIC, STRUCT, UNION, VOID};
+use crate::description::{ARRAY, BASIC, ILP32, STRUCT, UNION, VARIADIC, VOID};
 
 #[derive(Clone, Debug)]
 pub struct Draft {
@@ -10,7 +10,7 @@ pub struct Draft {
     pub records: Vec<[u8; 4]>,
     pub members: Vec<u8>,
     pub arguments: Vec<u8>,
-    pub variadic: u8,
+    pub flags: u8,
     pub named: u8,
     pub returned: u8,
 }
@@ -23,7 +23,7 @@ impl Default for Draft {
             records: Vec::new(),
             members: Vec::new(),
             arguments: Vec::new(),
-            variadic: 0,
+            flags: 0,
             named: 0,
             returned: VOID,
         }
@@ -81,7 +81,7 @@ impl Draft {
     /// One more argument, named where the function is not variadic yet.
     pub fn argument(&mut self, type_number: u8) {
         self.arguments.push(type_number);
-        if self.variadic == 0 {
+        if !self.is_variadic() {
             self.named = self.arguments.len() as u8;
         }
     }
@@ -92,9 +92,13 @@ impl Draft {
         }
     }
 
+    pub fn is_variadic(&self) -> bool {
+        self.flags & VARIADIC != 0
+    }
+
     /// Arguments from here on are unnamed.
     pub fn ellipsis(&mut self) {
-        self.variadic = 1;
+        self.flags |= VARIADIC;
         self.named = self.arguments.len() as u8;
     }
 
@@ -102,7 +106,7 @@ impl Draft {
         let mut bytes = self.mark.to_vec();
         bytes.extend(self.version.to_le_bytes());
         bytes.push(self.records.len() as u8);
-        bytes.push(self.variadic);
+        bytes.push(self.flags);
         bytes.push(self.named);
         bytes.push(self.arguments.len() as u8);
         bytes.push(self.returned);
@@ -112,4 +116,19 @@ impl Draft {
         bytes.extend(&self.arguments);
         bytes
     }
+}
+
+/// Each description, then each under ILP32.
+pub fn in_both_models(mut all: Vec<Vec<u8>>) -> Vec<Vec<u8>> {
+    all.extend(all.clone().iter().map(|bytes| in_ilp32(bytes)));
+    all
+}
+
+/// The same bytes under ILP32, where there is a byte 6 to say it.
+pub fn in_ilp32(bytes: &[u8]) -> Vec<u8> {
+    let mut bytes = bytes.to_vec();
+    if let Some(flags) = bytes.get_mut(6) {
+        *flags |= ILP32;
+    }
+    bytes
 }

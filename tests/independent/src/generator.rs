@@ -1,6 +1,6 @@
 //! Random descriptions that are accepted, and drafts near every limit.
 
-use crate::description::{ARRAY, BASIC, MOST_TYPES, STRUCT, UNION, VOID};
+use crate::description::{ARRAY, BASIC, ILP32, MOST_TYPES, STRUCT, UNION, VOID};
 use crate::draft::Draft;
 use crate::notation;
 use crate::places::check;
@@ -23,10 +23,11 @@ pub const MIDDLE: Shape =
 pub const LARGE: Shape =
     Shape { most_types: 64, most_arguments: 64, most_members: 20, largest: 4096 };
 
-/// Codes that go in registers are drawn oftener, so that registers run out.
-const CODES: [u8; 32] = [
+/// Codes that go in registers are drawn oftener, so that registers run out, and
+/// pointers, whose size the model changes.
+const CODES: [u8; 35] = [
     0, 1, 2, 3, 4, 5, 6, 7, 8, 9, 10, 11, 12, 13, 14, 15, 1, 2, 3, 4, 4, 5, 6, 6, 7, 7, 8, 9, 11,
-    12, 13, 15,
+    12, 13, 15, 15, 15, 15,
 ];
 
 /// A description of this shape that passes 1 to 10.
@@ -41,9 +42,10 @@ pub fn random_description(random: &mut Random, shape: Shape) -> Vec<u8> {
     }
 }
 
-/// Basic types first, then aggregates over them.
+/// Of either model. Basic types first, then aggregates over them.
 pub fn random_types(random: &mut Random, shape: Shape) -> Draft {
     let mut draft = Draft::new();
+    draft.flags = random.choose(&[0, ILP32]);
     let wanted = random.between(1, shape.most_types);
     let basics = random.between(1, wanted);
     for _ in 0..basics {
@@ -150,7 +152,7 @@ fn add_arguments(random: &mut Random, shape: Shape, draft: &mut Draft) {
         }
         draft.argument(random.choose(from));
     }
-    if variadic && draft.variadic == 0 {
+    if variadic && !draft.is_variadic() {
         draft.ellipsis();
     }
 }
@@ -191,6 +193,10 @@ fn type_limits() -> Vec<Named> {
         ("array of arrays of 4,160", "void: struct{char[64][65]}"),
         ("int128 of 4,096", "struct{int128[256]}: struct{int128[256]}"),
         ("int128 of 4,112", "void: struct{int128[257]}"),
+        ("pointers of 4,096", "void: struct{pointer[512]}"),
+        ("pointers of 4,104", "void: struct{pointer[513]}"),
+        ("pointers of ILP32, 4,096", "ilp32 void: struct{pointer[1024]}"),
+        ("pointers of ILP32, 4,100", "ilp32 void: struct{pointer[1025]}"),
     ];
     texts.iter().map(|(name, text)| (*name, notation::description(text))).collect()
 }
@@ -407,4 +413,31 @@ pub const THOUGHT: [&str; 44] = [
     "void: pointer, m64, short, struct{pointer}",
     "struct{char[16]}: struct{char[17]}, struct{char[16]}, struct{char[8]}",
     "struct{struct{struct{char}}}: ..., struct{char}, complex_float, m64, struct{float}",
+];
+
+/// The same for ILP32: pointers of four bytes, alone, in pairs and beside others,
+/// in registers and in stack slots, and hidden addresses.
+pub const NARROW: [&str; 22] = [
+    "ilp32 void: struct{pointer, pointer}",
+    "ilp32 void: struct{float, pointer, double}",
+    "ilp32 void: struct{float, float, pointer}",
+    "ilp32 void: struct{double, pointer}",
+    "ilp32 void: struct{pointer, complex_float}",
+    "ilp32 void: struct{pointer, float, float, pointer}",
+    "ilp32 void: struct{char, pointer}, struct{char, pointer, char}, struct{pointer, char}",
+    "ilp32 void: struct{pointer, long}, struct{int, pointer}, struct{short, pointer[2]}",
+    "ilp32 void: union{pointer, float}, union{float, pointer}, union{double, pointer}",
+    "ilp32 void: union{pointer, long_double}",
+    "ilp32 void: union{pointer, int128}, union{m128, pointer}, union{m128, pointer[4]}",
+    "ilp32 struct{pointer[4]}: struct{pointer[4]}, struct{pointer[5]}, struct{pointer[3]}",
+    "ilp32 struct{pointer[5]}: pointer, struct{pointer, double}",
+    "ilp32 struct{char[17]}: pointer, bool, int",
+    "ilp32 union{long_double, pointer}: pointer",
+    "ilp32 pointer: pointer, pointer, pointer, pointer, pointer, pointer, pointer, pointer, int",
+    "ilp32 struct{pointer}: long, long, long, long, long, struct{pointer, pointer, int}, pointer",
+    "ilp32 struct{double, pointer}: char, pointer, short, pointer, m64, pointer",
+    "ilp32 pointer: pointer, ..., pointer, double, struct{pointer, double}, long_double, pointer",
+    "ilp32 struct{pointer[5]}: ..., pointer, int, pointer, long, pointer, pointer, int128, pointer",
+    "ilp32 void: long, long, long, long, long, ..., struct{pointer, pointer}, pointer, long",
+    "ilp32 struct{pointer, pointer}: int, ..., struct{pointer[3]}, struct{char, pointer}",
 ];

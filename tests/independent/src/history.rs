@@ -2,9 +2,9 @@
 //! of images; what each command answers; and random histories.
 
 use crate::cases::hex_of_bytes;
-use crate::description::{MOST_ARGUMENTS, STRUCT};
+use crate::description::{Model, MOST_ARGUMENTS, STRUCT};
 use crate::generator::{random_description, Shape};
-use crate::moving::{placing, Image, REGISTER_IMAGE};
+use crate::moving::{placing, Image, NARROW_ADDRESSES, REGISTER_IMAGE};
 use crate::places::accepted;
 use crate::random::Random;
 use crate::refusal::{told, Told};
@@ -354,13 +354,35 @@ pub fn random_values(random: &mut Random, description: &[u8]) -> Vec<u8> {
     values
 }
 
+/// Addresses on both sides of what ILP32 admits.
+pub const ADDRESSES: [u64; 4] = [0, NARROW_ADDRESSES - 1, NARROW_ADDRESSES, u64::MAX];
+
+/// A hidden address that the model of an accepted description admits.
+pub fn random_address(random: &mut Random, description: &[u8]) -> u64 {
+    let accepted = accepted(description).expect("addresses are drawn for accepted ones");
+    match accepted.types.description().model() {
+        Model::Lp64 => random.next(),
+        Model::Ilp32 => random.next() % NARROW_ADDRESSES,
+    }
+}
+
+/// Any hidden address, those that ILP32 admits half of the time.
+pub fn any_address(random: &mut Random) -> u64 {
+    match random.below(3) {
+        0 => random.choose(&ADDRESSES),
+        1 => random.next() % NARROW_ADDRESSES,
+        _ => random.next(),
+    }
+}
+
 /// Images as placing leaves them for random values.
 pub fn random_images(random: &mut Random, description: &[u8]) -> (Vec<u8>, Vec<u8>) {
     let values = random_values(random, description);
     let area = accepted(description).expect("accepted").layout.area.0;
     let mut registers = vec![0; REGISTER_IMAGE];
     let mut stack = vec![0; area];
-    placing(description, random.next(), &values, &mut registers, &mut stack)
+    let address = random_address(random, description);
+    placing(description, address, &values, &mut registers, &mut stack)
         .expect("right lengths and values");
     (registers, stack)
 }

@@ -3,6 +3,7 @@
 
 use crate::broken::{broken, random_broken};
 use crate::damage::{damaged, refusals_and_pairs};
+use crate::draft::in_both_models;
 use crate::generator::{limits, random_description, towers, LARGE, MIDDLE, SMALL};
 use crate::random::Random;
 
@@ -16,7 +17,7 @@ impl Mixture {
     pub fn new() -> Mixture {
         let named = limits().into_iter().chain(towers()).map(|(_, bytes)| bytes);
         let by_hand = named.chain(broken().into_iter().map(|one| one.bytes)).collect();
-        Mixture { refusals: refusals_and_pairs(), by_hand }
+        Mixture { refusals: refusals_and_pairs(), by_hand: in_both_models(by_hand) }
     }
 
     /// The next bytes: more than half of them are an accepted description.

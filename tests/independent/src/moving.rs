@@ -1,5 +1,6 @@
 //! "Images and moving bytes": placing and gathering.
 
+use crate::description::Model;
 use crate::places::{accepted, Accepted, Layout, Place, Placement, Register};
 use crate::refusal::Refusal;
 use crate::types::code;
@@ -70,6 +71,19 @@ fn check_lengths(
     }
 }
 
+/// The first address that is none of ILP32.
+pub const NARROW_ADDRESSES: u64 = 1 << 32;
+
+/// 27: "after 11 in placing and putting, a hidden address in use of 2^32 or
+/// more", under ILP32 (02, 2026-11): before 12 as well.
+pub fn check_address(accepted: &Accepted, hidden_address: u64) -> Result<(), Refusal> {
+    let is_narrow = accepted.types.description().model() == Model::Ilp32;
+    if is_narrow && accepted.layout.hidden_address && hidden_address >= NARROW_ADDRESSES {
+        return Err(Refusal::AddressTooWide);
+    }
+    Ok(())
+}
+
 /// 12: "A _Bool argument's byte must be 0 or 1; one inside an aggregate may be
 /// anything."
 fn check_bools(accepted: &Accepted, values: &[u8]) -> Result<(), Refusal> {
@@ -95,6 +109,7 @@ pub fn placing(
     let accepted = accepted(bytes)?;
     let layout = &accepted.layout;
     check_lengths(layout, values.len(), registers.len(), stack.len())?;
+    check_address(&accepted, hidden_address)?;
     check_bools(&accepted, values)?;
     registers.fill(0);
     stack.fill(0);
@@ -112,7 +127,8 @@ pub fn placing(
 }
 
 /// "Gathering does the reverse, looks at no unused byte, and takes a _Bool byte
-/// as it finds it." Answers the hidden address, 0 where none is in use.
+/// as it finds it." Answers the hidden address, 0 where none is in use: all 64
+/// bits of rdi, under ILP32 too.
 pub fn gathering(
     bytes: &[u8],
     registers: &[u8],

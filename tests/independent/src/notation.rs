@@ -1,7 +1,9 @@
 //! Descriptions written as text, so that cases can be read:
 //! `"void: int, double, ..., int, struct{float, char[3]}"`. First the return
-//! type, then the arguments; `...` stands before the unnamed ones.
+//! type, then the arguments; `...` stands before the unnamed ones, and `ilp32`
+//! before all of it for that model.
 
+use crate::description::ILP32;
 use crate::draft::Draft;
 
 /// Names of the basic types, each at the place of its code.
@@ -113,6 +115,9 @@ impl Reader<'_> {
 /// The draft that a text describes.
 pub fn draft(text: &str) -> Draft {
     let mut reader = Reader { rest: text, draft: Draft::new() };
+    if reader.accept("ilp32 ") {
+        reader.draft.flags |= ILP32;
+    }
     if !reader.accept("void") {
         reader.draft.returned = reader.type_number();
     }

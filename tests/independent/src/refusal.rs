@@ -48,6 +48,8 @@ pub enum Refusal {
     AtEnd,
     /// "type number asked differs from the argument's"
     OtherType,
+    /// "a hidden address in use of 2^32 or more" (02, 2026-11)
+    AddressTooWide,
 }
 
 impl Refusal {
@@ -74,6 +76,7 @@ impl Refusal {
             Refusal::WrongRecord => 18,
             Refusal::AtEnd => 19,
             Refusal::OtherType => 20,
+            Refusal::AddressTooWide => 27,
         }
     }
 

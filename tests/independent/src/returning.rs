@@ -1,5 +1,6 @@
 //! Document 02, request 2026-02, "Bringing the result back": putting and taking.
 
+use crate::moving::check_address;
 use crate::places::{accepted, Accepted, ReturnPlace, ReturnRegister};
 use crate::refusal::Refusal;
 use crate::types::code;
@@ -84,6 +85,7 @@ pub fn putting(
 ) -> Result<(), Refusal> {
     let accepted = accepted(bytes)?;
     check_lengths(&accepted, value.len(), image.len())?;
+    check_address(&accepted, hidden_address)?;
     check_bool(&accepted, value)?;
     image.fill(0);
     if accepted.layout.hidden_address {
@@ -98,7 +100,7 @@ pub fn putting(
 }
 
 /// The reverse: the bytes that have no place are zero. Answers the hidden
-/// address, 0 where none is carried.
+/// address, 0 where none is carried: all 64 bits of rax, under ILP32 too.
 pub fn taking(bytes: &[u8], image: &[u8], value: &mut [u8]) -> Result<u64, Refusal> {
     let accepted = accepted(bytes)?;
     check_lengths(&accepted, value.len(), image.len())?;

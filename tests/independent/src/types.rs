@@ -1,7 +1,7 @@
 //! Sizes and alignments, refusal 7, and the questions for a member run and for
 //! the members' offsets.
 
-use crate::description::{form, Description, Record, ARRAY, BASIC, STRUCT, UNION};
+use crate::description::{form, Description, Model, Record, ARRAY, BASIC, STRUCT, UNION};
 use crate::refusal::Refusal;
 use crate::units::Bytes;
 use std::ops::Range;
@@ -39,13 +39,22 @@ fn measure(size: usize, alignment: usize) -> Measure {
     Measure { size: Bytes(size), alignment: Bytes(alignment) }
 }
 
+/// "Pointers (code 15) become 4 bytes, alignment 4" (02, 2026-11).
+fn pointer_measure(model: Model) -> Measure {
+    match model {
+        Model::Lp64 => measure(8, 8),
+        Model::Ilp32 => measure(4, 4),
+    }
+}
+
 /// The column "Size/align" of the table of codes.
-pub fn basic_measure(basic: u8) -> Measure {
+pub fn basic_measure(model: Model, basic: u8) -> Measure {
     match basic {
         code::BOOL | code::CHAR => measure(1, 1),
         code::SHORT => measure(2, 2),
         code::INT | code::FLOAT => measure(4, 4),
-        code::LONG | code::POINTER | code::DOUBLE | code::M64 => measure(8, 8),
+        code::LONG | code::DOUBLE | code::M64 => measure(8, 8),
+        code::POINTER => pointer_measure(model),
         code::INT128 | code::LONG_DOUBLE | code::FLOAT128 | code::M128 => measure(16, 16),
         code::COMPLEX_FLOAT => measure(8, 4),
         code::COMPLEX_DOUBLE => measure(16, 8),
@@ -139,7 +148,7 @@ impl<'a> Types<'a> {
     fn measured(&self, type_number: u8) -> Measure {
         let record = self.record(type_number);
         match record.kind {
-            BASIC => basic_measure(record.a),
+            BASIC => basic_measure(self.description.model(), record.a),
             ARRAY => self.array_measure(record),
             _ => self.member_measure(type_number),
         }

@@ -5,9 +5,13 @@ use crate::broken::{broken, random_broken, wholly_mended};
 use crate::cases::{bytes_of_hex, CASES, LISTER};
 use crate::classes::classes_of;
 use crate::damage::{damaged, refusals_and_pairs};
-use crate::draft::Draft;
-use crate::generator::{self, random_description, Shape, LARGE, MIDDLE, SMALL, THOUGHT};
-use crate::history::{random_history, random_images, random_values, word_and_hex, Command, Script};
+use crate::description::ILP32;
+use crate::draft::{in_both_models, Draft};
+use crate::generator::{self, random_description, Shape, LARGE, MIDDLE, NARROW, SMALL, THOUGHT};
+use crate::history::{
+    any_address, random_address, random_history, random_images, random_values, word_and_hex,
+    Command, Script, ADDRESSES,
+};
 use crate::listing::listing;
 use crate::moving::{gathering, placing, REGISTER_IMAGE};
 use crate::notation::{self, description};
@@ -57,20 +61,35 @@ pub fn all_pairs(seed: u64) -> Vec<Pair> {
     made.collect()
 }
 
+/// The cases of document 01 and the aggregates that need thought, in both models,
+/// and those that need it under ILP32.
+fn printed_functions() -> Vec<Vec<u8>> {
+    let texts = CASES.iter().map(|case| case.function).chain(THOUGHT);
+    let mut all = in_both_models(texts.map(description).collect());
+    all.extend(NARROW.iter().map(|text| description(text)));
+    all
+}
+
+fn limits() -> Vec<Vec<u8>> {
+    in_both_models(generator::limits().into_iter().map(|(_, bytes)| bytes).collect())
+}
+
+fn towers() -> Vec<Vec<u8>> {
+    generator::towers().into_iter().map(|(_, bytes)| bytes).collect()
+}
+
 // ---- questions
 
 fn questions(random: &mut Random) -> Writer {
     let mut writer = Writer::new("questions");
-    for code in 0..=15 {
-        let mut draft = Draft::new();
-        draft.basic(code);
-        ask(&mut writer, &draft.bytes(), 0);
+    for bytes in in_both_models((0..=15).map(returned_basic).collect()) {
+        ask(&mut writer, &bytes, 0);
     }
-    for text in THOUGHT {
-        ask_most(random, &mut writer, &description(text), 3);
+    for bytes in printed_functions() {
+        ask_most(random, &mut writer, &bytes, 3);
     }
-    for (_, bytes) in generator::limits().iter().chain(&generator::towers()) {
-        ask_most(random, &mut writer, bytes, 2);
+    for bytes in limits().iter().chain(&towers()) {
+        ask_most(random, &mut writer, bytes, 1);
     }
     for refusals in refusals_and_pairs() {
         let bytes = damaged(random, &refusals);
@@ -93,6 +112,13 @@ fn questions(random: &mut Random) -> Writer {
         ask_most(random, &mut writer, &bytes, 1);
     }
     writer
+}
+
+/// A function that returns a basic type.
+fn returned_basic(code: u8) -> Vec<u8> {
+    let mut draft = Draft::new();
+    draft.returned = draft.basic(code);
+    draft.bytes()
 }
 
 /// The newest types and one at random; now and then T and 255.
@@ -150,14 +176,13 @@ fn words<T: Display>(numbers: impl Iterator<Item = T>) -> String {
 
 fn layouts(random: &mut Random) -> Writer {
     let mut writer = Writer::new("layouts");
-    lay_out(&mut writer, &bytes_of_hex(LISTER), 64);
-    for case in &CASES {
-        lay_out(&mut writer, &description(case.function), 64);
+    for bytes in in_both_models(vec![bytes_of_hex(LISTER)]) {
+        lay_out(&mut writer, &bytes, 64);
     }
-    for text in THOUGHT {
-        lay_out(&mut writer, &description(text), 64);
+    for bytes in printed_functions() {
+        lay_out(&mut writer, &bytes, 64);
     }
-    for (_, bytes) in generator::limits().iter().chain(&generator::towers()) {
+    for bytes in limits().iter().chain(&towers()) {
         lay_out(&mut writer, bytes, 255);
     }
     for lent in [0, 1, 4, 5, 6, 255] {
@@ -234,8 +259,11 @@ fn moves(random: &mut Random) -> Writer {
     for one in wrong_lengths(&lister) {
         add_move(&mut writer, &one);
     }
-    for function in CASES.iter().map(|case| case.function).chain(THOUGHT) {
-        let one = right_move(random, &description(function));
+    for one in address_moves() {
+        add_move(&mut writer, &one);
+    }
+    for bytes in printed_functions() {
+        let one = right_move(random, &bytes);
         add_move(&mut writer, &one);
     }
     for refusals in refusals_and_pairs().iter().take(10) {
@@ -286,7 +314,7 @@ fn right_move(random: &mut Random, bytes: &[u8]) -> Move {
     let values = random_values(random, bytes);
     Move {
         description: bytes.to_vec(),
-        hidden_address: random.next(),
+        hidden_address: random_address(random, bytes),
         out: values.len() as u16,
         values,
         registers: random.bytes(REGISTER_IMAGE),
@@ -342,6 +370,27 @@ fn printed_moves() -> Vec<Move> {
     ]
 }
 
+/// Addresses on both sides of 2^32, with right values, with a wrong _Bool and with
+/// a wrong length: 11, 27, 12 in this order, and 27 only under ILP32 and only where
+/// the address is in use. What is gathered is all of rdi, also from images that
+/// nothing was placed in.
+fn address_moves() -> Vec<Move> {
+    let mut all = Vec::new();
+    for text in ["struct{char[17]}: bool, pointer", "int: bool, pointer"] {
+        for bytes in in_both_models(vec![description(text)]) {
+            let length = accepted(&bytes).expect("printed").layout.values_length();
+            for (first, length) in [(1, length), (2, length), (2, length + 1)] {
+                for hidden_address in ADDRESSES {
+                    let values = [&[first][..], &vec![0xFF; length - 1]].concat();
+                    let one = move_for(&bytes, values, 0xFF, 0, length as u16);
+                    all.push(Move { hidden_address, ..one });
+                }
+            }
+        }
+    }
+    all
+}
+
 /// Every wrong length of a right move, one at a time and all together.
 fn wrong_lengths(right: &Move) -> Vec<Move> {
     let mut all = vec![right.clone()];
@@ -380,13 +429,14 @@ fn resize(bytes: &mut Vec<u8>, longer: bool) {
     }
 }
 
-/// A random move with one length or one _Bool wrong.
+/// A random move with one length, one _Bool or the address wrong.
 fn spoilt_move(random: &mut Random) -> Move {
     let text = "int: bool, struct{bool, float}, long, bool, m128, int";
     let bytes = if random.one_in(2) { description(text) } else { move_description(random) };
     let mut one = right_move(random, &bytes);
-    match random.below(7) {
+    match random.below(8) {
         0 => one.out += 1,
+        7 => one.hidden_address = any_address(random),
         1 => one.stack.push(1),
         2 => one.registers.truncate(random.below(176)),
         3 => one.values.push(random.byte()),
@@ -468,6 +518,7 @@ fn printed_histories(random: &mut Random, script: &mut Script) {
     last_numbers(random, script);
     spoilt_seats(random, script);
     wrong_lengths_in_order(random, script);
+    models_in_the_seat(random, script);
     for one in broken() {
         types_broken_in_the_seat(script, &one.bytes);
     }
@@ -490,6 +541,9 @@ fn walked_functions() -> Vec<Vec<u8>> {
     ];
     let mut all = vec![bytes_of_hex(LISTER)];
     all.extend(texts.iter().map(|text| description(text)));
+    let mut all = in_both_models(all);
+    let narrow = NARROW.iter().filter(|text| text.contains("..."));
+    all.extend(narrow.map(|text| description(text)));
     all
 }
 
@@ -614,12 +668,16 @@ fn last_numbers(random: &mut Random, script: &mut Script) {
 
 /// Places in the lister's case, 42 bytes long, and what to spoil them with: mark,
 /// version, T, byte 6, A, records, a member, arguments, return, a byte behind.
-const SPOILS: [(u16, u8); 16] = [
+const SPOILS: [(u16, u8); 20] = [
     (0, 0),
     (3, 2),
     (5, 65),
     (6, 0),
     (6, 2),
+    (6, 3),
+    (6, 4),
+    (6, 5),
+    (6, 129),
     (7, 2),
     (8, 6),
     (11, 9),
@@ -698,6 +756,31 @@ fn types_broken_in_the_seat(script: &mut Script, bytes: &[u8]) {
     script.add(Command::Detach);
 }
 
+/// The other model, put into the seat by hand: the walk that was opened before has
+/// offsets of the first model, and fits where no pointer was passed over.
+fn models_in_the_seat(random: &mut Random, script: &mut Script) {
+    for text in [
+        "void: struct{pointer, pointer}, ..., pointer, int, struct{pointer, pointer}",
+        "void: pointer, ..., pointer, struct{pointer, int}, pointer",
+        "struct{pointer[3]}: int, ..., pointer, long",
+    ] {
+        for bytes in in_both_models(vec![description(text)]) {
+            script.add(Command::Reset);
+            script.attach(random, &bytes);
+            script.add(Command::Open { slot: 0 });
+            script.add(Command::Open { slot: 1 });
+            script.step_right(1);
+            script.add(Command::Spoil { index: 6, value: bytes[6] ^ ILP32 });
+            script.walk_whole(2);
+            script.step_right(0);
+            script.step_right(1);
+            script.add(Command::Spoil { index: 6, value: bytes[6] });
+            script.step_right(0);
+            script.step_right(1);
+        }
+    }
+}
+
 /// A fifth block of 4,096 bytes, put into the seat by hand: 10 at open.
 fn area_grown_in_the_seat(script: &mut Script) {
     let mut draft = Draft::new();
@@ -765,14 +848,16 @@ fn every_call(script: &mut Script, description: &[u8]) {
 fn listings(random: &mut Random) -> Writer {
     let mut writer = Writer::new("listings");
     list(&mut writer, &[]);
-    list(&mut writer, &bytes_of_hex(LISTER));
+    for bytes in in_both_models(vec![bytes_of_hex(LISTER)]) {
+        list(&mut writer, &bytes);
+    }
     let mut with_newline = bytes_of_hex(LISTER);
     with_newline.push(b'\n');
     list(&mut writer, &with_newline);
-    for case in &CASES {
-        list(&mut writer, &description(case.function));
+    for bytes in printed_functions() {
+        list(&mut writer, &bytes);
     }
-    for (_, bytes) in generator::limits().iter().chain(&generator::towers()) {
+    for bytes in limits().iter().chain(&towers()) {
         list(&mut writer, bytes);
     }
     for refusals in refusals_and_pairs() {
@@ -783,8 +868,8 @@ fn listings(random: &mut Random) -> Writer {
         let bytes = random_description(random, SMALL);
         list(&mut writer, &bytes);
     }
-    for one in broken() {
-        list(&mut writer, &one.bytes);
+    for bytes in in_both_models(broken().into_iter().map(|one| one.bytes).collect()) {
+        list(&mut writer, &bytes);
     }
     for _ in 0..20 {
         let bytes = random_broken(random);
@@ -819,8 +904,11 @@ fn returns(random: &mut Random) -> Writer {
     for one in wrong_return_lengths() {
         add_return(&mut writer, &one);
     }
-    for function in CASES.iter().map(|case| case.function).chain(THOUGHT) {
-        let one = right_return(random, &description(function));
+    for one in address_returns() {
+        add_return(&mut writer, &one);
+    }
+    for bytes in printed_functions() {
+        let one = right_return(random, &bytes);
         add_return(&mut writer, &one);
     }
     for refusals in refusals_and_pairs().iter().take(10) {
@@ -860,7 +948,7 @@ fn right_return(random: &mut Random, bytes: &[u8]) -> Return {
     let accepted = accepted(bytes).expect("a return for an accepted description");
     let value = random.bytes(value_length(&accepted));
     Return {
-        hidden_address: random.next(),
+        hidden_address: random_address(random, bytes),
         image: random.bytes(RETURN_IMAGE),
         ..return_for(bytes, value)
     }
@@ -883,10 +971,7 @@ fn printed_returns() -> Vec<Return> {
         of("struct{complex_long_double}:", &[]),
         of("union{long_double, char}:", &[]),
     ];
-    for code in 1..=15 {
-        let mut draft = Draft::new();
-        draft.returned = draft.basic(code);
-        let bytes = draft.bytes();
+    for bytes in in_both_models((1..=15).map(returned_basic).collect()) {
         let length = value_length(&accepted(&bytes).expect("a basic type"));
         all.push(return_for(&bytes, counted[..length].to_vec()));
     }
@@ -904,6 +989,22 @@ fn printed_returns() -> Vec<Return> {
         ("struct{m128}:", 16),
     ] {
         all.push(of(function, &counted[..length]));
+    }
+    all
+}
+
+/// Addresses on both sides of 2^32, with a right and with a wrong length: 11, then
+/// 27 under ILP32 where the address is in use. What is taken is all of rax.
+fn address_returns() -> Vec<Return> {
+    let mut all = Vec::new();
+    for text in ["struct{char[17]}: int", "union{long_double, pointer}:", "void: pointer"] {
+        for bytes in in_both_models(vec![description(text)]) {
+            for hidden_address in ADDRESSES {
+                for value in [vec![], vec![1; 8]] {
+                    all.push(Return { hidden_address, ..return_for(&bytes, value) });
+                }
+            }
+        }
     }
     all
 }
@@ -937,11 +1038,12 @@ fn wrong_return_lengths() -> Vec<Return> {
     all
 }
 
-/// One length wrong. Where it is the value's, nothing is put, and the value is
+/// One length or the address wrong. Where it is the value's, nothing is put, and the value is
 /// taken from rubbish.
 fn spoil_return(random: &mut Random, one: &mut Return) {
-    match random.below(6) {
+    match random.below(7) {
         0 => one.out += 1,
+        2 => one.hidden_address = any_address(random),
         1 => one.image.truncate(random.below(RETURN_IMAGE)),
         _ => one.value.push(random.byte()),
     }

@@ -1,7 +1,7 @@
 //! Laws that hold for every accepted description, over random ones.
 
 use independent::generator::{random_description, Shape, LARGE, MIDDLE, SMALL};
-use independent::history::{random_values, FILLING};
+use independent::history::{random_address, random_values, FILLING};
 use independent::moving::{gathering, placing, spots, Image, REGISTER_IMAGE};
 use independent::places::{accepted, Place, Register};
 use independent::random::Random;
@@ -72,7 +72,7 @@ fn values_placed_and_gathered_are_the_same_bytes() {
         let values = random_values(random, bytes);
         let mut registers = random.bytes(REGISTER_IMAGE);
         let mut stack = random.bytes(accepted.layout.area.0);
-        let hidden = random.next();
+        let hidden = random_address(random, bytes);
         placing(bytes, hidden, &values, &mut registers, &mut stack).expect("right");
         let mut back = vec![FILLING; values.len()];
         let found = gathering(bytes, &registers, &stack, &mut back).expect("right");
@@ -93,7 +93,9 @@ fn gathered_and_placed_again_is_the_same_when_unused_bytes_are_zero() {
         if placements.iter().any(|placement| is_bool(placement.type_number)) {
             return;
         }
-        let registers = random.bytes(REGISTER_IMAGE);
+        let mut registers = random.bytes(REGISTER_IMAGE);
+        // "images placed again under demand 2 need one below that"
+        registers[0..8].copy_from_slice(&random_address(random, bytes).to_le_bytes());
         let stack = random.bytes(accepted.layout.area.0);
         let mut values = vec![0; accepted.layout.values_length()];
         let hidden = gathering(bytes, &registers, &stack, &mut values).expect("right");

@@ -159,6 +159,7 @@ fn limits_are_answered_as_the_paper_says() {
         "struct of 4,097" | "rounded up to 4,104" | "rounded down is not" | "union of 4,097" => 7,
         "array of 4,100" | "array of 4096 shorts" | "array of arrays of 4,160" => 7,
         "int128 of 4,112" | "nested arrays, 63 deep" => 7,
+        "pointers of 4,104" | "pointers of ILP32, 4,100" => 7,
         "array count 0" | "array count 4,097" => 6,
         "run of 256 in 255" | "run of 65,535" | "run of none" => 6,
         "65 types" | "65 arguments" => 4,

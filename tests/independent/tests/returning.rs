@@ -2,7 +2,7 @@
 //! of refusals.
 
 use independent::generator::{random_description, MIDDLE, SMALL};
-use independent::history::FILLING;
+use independent::history::{random_address, FILLING};
 use independent::notation::description;
 use independent::places::{accepted, ReturnPlace};
 use independent::random::Random;
@@ -97,7 +97,7 @@ fn values_put_and_taken_are_the_same_but_for_those_six_bytes() {
             }
         }
         let mut image = random.bytes(RETURN_IMAGE);
-        let hidden = random.next();
+        let hidden = random_address(&mut random, &bytes);
         putting(&bytes, hidden, &value, &mut image).expect("right");
         let mut back = vec![FILLING; value.len()];
         let address = taking(&bytes, &image, &mut back).expect("right");

@@ -3,7 +3,7 @@
 use crate::batch::{About, Batch, Code, Thing};
 use crate::records::*;
 use independent::classes::{classes_of, Class};
-use independent::history::random_values;
+use independent::history::{any_address, random_values};
 use independent::listing::listing;
 use independent::moving::{gathering, placing, REGISTER_IMAGE};
 use independent::places::{self, accepted, Accepted, Place, Register, ReturnPlace, ReturnRegister};
@@ -252,7 +252,7 @@ fn ask_move(
     lengths: [usize; 2],
     batch: &mut Batch,
 ) {
-    let hidden = random.next();
+    let hidden = any_address(random);
     let (mut registers, mut stack) = (random.bytes(lengths[0]), random.bytes(lengths[1]));
     batch.command(Code::PlaceValues).word(hidden).part(values).part(&registers).part(&stack);
     let answer = placing(bytes, hidden, values, &mut registers, &mut stack);
@@ -290,7 +290,7 @@ fn ask_returned(random: &mut Random, bytes: &[u8], batch: &mut Batch) {
 }
 
 fn ask_put(random: &mut Random, bytes: &[u8], value: &[u8], length: usize, batch: &mut Batch) {
-    let hidden = random.next();
+    let hidden = any_address(random);
     let mut image = random.bytes(length);
     batch.command(Code::PutReturned).word(hidden).part(value).part(&image);
     let answer = putting(bytes, hidden, value, &mut image);

@@ -2,6 +2,7 @@
 -- Assumes nothing.
 use borrow.Author.Tests.{eq-eqb, ne-eqb, lt-ltb, le-ltb}
 use borrow.Author.Needs.{needs}
+use Rattle.description.specs.Description.{variadicIn}
 use Rattle.form.specs.Conditions.{wrongCounts}
 use Rattle.form.proofs.conditions.wrong_counts.Statement.{statement}
 use Rattle.form.proofs.conditions.wrong_counts.Tie as tie
@@ -9,8 +10,8 @@ use Rattle.form.proofs.conditions.wrong_counts.Tie as tie
 shared-slice-read-types : tie.Need-shared-slice-read-types
 shared-slice-read-types c = search needs
 
-shared-slice-read-variadic : tie.Need-shared-slice-read-variadic
-shared-slice-read-variadic c = search needs
+shared-slice-read-flags : tie.Need-shared-slice-read-flags
+shared-slice-read-flags c = search needs
 
 shared-slice-read-named : tie.Need-shared-slice-read-named
 shared-slice-read-named c = search needs
@@ -19,19 +20,19 @@ shared-slice-read-arguments : tie.Need-shared-slice-read-arguments
 shared-slice-read-arguments c = search needs
 
 returns : tie.Need-returns
-unfolding wrongCounts
+unfolding wrongCounts variadicIn
 returns c = simp (lt-ltb _ _ (c .if1 .taken))
 
 returns-2 : tie.Need-returns-2
-unfolding wrongCounts
+unfolding wrongCounts variadicIn
 returns-2 c = rw (le-ltb _ _ (c .before .if1 .left), lt-ltb _ _ (c .if2 .taken))
 
 returns-3 : tie.Need-returns-3
-unfolding wrongCounts
+unfolding wrongCounts variadicIn
 returns-3 c = rw (le-ltb _ _ (c .before .before .if1 .left), le-ltb _ _ (c .before .if2 .left), lt-ltb _ _ (c .if3 .taken))
 
 returns-4 : tie.Need-returns-4
-unfolding wrongCounts
+unfolding wrongCounts variadicIn
 returns-4 c =
     rw (
       le-ltb _ _ (c .before .before .before .if1 .left),
@@ -41,7 +42,7 @@ returns-4 c =
     )
 
 returns-5 : tie.Need-returns-5
-unfolding wrongCounts
+unfolding wrongCounts variadicIn
 returns-5 c =
     rw (
       le-ltb _ _ (c .before .before .before .before .if1 .left),
@@ -52,7 +53,7 @@ returns-5 c =
     )
 
 returns-6 : tie.Need-returns-6
-unfolding wrongCounts
+unfolding wrongCounts variadicIn
 returns-6 c =
     rw (
       le-ltb _ _ (c .before .before .before .before .if1 .left),
@@ -67,7 +68,7 @@ wrong-counts-spec =
     tie.close
     (tie.spec
     shared-slice-read-types
-    shared-slice-read-variadic
+    shared-slice-read-flags
     shared-slice-read-named
     shared-slice-read-arguments
     returns

@@ -8,7 +8,7 @@ use lib.Dec.{eqb}
 use denote.Ref.{now}
 use Rattle.types.proofs.Runs.{basic-low, basic-done, element-low, array-small, array-done, group-run, group-asks, group-done}
 use Rattle.types.proofs.Table.{entry-low, entry-extent}
-use Rattle.description.specs.Description.{kindAt, modelIn}
+use Rattle.description.specs.Description.{kindAt}
 use Rattle.types.proofs.extents.extent_of.Statement.{statement}
 use Rattle.types.proofs.extents.extent_of.Tie as tie
 
@@ -22,8 +22,7 @@ basic-extent-requires : tie.Need-basic-extent-requires
 basic-extent-requires c κs = basic-low (now (c .before .before .before .before .args .d)) (c .before .before .before .before .args .k) (c .before .a-at .result) (c .before .before .before .before .pre .0) (c .before .a-at .ensures .0) (sym (c .before .before .kind-at .ensures) ∙ c .if1 .taken)
 
 returns : tie.Need-returns
-unfolding modelIn
-returns c = basic-done (now (c .before .before .before .before .before .args .d)) (c .before .before .before .before .before .args .k) (c .before .before .a-at .result) (c .before .before .before .before .before .pre .0) (c .before .before .a-at .ensures .0) (sym (c .before .before .before .kind-at .ensures) ∙ c .before .if1 .taken) (c .basic-extent .result) (c .basic-extent .ensures)
+returns c = basic-done (now (c .before .before .before .before .before .args .d)) (c .before .before .before .before .before .args .k) (c .before .before .a-at .result) (c .before .before .before .before .before .pre .0) (c .before .before .a-at .ensures .0) (sym (c .before .before .before .kind-at .ensures) ∙ c .before .if1 .taken) (c .basic-extent .result) (rw (c .before .before .before .before .before .pre .2) at (c .basic-extent .ensures))
 
 count-at-requires : tie.Need-count-at-requires
 count-at-requires c κs = search needs
