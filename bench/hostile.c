@@ -242,6 +242,13 @@ static void step(int which)
     cb_step(&station, seat, CB_SEAT_LENGTH, &copy, registers, CB_REGISTER_IMAGE, stack, h->layout.area, list[0].type, out, list[0].size);
 }
 
+/* The description for itself: what is attached is cleared before it is judged. */
+static void change(int which)
+{
+    cb_station copy = station;
+    cb_change(&copy, seat, CB_SEAT_LENGTH, cases[which].bytes, cases[which].length);
+}
+
 static void count_case(int which)
 {
     hostile *h = &cases[which];
@@ -255,6 +262,7 @@ static void count_case(int which)
     count("cb_lay_out", which, 1, lay_out);
     count("cb_place_values", which, 1, place);
     count("cb_step", which, 1, step);
+    count("cb_change", which, 1, change);
 }
 
 int main(void)

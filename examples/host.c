@@ -175,18 +175,29 @@ static int walk(const call *c, const cb_station *station, const uint8_t *seat)
     return 0;
 }
 
-/* The same with a module that comes and goes: attach, walk, detach. */
+/* The same with a module that comes and goes: attach, walk, change for its next version, detach. */
 static int visit(const call *c)
 {
     uint8_t seat[CB_SEAT_LENGTH];
     cb_station station = cb_new_station();
-    cb_walk late = {0};
+    cb_walk half = {0}, late = {0};
+    uint8_t out[CB_MAX_TYPE];
     memset(seat, 0, sizeof seat);
     if (refused("attach", cb_attach(&station, seat, sizeof seat, c->description, c->length))) {
         return 1;
     }
     printf("attached: number %lu, %zu bytes\n", (unsigned long)station.number, station.length);
     walk(c, &station, seat);
+    /* A walk stands half-finished while one module leaves and another comes: it is never read under the new one. */
+    int open = !refused("open", cb_open_walk(&station, seat, sizeof seat, &half));
+    if (refused("change", cb_change(&station, seat, sizeof seat, c->description, c->length))) {
+        return 1;
+    }
+    printf("changed: number %lu, %zu bytes\n", (unsigned long)station.number, station.length);
+    if (open) {
+        refused("step", cb_step(&station, seat, sizeof seat, &half, c->registers, sizeof c->registers, c->stack, c->layout.area,
+                                0, out, 0));
+    }
     if (refused("detach", cb_detach(&station, seat, sizeof seat))) {
         return 1;
     }

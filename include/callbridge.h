@@ -4,9 +4,10 @@
    moves the argument bytes into a register image and a stack image and out again, and walks the unnamed arguments as va_arg does.
 
    Every call that can be refused answers a cb_refusal. Its number is 0 (CB_ACCEPTED) where the call did its work; otherwise each
-   struct and each buffer that was lent holds what it held before (a refused call may store those same bytes again). A cb_part alone is
-   an answer and not lent: a refused call makes it the empty part. Any bytes may be given as a description, and any numbers in a
-   station or a walk: a wrong one is refused, never followed.
+   struct and each buffer that was lent holds what it held before (a refused call may store those same bytes again). One call is an
+   exception: a refused cb_change has detached what was attached, unless its number is 11. A cb_part alone is an answer and not lent: a
+   refused call makes it the empty part. Any bytes may be given as a description, and any numbers in a station or a walk: a wrong one
+   is refused, never followed.
 
        cb_layout layout;
        cb_placement list[CB_MAX_ARGUMENTS];
@@ -256,7 +257,8 @@ typedef struct cb_gathered {
 
 /* ---- station and walk */
 
-/* What the host keeps of a seat. A new one comes from cb_new_station; after that cb_attach and cb_detach alone change it. */
+/* What the host keeps of a seat. A new one comes from cb_new_station; after that cb_attach, cb_detach and cb_change
+   alone change it. */
 typedef struct cb_station {
     size_t length;      /* bytes of the description in the seat */
     uint32_t number;    /* of the last attachment */
@@ -351,6 +353,14 @@ cb_refusal cb_attach(cb_station *station, uint8_t *seat, size_t seat_length,
 /* Detaches: zeros the seat and the station's length, and keeps the number, so that walks of this attachment end. Refused 11 as
    cb_attach, then 13 where nothing is attached. */
 cb_refusal cb_detach(cb_station *station, uint8_t *seat, size_t seat_length);
+
+/* Changes modules: does what cb_detach does, its answer ignored, and then what cb_attach does. Refused 11 as cb_attach, 15, then 1 to 10.
+   It is the one call where a refusal writes. Refused under 11 it changes nothing, and an open walk goes on. Refused under any other
+   number it leaves nothing attached: what was attached is detached, the seat zero; where nothing was, nothing changes. A walk opened
+   before it is refused under 17 where it was accepted and 13 where not. The description must not lie in the seat: the seat is zeroed
+   before the description is read. */
+cb_refusal cb_change(cb_station *station, uint8_t *seat, size_t seat_length,
+                     const uint8_t *description, size_t description_length);
 
 /* Opens a walk before the first unnamed argument. Refused 11 and 13 as cb_detach, then 1 to 10, then 16 for a function that is not
    variadic. */

@@ -69,7 +69,7 @@ TEXTS = (
 
 
 class Refused(Exception):
-    """A call was refused, and changed nothing: its number, 1 to 20 or 27, the header's text for it, and the type that is wrong.
+    """A call was refused, and changed nothing, but for Station.change: its number, 1 to 20 or 27, the header's text for it, and the type that is wrong.
 
     `type` is a number for 6 and 7, the lowest of a type that breaks that rule, and None for every other refusal.
     """
@@ -155,6 +155,7 @@ _FUNCTIONS = {
     'cb_new_station': (cb_station,),
     'cb_attach': (cb_refusal, _pointer(cb_station), _out, _size, _in, _size),
     'cb_detach': (cb_refusal, _pointer(cb_station), _out, _size),
+    'cb_change': (cb_refusal, _pointer(cb_station), _out, _size, _in, _size),
     'cb_open_walk': (cb_refusal, _pointer(cb_station), _out, _size, _pointer(cb_walk)),
     'cb_step': (cb_refusal, _pointer(cb_station), _out, _size, _pointer(cb_walk), _in, _size, _in, _size, _byte, _out, _size),
     'cb_show': (cb_refusal, _pointer(cb_station), _out, _size, _pointer(cb_walk), _in, _size, _in, _size, _byte, _pointer(cb_part)),
@@ -513,6 +514,12 @@ class Station:
         """Every walk that was opened before is refused from now on. Refused 13 where nothing is attached."""
         with self._lock:
             _accepted(_library.cb_detach(self._station, self._seat, SEAT_LENGTH))
+
+    def change(self, description: Bytes) -> None:
+        """Changes modules: detaches what is attached, if anything is, and attaches the description. Refused 15, then 1 to 10: nothing is attached then."""
+        d = _bytes(description)
+        with self._lock:
+            _accepted(_library.cb_change(self._station, self._seat, SEAT_LENGTH, d, len(d)))
 
     def open_walk(self) -> 'Walk':
         """A walk before the first unnamed argument. Refused 13, then 16 for a function that is not variadic."""

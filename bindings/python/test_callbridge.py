@@ -106,7 +106,7 @@ class Header(Case):
             self.assertEqual({one.name: int(one) for one in own}, wanted)
 
     def test_every_call_has_its_function(self):
-        beside = {'open_walk': Station, 'attach': Station, 'detach': Station, 'step': callbridge.Walk, 'show': callbridge.Walk}
+        beside = {'open_walk': Station, 'attach': Station, 'detach': Station, 'change': Station, 'step': callbridge.Walk, 'show': callbridge.Walk}
         for name in callbridge._FUNCTIONS:
             plain = name[len('cb_') :]
             if plain != 'new_station':
@@ -170,6 +170,19 @@ class Raw(Case):
             self.assertEqual((walk.position, walk.number, bytes(walk.reserved)), (3, 1, bytes(4)))
             self.assertEqual(self.library.cb_detach(station, seat, 586).number, 0)
             self.assertEqual(bytes(station), struct.pack('<QIB3x', 0, 1, 0))
+
+    def test_a_refused_change_writes_where_something_was_attached(self):
+        for number in range(256):
+            station, seat = callbridge.cb_station(), ctypes.create_string_buffer(b'\x03' * 586, 586)
+            station.length, station.number, station.attached, station.reserved[:] = 586, 9, number, [number] * 3
+            kept = bytes(station)
+            self.assertEqual(self.library.cb_change(station, seat, 585, MIXED, len(MIXED)).number, 11)
+            self.assertEqual((bytes(station), seat.raw), (kept, b'\x03' * 586))
+            self.assertEqual(self.library.cb_change(station, seat, 586, b'', 0).number, 1)
+            left = (struct.pack('<QIB3x', 0, 9, 0), bytes(586)) if number else (kept, b'\x03' * 586)
+            self.assertEqual((bytes(station), seat.raw), left)
+            self.assertEqual(self.library.cb_change(station, seat, 586, MIXED, len(MIXED)).number, 0)
+            self.assertEqual((bytes(station), seat.raw), (struct.pack('<QIB3x', len(MIXED), 10, 1), MIXED + bytes(586 - len(MIXED))))
 
     def test_an_empty_buffer_may_be_null(self):
         self.assertEqual(self.library.cb_check(None, 0).number, 1)
@@ -365,6 +378,24 @@ class Walks(Case):
         self.refused(17, late.step, *images, 1)
         self.refused(17, late.show, *images, 1)
         self.assertEqual(station.open_walk().step(*images, 1), struct.pack('<d', 2.5))
+
+    def test_modules_change_in_one_call(self):
+        placed = callbridge.place_values(MIXED, VALUES)
+        images = placed.registers, placed.stack
+        station = Station()
+        self.refused(1, station.change, b'')
+        self.assertEqual((station.attached, station.number), (False, 0))
+        station.change(MIXED)
+        walk = station.open_walk()
+        station.change(bytearray(MIXED))
+        self.assertEqual((station.attached, station.number, station.description), (True, 2, MIXED))
+        self.refused(17, walk.step, *images, 1)
+        walk = station.open_walk()
+        self.assertEqual(walk.step(*images, 1), struct.pack('<d', 2.5))
+        self.refused(1, station.change, b'')
+        self.assertEqual((station.attached, station.number, station.description), (False, 2, b''))
+        self.refused(13, walk.step, *images, 5)
+        self.assertRaises(TypeError, station.change, None)
 
     def test_parts(self):
         two = described([DOUBLE, bytes([2, 0, 2, 0]), LONG_DOUBLE, INT], [3, 1, 2], members=bytes([0, 0]), named=1)

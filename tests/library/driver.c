@@ -36,6 +36,7 @@ enum command {
     WALK_BY_HAND = 13,
     FILL_SEAT = 14,
     HOST_BYTES = 15,     /* u8 attached, u8 for each reserved byte of the station and the walks: what a host may have written there */
+    CHANGE = 16,
     INTERFACE_VERSION = 32,
     DESCRIBE = 33,       /* part: the description of the commands that follow */
     CHECK = 34,
@@ -523,6 +524,15 @@ static void detach(void)
     answer_buffer(SEAT);
 }
 
+static void change(void)
+{
+    lend_part(DESCRIPTION);
+    told(cb_change(station(), LENT_SEAT, BUFFER(DESCRIPTION)));
+    answer_station();
+    answer_buffer(SEAT);
+    answer_buffer(DESCRIPTION);
+}
+
 static void open_walk(void)
 {
     int thing = walk_slot();
@@ -575,6 +585,7 @@ static void play(uint8_t command)
     case SET_STACK: set_image(STACK); break;
     case ATTACH: attach(); break;
     case DETACH: detach(); break;
+    case CHANGE: change(); break;
     case OPEN_WALK: open_walk(); break;
     case STEP: step(); break;
     case SHOW:

@@ -144,6 +144,11 @@ static cb_refusal detach(desk *d, unsigned empty)
     return cb_detach(&d->station, SEAT);
 }
 
+static cb_refusal change(desk *d, unsigned empty)
+{
+    return cb_change(&d->station, SEAT, BUFFER(1, d->description, d->length));
+}
+
 static cb_refusal open_walk(desk *d, unsigned empty)
 {
     return cb_open_walk(&d->station, SEAT, &d->walk);
@@ -178,6 +183,7 @@ static const struct call {
     {"cb_take_returned", 3, take_returned},
     {"cb_attach", 2, attach},
     {"cb_detach", 1, detach},
+    {"cb_change", 2, change},
     {"cb_open_walk", 1, open_walk},
     {"cb_step", 4, step},
     {"cb_show", 3, show},

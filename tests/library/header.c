@@ -388,6 +388,9 @@ static void attached_by(uint8_t number)
     told("cb_attach", cb_attach(&station, seat, sizeof seat, mixed, sizeof mixed), CB_ALREADY_ATTACHED, 0);
     SAME("cb_attach, refused", station, kept);
     SAME("cb_attach, refused", seat, before);
+    told("cb_change", cb_change(&station, seat, sizeof seat - 1, mixed, sizeof mixed), CB_WRONG_BUFFER, 0);
+    SAME("cb_change, refused under 11", station, kept);
+    SAME("cb_change, refused under 11", seat, before);
     answered("cb_open_walk", cb_open_walk(&station, seat, sizeof seat, &walk));
     RESERVED(walk);
     expect("walk.number", walk.number, 1);
@@ -421,6 +424,36 @@ static void attached_by(uint8_t number)
     expect("station.length", station.length, 0);
     expect("station.number", station.number, 1);
     RESERVED(station);
+}
+
+/* cb_change, the one call where a refusal writes: with nothing attached, and with `number` for attached. */
+static void changes(uint8_t number)
+{
+    uint8_t seat[CB_SEAT_LENGTH], before[CB_SEAT_LENGTH];
+    cb_station station = cb_new_station(), kept;
+    memset(seat, FILLING, sizeof seat);
+    memcpy(before, seat, sizeof seat);
+    FRESH(station.reserved);
+    kept = station;
+    told("cb_change", cb_change(&station, seat, sizeof seat, mixed, 10), CB_TOO_SHORT, 0);
+    SAME("cb_change, nothing attached", station, kept);
+    SAME("cb_change, nothing attached", seat, before);
+    answered("cb_change", cb_change(&station, seat, sizeof seat, mixed, sizeof mixed));
+    expect("station.attached", station.attached, 1);
+    expect("station.length", station.length, sizeof mixed);
+    expect("station.number", station.number, 1);
+    RESERVED(station);
+    station.attached = number;
+    answered("cb_change", cb_change(&station, seat, sizeof seat, mixed, sizeof mixed));
+    expect("station.number", station.number, 2);
+    station.attached = number;
+    FRESH(station.reserved);
+    told("cb_change", cb_change(&station, seat, sizeof seat, mixed, 10), CB_TOO_SHORT, 0);
+    expect("station.attached", station.attached, 0);
+    expect("station.length", station.length, 0);
+    expect("station.number", station.number, 2);
+    RESERVED(station);
+    all_are("a seat after a refused change", seat, sizeof seat, 0);
 }
 
 #define TYPES 40
@@ -483,6 +516,7 @@ static void told_of_seat(const uint8_t *bad, uint8_t number, uint8_t type)
     describe(good);
     memset(seat, 0, sizeof seat);
     told("cb_attach", cb_attach(&station, seat, sizeof seat, bad, INTS), number, type);
+    told("cb_change", cb_change(&station, seat, sizeof seat, bad, INTS), number, type);
     answered("cb_attach", cb_attach(&station, seat, sizeof seat, good, INTS));
     answered("cb_open_walk", cb_open_walk(&station, seat, sizeof seat, &walk));
     memcpy(seat, bad, INTS);
@@ -541,6 +575,7 @@ int main(void)
     refused_description();
     for (int number = 1; number < 256; number++) {
         attached_by((uint8_t)number);
+        changes((uint8_t)number);
     }
     broken_types();
     if (!wrong) {

@@ -49,8 +49,7 @@
 //! station.step(&mut walk, &images, 1, &mut level)?;
 //! assert_eq!(f64::from_le_bytes(level), 0.5);
 //!
-//! station.detach()?;
-//! station.attach(&description)?;
+//! station.change(&description)?; // one module leaves and another comes
 //! let refusal = station.show(&early, &images, 1).unwrap_err();
 //! assert_eq!(refusal.to_string(), "refused 17: the walk is of another attachment");
 //! # Ok::<(), callbridge::Refusal>(())

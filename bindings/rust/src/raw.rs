@@ -229,6 +229,13 @@ extern "C" {
         n: usize,
     ) -> Refusal;
     pub fn cb_detach(station: *mut Station, seat: *mut u8, seat_length: usize) -> Refusal;
+    pub fn cb_change(
+        station: *mut Station,
+        seat: *mut u8,
+        seat_length: usize,
+        d: *const u8,
+        n: usize,
+    ) -> Refusal;
     pub fn cb_open_walk(
         station: *const Station,
         seat: *const u8,

@@ -16,7 +16,7 @@ pub struct Station {
 }
 
 /// Where a walk over the unnamed arguments stands. It comes from [`Station::open`], and
-/// [`Station::step`] alone moves it on. After a detach it is refused.
+/// [`Station::step`] alone moves it on. After a detach or a change it is refused.
 #[derive(Clone, Copy, Debug, PartialEq, Eq)]
 pub struct Walk(raw::Walk);
 
@@ -63,6 +63,17 @@ impl Station {
         let (seat, length) = (self.seat.as_mut_ptr(), self.seat.len());
         // Safety: as in `attach`.
         Refusal::of(unsafe { raw::cb_detach(&mut self.station, seat, length) })
+    }
+
+    /// Changes modules: detaches what is attached, if anything is, and attaches the description.
+    /// Refused 15, 1 to 10. It is the one call where a refusal writes: nothing is attached then,
+    /// and a walk that was opened before is refused 13; accepted, 17.
+    pub fn change(&mut self, description: &[u8]) -> Result<(), Refusal> {
+        let (seat, length) = (self.seat.as_mut_ptr(), self.seat.len());
+        // Safety: as in `attach`; the seat is this station's own, so the description does not lie in it.
+        Refusal::of(unsafe {
+            raw::cb_change(&mut self.station, seat, length, description.as_ptr(), description.len())
+        })
     }
 
     /// A walk before the first unnamed argument. Refused 13, 16 for a function that is not variadic.

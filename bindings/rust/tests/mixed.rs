@@ -150,3 +150,27 @@ fn a_walk_ends_when_its_module_leaves() {
     station.attach(MIXED).unwrap();
     assert_eq!(station.step(&mut walk, &images, 5, &mut out).map_err(number), Err(17));
 }
+
+#[test]
+fn modules_change_in_one_call() {
+    let layout = callbridge::layout(MIXED).unwrap();
+    let mut images = Images::new(&layout);
+    callbridge::place(MIXED, 0, &values(), &mut images).unwrap();
+    let mut station = Station::new();
+    assert_eq!(station.change(&[]).map_err(number), Err(1));
+    assert!(!station.is_attached());
+    station.change(MIXED).unwrap();
+    assert_eq!(station.description(), MIXED);
+    let mut walk = station.open().unwrap();
+    let mut out = [0; 8];
+    station.change(MIXED).unwrap();
+    assert_eq!(station.step(&mut walk, &images, 1, &mut out).map_err(number), Err(17));
+    let mut walk = station.open().unwrap();
+    station.step(&mut walk, &images, 1, &mut out).unwrap();
+    assert_eq!((f64::from_le_bytes(out), walk.position()), (2.5, 4));
+
+    assert_eq!(station.change(&[]).map_err(number), Err(1));
+    assert!(!station.is_attached() && station.description().is_empty());
+    assert_eq!(station.step(&mut walk, &images, 5, &mut [0; 16]).map_err(number), Err(13));
+    assert_eq!(station.detach().map_err(number), Err(13));
+}

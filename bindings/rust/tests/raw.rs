@@ -66,6 +66,37 @@ fn any_number_but_0_is_attached() {
     }
 }
 
+/// "Refused under 11 it changes nothing"; where nothing was attached, nothing changes; else what was attached has left.
+#[test]
+fn a_refused_change_writes_where_something_was_attached() {
+    let change = |station: &mut Station, seat: &mut [u8], d: &[u8]| unsafe {
+        cb_change(station, seat.as_mut_ptr(), seat.len(), d.as_ptr(), d.len()).number
+    };
+    for attached in 0..=255 {
+        let kept = Station { length: 586, number: 9, attached, reserved: [attached; 3] };
+        let (mut station, mut seat) = (kept, [3; 586]);
+        assert_eq!(change(&mut station, &mut seat[..585], MIXED), 11);
+        assert_eq!((station, seat), (kept, [3; 586]));
+        assert_eq!(change(&mut station, &mut seat, &[]), 1);
+        if attached == 0 {
+            assert_eq!((station, seat), (kept, [3; 586]));
+        } else {
+            let freed = Station { length: 0, number: 9, attached: 0, reserved: [0; 3] };
+            assert_eq!((station, seat), (freed, [0; 586]));
+        }
+        let (mut station, mut seat) = (Station { number: u32::MAX, ..kept }, [3; 586]);
+        assert_eq!(change(&mut station, &mut seat, &[]), 15);
+        assert_eq!(seat, if attached == 0 { [3; 586] } else { [0; 586] });
+        let mut station = kept;
+        assert_eq!(change(&mut station, &mut seat, MIXED), 0);
+        assert_eq!(
+            station,
+            Station { length: MIXED.len(), number: 10, attached: 1, reserved: [0; 3] }
+        );
+        assert_eq!(&seat[..MIXED.len()], MIXED);
+    }
+}
+
 /// `void f(void)`: values, stack image, list and returned value are empty.
 #[test]
 fn an_empty_buffer_may_be_null() {

@@ -2,14 +2,16 @@
 use mathlib.Core.Path.{_≡_, refl, sym, ap, ap₂, _∙_}
 use mathlib.Core.Bool.{cond}
 use mathlib.Core.List.{List}
-use Prim.Native.Nat.{ℕ}
+use Prim.Native.Nat.{ℕ, zero, suc}
+use native.Mathlib.Omega.{arith}
 use borrow.Author.Tests.{eq-eqb, ne-eqb}
 use lib.Dec.{eqb}
 use Rattle.form.specs.declared.Refusal.{Refusal}
 use Rattle.form.specs.Reading.{refusalAt, refusalBy, refusalOf}
 use Rattle.station.specs.declared.Station.{Station}
+use Rattle.station.specs.Outcome.{leaves}
 use Rattle.station.specs.Paper.{kcb, refusalUnder}
-use Rattle.station.specs.Attachment.{described, attachRefusal, attachStation, attachSeat, detachRefusal, detachStation, detachSeat}
+use Rattle.station.specs.Attachment.{described, attachRefusal, attachStation, attachSeat, detachRefusal, detachStation, detachSeat, changeSeat}
 use Rattle.walk.specs.declared.Walk.{Walk}
 use Rattle.walk.specs.Orders.{Ask, stepRefusal}
 use Rattle.walk.specs.Steps.{stepWalk, stepOut}
@@ -17,8 +19,9 @@ use Rattle.walk.specs.Show.{shownAnswer}
 use Rattle.flat.specs.declared.Station.{Station as FlatStation}
 use Rattle.flat.specs.declared.Walk.{Walk as FlatWalk}
 use Rattle.flat.specs.Stations.{stationMeant, flatStation, walkMeant, flatWalk}
+use Rattle.flat.proofs.Kept.{station-means}
 use Rattle.c_calls.specs.Outcome.{gives, refuses, refusalIn, leftIn}
-use Rattle.c_calls.specs.StationCalls.{attachGiven, detachGiven}
+use Rattle.c_calls.specs.StationCalls.{attachGiven, detachGiven, freedStation, changeGiven}
 use Rattle.c_calls.specs.WalkCalls.{stepGiven}
 
 -- ---- any such call, that answers s and has the number n
@@ -86,6 +89,32 @@ module _ (before : FlatStation) (s : Station) (seat after : List ℕ) (r : Refus
       (told ∙ ap (λ (z : Station). refusalOf (detachRefusal z seat)) meant) (number-of _) t (λ z. ap refusalOf z)
       (e ∙ ap flatStation (f ∙ ap (λ (z : Station). detachStation z seat) meant)) in
       (g .0, (g .1, left ∙ ap (λ (z : Station). detachSeat z seat) meant))
+
+-- ---- a change: a detach, its answer ignored, then an attach
+
+-- what the detach leaves of the record means what a detach leaves of the station
+pub freed-means : (s : FlatStation) (seat : List ℕ) → stationMeant (freedStation s seat) ≡ detachStation (stationMeant s) seat
+unfolding freedStation detachGiven detachStation
+freed-means s seat = by (detachRefusal (stationMeant s) seat) _ _
+  where
+    by : (n : ℕ) (x : Station) (r : Refusal)
+        → stationMeant (leftIn (cond (eqb n 0) (gives (flatStation (leaves n x (stationMeant s)))) (refuses r)) s) ≡ leaves n x (stationMeant s)
+    by zero x r = station-means x
+    by (suc n) x r = rw (ne-eqb (suc n) 0 (λ e. omega (arith, e))) refl
+
+module _ (before : FlatStation) (seat d : List ℕ) where
+  pub change-composed : (x y : FlatStation) (r : Refusal) (mid after : List ℕ) → x ≡ leftIn (detachGiven before seat) before → mid ≡ detachSeat (stationMeant before) seat
+      → (r ≡ refusalIn (attachGiven x mid d)) × ((y ≡ leftIn (attachGiven x mid d) x) × (after ≡ attachSeat kcb (stationMeant x) mid d))
+      → (r ≡ refusalIn (changeGiven before seat d))
+      × ((y ≡ leftIn (changeGiven before seat d) (freedStation before seat)) × (after ≡ changeSeat kcb (stationMeant before) seat d))
+  unfolding changeGiven freedStation changeSeat
+  change-composed x y r mid after e f h = (
+    h .0 ∙ ap₂ (λ (q : FlatStation) (z : List ℕ). refusalIn (attachGiven q z d)) e f,
+    (
+      h .1 .0 ∙ ap₂ (λ (q : FlatStation) (z : List ℕ). leftIn (attachGiven q z d) q) e f,
+      h .1 .1 ∙ ap₂ (λ (q : Station) (z : List ℕ). attachSeat kcb q z d) (ap stationMeant e ∙ freed-means before seat) f,
+    ),
+  )
 
 -- ---- a step
 

@@ -9,6 +9,7 @@ pub use moving_calls::place_values;
 pub use returning_calls::put_returned;
 pub use returning_calls::take_returned;
 pub use station_calls::attach;
+pub use station_calls::change;
 pub use station_calls::detach;
 pub use type_calls::member_run;
 pub use type_calls::type_classes;
@@ -21,7 +22,7 @@ mod type_calls; // cb_type_extent, cb_type_classes, cb_member_run
 mod layout_calls; // cb_layout_of, cb_lay_out
 mod moving_calls; // cb_place_values, cb_gather_values
 mod returning_calls; // cb_put_returned, cb_take_returned
-mod station_calls; // cb_attach, cb_detach
+mod station_calls; // cb_attach, cb_detach, cb_change
 mod walk_calls; // cb_open_walk, cb_step, cb_show
 
 use flat::Classes;

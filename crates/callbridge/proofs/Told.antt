@@ -1,5 +1,5 @@
 -- What each call of the C interface answers and leaves, by the paper's numbers. Assumes nothing.
-use mathlib.Core.Path.{_≡_, refl, sym, ap, ap₂, _∙_}
+use mathlib.Core.Path.{_≡_, refl, sym, ap, ap₂, subst, _∙_}
 use mathlib.Core.Bool.{Bool, true, false, cond}
 use mathlib.Core.List.{List}
 use Prim.Native.Nat.{ℕ, zero, suc, _+_}
@@ -23,9 +23,10 @@ use Rattle.moving.specs.Orders.{placeRefusal, gatherRefusal}
 use Rattle.moving.specs.Answers.{placeAnswer, gatherAnswer}
 use Rattle.returning.specs.Orders.{putRefusal, takeRefusal}
 use Rattle.returning.specs.Answers.{putAnswer, takeAnswer}
+use Rattle.station.specs.declared.Station.{Station as Attached}
 use Rattle.station.specs.Paper.{kcb}
 use Rattle.station.specs.Outcome.{leaves}
-use Rattle.station.specs.Attachment.{described, attachRefusal, attachStation, detachRefusal, detachStation}
+use Rattle.station.specs.Attachment.{described, attachRefusal, attachStation, detachRefusal, detachStation, detachSeat, changeRefusal, changeStation}
 use Rattle.station.proofs.Kcb.{kcb-refusal}
 use Rattle.walk.specs.Orders.{offsetsOf, openRefusal, stepRefusal, showRefusal}
 use Rattle.walk.specs.Steps.{openedIf, openWalk, openAnswer, stepWalk}
@@ -43,9 +44,10 @@ use Rattle.c_calls.specs.TypeCalls.{extentGiven, classesGiven, runPart, runRefu
 use Rattle.c_calls.specs.LayoutCalls.{layoutGiven, listGiven}
 use Rattle.c_calls.specs.MovingCalls.{placedGiven, gatheredGiven}
 use Rattle.c_calls.specs.ReturningCalls.{putGiven, takenGiven}
-use Rattle.c_calls.specs.StationCalls.{attachGiven, detachGiven}
+use Rattle.c_calls.specs.StationCalls.{attachGiven, detachGiven, freedStation, changeGiven}
+use Rattle.c_calls.proofs.Given.{freed-means}
 use Rattle.c_calls.specs.WalkCalls.{openGiven, stepGiven, shownPart, shownRefusal}
-use Rattle.callbridge.specs.Interface.{Tells, TellsPart, ExtentTold, ClassesTold, runOf, RunTold, LayoutTold, ListTold, PlacedTold, GatheredTold, PutTold, TakenTold, AttachTold, DetachTold, OpenTold, StepTold, ShownTold}
+use Rattle.callbridge.specs.Interface.{Tells, TellsPart, ExtentTold, ClassesTold, runOf, RunTold, LayoutTold, ListTold, PlacedTold, GatheredTold, PutTold, TakenTold, AttachTold, DetachTold, ChangeTold, OpenTold, StepTold, ShownTold}
 
 -- an outcome that is told by a number
 abbrev by-number : {A : Type 0} → List ℕ → ℕ → A → Outcome A
@@ -150,7 +152,7 @@ shown-told s seat w a =
     (through shownRefusal (eqb n 0) _ _
     ∙ ap₂ (λ (x y : Refusal). cond (eqb n 0) x y) (shown-none (readAt (kcb .slot) (offsetsOf w) (shapeAt kcb d (w .position))) (shapeAt kcb d (w .position))) (kcb-refusal d n))
 
--- ---- returned values, attach and detach, a step
+-- ---- returned values, attach, detach and change, a step
 
 pub put-told : PutTold
 unfolding putAnswer
@@ -177,6 +179,16 @@ detach-told s seat =
     zero-of : (n : ℕ) → cond (eqb n 0) (refusalOf 0) (refusalOf n) ≡ refusalOf n
     zero-of zero = refl
     zero-of (suc n) = rw (ne-eqb (suc n) 0 (λ e. omega (arith, e))) refl
+
+-- the attach of what the detach left
+pub change-told : ChangeTold
+unfolding changeGiven freedStation changeRefusal changeStation
+change-told s seat d =
+    let z = detachSeat (stationMeant s) seat in (
+      subst (λ (x : Attached). Tells (attachGiven (freedStation s seat) z d) d (attachRefusal kcb x z d) (flatStation (attachStation kcb x z d))) (freed-means s seat)
+          (attach-told (freedStation s seat) z d),
+      detach-told s seat .1 s,
+    )
 
 pub step-told : StepTold
 unfolding stepGiven

@@ -31,7 +31,7 @@ use Rattle.returning.specs.Answers.{putAnswer, takeAnswer}
 use Rattle.station.specs.declared.Station.{Station as Attached}
 use Rattle.station.specs.Outcome.{leaves}
 use Rattle.station.specs.Paper.{kcb}
-use Rattle.station.specs.Attachment.{described, attachRefusal, attachStation, detachRefusal, detachStation}
+use Rattle.station.specs.Attachment.{described, attachRefusal, attachStation, detachRefusal, detachStation, changeRefusal, changeStation}
 use Rattle.walk.specs.declared.Walk.{Walk as Standing}
 use Rattle.walk.specs.Orders.{Ask, openRefusal, stepRefusal, showRefusal}
 use Rattle.walk.specs.Steps.{openWalk, openAnswer, stepWalk}
@@ -50,7 +50,7 @@ use Rattle.c_calls.specs.TypeCalls.{extentGiven, classesGiven, runPart, runRefu
 use Rattle.c_calls.specs.LayoutCalls.{layoutGiven, flatAt, listGiven}
 use Rattle.c_calls.specs.MovingCalls.{placedGiven, gatheredGiven}
 use Rattle.c_calls.specs.ReturningCalls.{putGiven, takenGiven}
-use Rattle.c_calls.specs.StationCalls.{attachGiven, detachGiven}
+use Rattle.c_calls.specs.StationCalls.{attachGiven, detachGiven, freedStation, changeGiven}
 use Rattle.c_calls.specs.WalkCalls.{openGiven, stepGiven, shownPart, shownRefusal}
 
 -- a call about the description d answers the number n, with the type that it names; it leaves the new record where n is 0, and where it is not the record that was lent
@@ -112,6 +112,12 @@ abbrev pub DetachTold : Type 0
 DetachTold = (s : Station) (seat : List ℕ)
     → (refusalIn (detachGiven s seat) ≡ refusalOf (detachRefusal (stationMeant s) seat))
     × ((old : Station) → leftIn (detachGiven s seat) old ≡ leaves (detachRefusal (stationMeant s) seat) (flatStation (detachStation (stationMeant s) seat)) old)
+
+-- cb_change: the same; and where it refuses, the record is left as a detach leaves it
+abbrev pub ChangeTold : Type 0
+ChangeTold = (s : Station) (seat d : List ℕ)
+    → Tells (changeGiven s seat d) d (changeRefusal kcb (stationMeant s) seat d) (flatStation (changeStation kcb (stationMeant s) seat d))
+    × (freedStation s seat ≡ leaves (detachRefusal (stationMeant s) seat) (flatStation (detachStation (stationMeant s) seat)) s)
 
 -- cb_open_walk, cb_step, cb_show
 abbrev pub OpenTold : Type 0

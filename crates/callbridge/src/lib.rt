@@ -26,7 +26,7 @@ ghost use Rattle.moving.specs.Images.{amd64};
 ghost use Rattle.moving.specs.Answers.{placeAnswer, registersAfter, stackAfter, gatherAnswer, valuesAfter};
 ghost use Rattle.returning.specs.Answers.{putAnswer, imageAfter, takeAnswer, valueAfter};
 ghost use Rattle.station.specs.Paper.{kcb};
-ghost use Rattle.station.specs.Attachment.{newStation, attachSeat, detachSeat};
+ghost use Rattle.station.specs.Attachment.{newStation, attachSeat, detachSeat, changeSeat};
 ghost use Rattle.walk.specs.Orders.{asking};
 ghost use Rattle.walk.specs.Steps.{openAnswer, stepOut};
 ghost use Rattle.walk.specs.Show.{shownAnswer};
@@ -37,7 +37,7 @@ ghost use Rattle.c_calls.specs.TypeCalls.{extentGiven, classesGiven, runPart, r
 ghost use Rattle.c_calls.specs.LayoutCalls.{layoutGiven, listGiven, flatAt};
 ghost use Rattle.c_calls.specs.MovingCalls.{placedGiven, gatheredGiven};
 ghost use Rattle.c_calls.specs.ReturningCalls.{putGiven, takenGiven};
-ghost use Rattle.c_calls.specs.StationCalls.{attachGiven, detachGiven};
+ghost use Rattle.c_calls.specs.StationCalls.{attachGiven, detachGiven, freedStation, changeGiven};
 ghost use Rattle.c_calls.specs.WalkCalls.{openGiven, stepGiven, shownPart, shownRefusal};
 
 // CB_VERSION.
@@ -230,6 +230,18 @@ pub extern "C" fn cb_detach(station: &mut Station, seat: &mut [u8]) -> Refusal
         × (now (seat .exit) ≡ detachSeat (stationMeant (now (station .entry))) (now (seat .entry)))) ⌝ }
 {
     let given = c_calls::detach(*station, seat);
+    *station = given.station;
+    given.refusal
+}
+
+// The seat emptied, and the description into it: the one call where a refusal writes.
+#[no_mangle]
+pub extern "C" fn cb_change(station: &mut Station, seat: &mut [u8], d: &[u8]) -> Refusal
+    ensures { λ r. ⌜ (r ≡ refusalIn (changeGiven (now (station .entry)) (now (seat .entry)) (now (d .entry))))
+        × ((now (station .exit) ≡ leftIn (changeGiven (now (station .entry)) (now (seat .entry)) (now (d .entry))) (freedStation (now (station .entry)) (now (seat .entry))))
+        × (now (seat .exit) ≡ changeSeat kcb (stationMeant (now (station .entry))) (now (seat .entry)) (now (d .entry)))) ⌝ }
+{
+    let given = c_calls::change(*station, seat, d);
     *station = given.station;
     given.refusal
 }

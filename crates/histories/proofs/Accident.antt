@@ -24,13 +24,13 @@ use Rattle.places.specs.Returns.{hiddenBy}
 use Rattle.layout.specs.Arguments.{shapeAt as layoutShape, shapesFrom, isVoid, hidden, areaOf as layoutArea}
 use Rattle.layout.specs.Verdict.{wideArea}
 use Rattle.station.specs.Paper.{verdictOf, arguments, shapeAt, typeAt, usedAt, areaOf, kcb}
-use Rattle.station.specs.Attachment.{newStation, wrongSeat, described, seatOf, detachRefusal, detachStation, detachSeat, attachRefusal, attachStation, attachSeat}
+use Rattle.station.specs.Attachment.{newStation, wrongSeat, described, seatOf, detachRefusal, detachStation, detachSeat, attachRefusal, attachStation, attachSeat, changeRefusal, changeStation, changeSeat}
 use Rattle.walk.specs.Offsets.{holds, raised, readAt, step, walkAt}
 use Rattle.walk.specs.Orders.{wrongRegisters, otherNumber, standing, openRefusal, astray, atEnd, otherType, wrongStack, wrongOut, stepRefusal, showRefusal}
 use Rattle.walk.specs.Steps.{openWalk, bytesAt, movedOn, stepWalk, stepOut}
 use Rattle.histories.specs.Calls.{withWalk}
 use Rattle.histories.specs.Values.{blank, imagesFor}
-use Rattle.histories.specs.Accident.{lister, other, damaged, history, Plays}
+use Rattle.histories.specs.Accident.{lister, other, damaged, history, exchange, Plays}
 
 -- a list is one of bytes where a test says so
 abbrev small : List ℕ → Bool
@@ -54,3 +54,8 @@ damaged-bytes = small-bytes damaged refl
 pub accident-plays : Plays (history lister-bytes other-bytes damaged-bytes)
 unfolding raise headerOf kindAt aAt countAt memberAt argumentAt tooShort wrongMark wrongVersion wrongCounts wrongLength brokenBasic brokenArray brokenRun brokenRecord wrongRecord firstFrom basicSize basicAlign tysFrom tyBy tyAt variadicIn modelIn large tooLarge offsetAfter endAfter widest sizeTy alignTy same isX87 mergeOf mergeAll upAlone settled cleanUp firstClass secondClass gap oneClass basicAt elementsAt classesAt classesOf wrongNumber wrongReturn wrongUse narrow narrowUnnamed kindsOf shapeOf enough fits start place next area hiddenBy layoutShape shapesFrom isVoid hidden layoutArea wideArea verdictOf arguments shapeAt typeAt usedAt areaOf kcb newStation wrongSeat described seatOf detachRefusal detachStation detachSeat attachRefusal attachStation attachSeat holds raised readAt step walkAt wrongRegisters otherNumber standing openRefusal astray atEnd otherType wrongStack wrongOut stepRefusal showRefusal openWalk bytesAt movedOn stepWalk stepOut withWalk blank imagesFor
 accident-plays = record { answer = refl; whole = refl; parted = refl }
+
+-- and once more, by the call that changes modules
+pub exchange-plays : Plays (exchange lister-bytes other-bytes damaged-bytes)
+unfolding raise headerOf kindAt aAt countAt memberAt argumentAt tooShort wrongMark wrongVersion wrongCounts wrongLength brokenBasic brokenArray brokenRun brokenRecord wrongRecord firstFrom basicSize basicAlign tysFrom tyBy tyAt variadicIn modelIn large tooLarge offsetAfter endAfter widest sizeTy alignTy same isX87 mergeOf mergeAll upAlone settled cleanUp firstClass secondClass gap oneClass basicAt elementsAt classesAt classesOf wrongNumber wrongReturn wrongUse narrow narrowUnnamed kindsOf shapeOf enough fits start place next area hiddenBy layoutShape shapesFrom isVoid hidden layoutArea wideArea verdictOf arguments shapeAt typeAt usedAt areaOf kcb newStation wrongSeat described seatOf detachRefusal detachStation detachSeat attachRefusal attachStation attachSeat changeRefusal changeStation changeSeat holds raised readAt step walkAt wrongRegisters otherNumber standing openRefusal astray atEnd otherType wrongStack wrongOut stepRefusal showRefusal openWalk bytesAt movedOn stepWalk stepOut withWalk blank imagesFor
+exchange-plays = record { answer = refl; whole = refl; parted = refl }

@@ -11,9 +11,10 @@ use borrow.Author.Tests.{le-ltb, eq-eqb}
 use Rattle.description.specs.Description.{IsBytes}
 use Rattle.station.specs.declared.Station.{Station}
 use Rattle.station.specs.Paper.{Paper}
-use Rattle.station.specs.Attachment.{newStation, wrongSeat, described, seatOf, detachRefusal, detachStation, detachSeat, attachRefusal, attachStation, attachSeat}
+use Rattle.station.specs.Attachment.{newStation, wrongSeat, described, seatOf, holding, detachRefusal, detachStation, detachSeat, attachRefusal, attachStation, attachSeat, changeRefusal, changeStation, changeSeat}
+use Rattle.station.proofs.Changes.{change-left, change-done}
 use Rattle.station.proofs.Attachments.{detach-left, detach-done, attach-passes, attach-left, attach-done}
-use Rattle.histories.specs.Calls.{Desk, Call, attaching, detaching, opening, stepping, showing, numbering, writing, call, calls, Along, Stays}
+use Rattle.histories.specs.Calls.{Desk, Call, attaching, detaching, changing, opening, stepping, showing, numbering, writing, Arrival, byAttach, byChange, arriving, call, calls, answer, Along, Stays}
 use Rattle.histories.specs.Lawful.{Lawful, Holds, Consistent}
 
 pub length-seatOf : (d : List ℕ) → length d ≤ 586 → length (seatOf d) ≡ 586
@@ -32,6 +33,21 @@ module _ (P : Paper) where
         filled = t .1;
       }
 
+  change-holds : (s : Station) (seat d : List ℕ) → IsBytes d → changeRefusal P s seat d ≡ 0 → Holds P (changeStation P s seat d) (changeSeat P s seat d) d
+  unfolding changeRefusal changeStation changeSeat
+  change-holds s seat d b e = attach-holds (detachStation s seat) (detachSeat s seat) d b e
+
+  -- by an attach or by a change
+  pub arrival-holds : (k : Desk) (v : Arrival) (d : List ℕ) (b : IsBytes d) → answer P k (arriving v d b) ≡ 0
+      → Holds P (call P k (arriving v d b) .station) (call P k (arriving v d b) .seat) d
+  arrival-holds k byAttach d b e = attach-holds (k .station) (k .seat) d b e
+  arrival-holds k byChange d b e = change-holds (k .station) (k .seat) d b e
+
+  pub arrival-done : (k : Desk) (v : Arrival) (d : List ℕ) (b : IsBytes d) → answer P k (arriving v d b) ≡ 0
+      → (call P k (arriving v d b) .station ≡ holding (k .station) d) × (call P k (arriving v d b) .seat ≡ seatOf d)
+  arrival-done k byAttach d b e = attach-done P (k .station) (k .seat) d e
+  arrival-done k byChange d b e = change-done P (k .station) (k .seat) d e
+
   -- ---- what a held description says
 
   pub described-held : (s : Station) (seat d : List ℕ) → Holds P s seat d → described s seat ≡ d
@@ -44,7 +60,7 @@ module _ (P : Paper) where
       let l = L .short d (h .bytes) (h .accepted) in
       rw (h .filled, h .long, eq-eqb (length (seatOf d)) 586 (length-seatOf d l), le-ltb 586 (length d) l)
 
-  -- ---- no accepted detach: nothing changes the station or the seat
+  -- ---- no module leaves: nothing changes the station or the seat
 
   pub record Same (k k′ : Desk) : Type 0 where
     pub station : k′ .station ≡ k .station
@@ -55,9 +71,15 @@ module _ (P : Paper) where
       let t = attach-left P (k .station) (k .seat) d (λ e. false≢true (sym (attach-passes P (k .station) (k .seat) d e .idle) ∙ busy)) in
       record { station = sym (t .0); seat = sym (t .1) }
 
+  change-same : (k : Desk) (d : List ℕ) (b : IsBytes d) → k .station .attached ≡ true → Stays P k (changing d b) → Same k (call P k (changing d b))
+  change-same k d b busy h =
+      let t = change-left P (k .station) (k .seat) d h (λ e. false≢true (sym (attach-passes P (k .station) (k .seat) d e .idle) ∙ busy)) in
+      record { station = t .0; seat = t .1 }
+
   pub call-same : (k : Desk) (c : Call) → k .station .attached ≡ true → Stays P k c → Same k (call P k c)
   call-same k (attaching d b) busy h = attach-same k d b busy
   call-same k detaching busy h = let t = detach-left (k .station) (k .seat) h in record { station = sym (t .0); seat = sym (t .1) }
+  call-same k (changing d b) busy h = change-same k d b busy h
   call-same k (opening i) busy h = record { station = refl; seat = refl }
   call-same k (stepping i a) busy h = record { station = refl; seat = refl }
   call-same k (showing i a) busy h = record { station = refl; seat = refl }
@@ -97,9 +119,14 @@ module _ (P : Paper) where
           rw (t .0, t .1) (idle-sound (k .station .number) (replicate 586 0))
       by (suc n) e = unfold detachStation detachSeat in rw e h
 
+  change-sound : (k : Desk) (d : List ℕ) → IsBytes d → Consistent P (k .station) (k .seat) → Consistent P (changeStation P (k .station) (k .seat) d) (changeSeat P (k .station) (k .seat) d)
+  unfolding changeStation changeSeat
+  change-sound k d b h = attach-sound (call P k detaching) d b (detach-sound k h)
+
   pub call-sound : (k : Desk) (c : Call) → Consistent P (k .station) (k .seat) → Consistent P (call P k c .station) (call P k c .seat)
   call-sound k (attaching d b) h = attach-sound k d b h
   call-sound k detaching h = detach-sound k h
+  call-sound k (changing d b) h = change-sound k d b h
   call-sound k (opening i) h = h
   call-sound k (stepping i a) h = h
   call-sound k (showing i a) h = h

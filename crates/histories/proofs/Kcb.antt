@@ -16,7 +16,7 @@ use Rattle.layout.specs.Arguments.{shapes}
 use Rattle.layout.proofs.Bounds.{all-shaped}
 use Rattle.layout.proofs.Verdict.{accepted-uses}
 use Rattle.station.specs.Paper.{kcb, verdictOf, arguments}
-use Rattle.station.proofs.Kcb.{kcb-verdict, kcb-arguments, kcb-short}
+use Rattle.station.proofs.Kcb.{kcb-verdict, kcb-arguments, kcb-short, kcb-lent}
 use Rattle.histories.specs.Lawful.{Lawful}
 use Rattle.histories.specs.ConditionC.{ConditionC}
 use Rattle.histories.proofs.Reconnection.{condition-c as lawful-c}
@@ -50,7 +50,7 @@ module _ (d : List ℕ) (e : verdictOf kcb d ≡ 0) where
   starts = refl
 
 pub kcb-lawful : Lawful kcb
-kcb-lawful = record { short = kcb-short; shaped = shaped; within = within; typed = typed; seated = seated; starts = starts }
+kcb-lawful = record { short = kcb-short; shaped = shaped; within = within; typed = typed; seated = seated; starts = starts; lent = kcb-lent }
 
 pub condition-c : ConditionC kcb
 condition-c = lawful-c kcb kcb-lawful

@@ -8,5 +8,6 @@ pub mod Stale
 pub mod Frames
 pub mod Shown
 pub mod Promises
+pub mod Replacing
 pub mod Reconnection
 pub mod Kcb

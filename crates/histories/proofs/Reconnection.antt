@@ -22,6 +22,7 @@ use Rattle.histories.proofs.Turns.{step-wrote}
 use Rattle.histories.proofs.Shown.{shows, shows-none, same-checks}
 use Rattle.histories.proofs.Frames.{either, refused-unchanged, refused-out}
 use Rattle.histories.proofs.Promises.{starts-anew, hands-back, hands-back-so-far, goes-on, never-another, stale-walk, stale-record, number-never-falls, number-bounded, number-passes, last-number, reached, open-reached, step-reached, show-reached, detach-leaves}
+use Rattle.histories.proofs.Replacing.{change-equals, change-eleven, change-leaves, change-ends}
 
 step-passes : (P : Paper) (s : Station) (seat : List ℕ) (w : Walk) (a : Ask) → stepRefusal P s seat w a ≡ 0 → Passed P s seat w a
 unfolding stepRefusal
@@ -70,7 +71,11 @@ module _ (P : Paper) (L : Lawful P) where
         shows = shows P L;
         shows-none = shows-none P;
         detaches = detach-leaves P L;
-        refused = refused-unchanged P;
+        refused = refused-unchanged P L;
         refused-out = refused-out P;
+        change-equals = change-equals P L;
+        change-eleven = change-eleven P L;
+        change-leaves = change-leaves P L;
+        change-ends = change-ends P L;
         cuts = cuts;
       }

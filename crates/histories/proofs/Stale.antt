@@ -13,12 +13,13 @@ use Rattle.form.specs.Order.{rule, first}
 use Rattle.station.specs.declared.Station.{Station}
 use Rattle.station.specs.Outcome.{leaves}
 use Rattle.station.specs.Paper.{Paper}
-use Rattle.station.specs.Attachment.{wrongSeat, detachRefusal, detachStation, detachSeat, attachRefusal, attachStation, attachSeat}
+use Rattle.station.specs.Attachment.{wrongSeat, detachRefusal, detachStation, detachSeat, attachRefusal, attachStation, attachSeat, changeRefusal, changeStation, changeSeat}
+use Rattle.station.proofs.Changes.{detach-number}
 use Rattle.station.proofs.Attachments.{detach-done, attach-passes, attach-done}
 use Rattle.walk.specs.declared.Walk.{Walk}
 use Rattle.walk.specs.Orders.{Ask, wrongRegisters, otherNumber, standing, openRefusal, stepRefusal, showRefusal}
 use Rattle.walk.specs.Steps.{openWalk, movedOn, stepWalk}
-use Rattle.histories.specs.Calls.{Desk, Call, attaching, detaching, opening, stepping, showing, numbering, writing, withWalk, call, calls, attachesBy, attaches, handedBy, handed, Spares}
+use Rattle.histories.specs.Calls.{Desk, Call, attaching, detaching, changing, opening, stepping, showing, numbering, writing, Parts, withWalk, call, calls, attachesBy, attaches, handedBy, handed, Spares}
 use Rattle.histories.specs.Lawful.{Lawful, Consistent}
 use Rattle.histories.specs.Outcomes.{staleNumber}
 use Rattle.histories.proofs.Attachments.{length-seatOf, idle-sound, call-sound}
@@ -35,17 +36,14 @@ module _ (P : Paper) where
       by zero e = rw (attach-done P (k .station) (k .seat) d e .0, e) (omega arith)
       by (suc n) e = unfold attachStation in rw e (omega arith)
 
-  detach-number : (s : Station) (seat : List ℕ) → detachStation s seat .number ≡ s .number
-  unfolding detachStation
-  detach-number s seat = by (detachRefusal s seat)
-    where
-      by : (n : ℕ) → (leaves n (record { attached = false; length = record { 0 = 0 }; number = s .number }) s) .number ≡ s .number
-      by zero = refl
-      by (suc n) = refl
+  change-number : (k : Desk) (d : List ℕ) (b : IsBytes d) → changeStation P (k .station) (k .seat) d .number ≡ attachesBy P k (changing d b) + k .station .number
+  unfolding changeRefusal changeStation
+  change-number k d b = omega (arith, attach-number (call P k detaching) d b, detach-number (k .station) (k .seat))
 
   call-number : (k : Desk) (c : Call) → call P k c .station .number ≡ attachesBy P k c + k .station .number
   call-number k (attaching d b) = attach-number k d b
   call-number k detaching = detach-number (k .station) (k .seat) ∙ omega arith
+  call-number k (changing d b) = change-number k d b
   call-number k (opening i) = omega arith
   call-number k (stepping i a) = omega arith
   call-number k (showing i a) = omega arith
@@ -58,6 +56,14 @@ module _ (P : Paper) where
   number-counts (c ∷ cs) k = number-counts cs (call P k c) ∙ omega (arith, call-number k c)
 
   -- it never passes the last
+  change-bounded : (k : Desk) (d : List ℕ) (b : IsBytes d) → k .station .number ≤ 4294967295 → attachesBy P k (changing d b) + k .station .number ≤ 4294967295
+  unfolding changeRefusal
+  change-bounded k d b l = by (attachRefusal P (detachStation (k .station) (k .seat)) (detachSeat (k .station) (k .seat)) d) refl
+    where
+      by : (n : ℕ) → attachRefusal P (detachStation (k .station) (k .seat)) (detachSeat (k .station) (k .seat)) d ≡ n → attachesBy P k (changing d b) + k .station .number ≤ 4294967295
+      by zero e = rw e (omega (arith, attach-passes P (detachStation (k .station) (k .seat)) (detachSeat (k .station) (k .seat)) d e .more, detach-number (k .station) (k .seat)))
+      by (suc n) e = rw e (omega arith)
+
   call-bounded : (k : Desk) (c : Call) → k .station .number ≤ 4294967295 → attachesBy P k c + k .station .number ≤ 4294967295
   call-bounded k (attaching d b) l = by (attachRefusal P (k .station) (k .seat) d) refl
     where
@@ -65,6 +71,7 @@ module _ (P : Paper) where
       by zero e = rw e (omega (arith, attach-passes P (k .station) (k .seat) d e .more))
       by (suc n) e = rw e (omega arith)
   call-bounded k detaching l = omega arith
+  call-bounded k (changing d b) l = change-bounded k d b l
   call-bounded k (opening i) l = omega arith
   call-bounded k (stepping i a) l = omega arith
   call-bounded k (showing i a) l = omega arith
@@ -86,6 +93,7 @@ module _ (P : Paper) where
   call-keeps : (k : Desk) (c : Call) (i : ℕ) → Spares i c → call P k c .walks i .number ≡ k .walks i .number
   call-keeps k (attaching d b) i h = refl
   call-keeps k detaching i h = refl
+  call-keeps k (changing d b) i h = refl
   call-keeps k (opening j) i h = ap (λ (w : Walk). w .number) (open-other P k i j h)
   call-keeps k (stepping j a) i h = by (eqb i j) refl
     where
@@ -102,7 +110,7 @@ module _ (P : Paper) where
   calls-keep [] k i h = refl
   calls-keep (c ∷ cs) k i h = calls-keep cs (call P k c) i (h .1) ∙ call-keeps k c i (h .0)
 
-  -- ---- after an accepted detach at number n
+  -- ---- after a module has left at number n
 
   pub record Gone (n : ℕ) (s : Station) (seat : List ℕ) : Type 0 where
     pub low : n ≤ s .number
@@ -131,13 +139,33 @@ module _ (P : Paper) where
       let t = detach-done (k .station) (k .seat) e in
       rw (t .0, t .1) (record { low = l; past = λ b. absurd (false≢true b); full = length-replicate {A = ℕ} 586 0; sound = idle-sound P (k .station .number) (replicate 586 0) })
 
-  pub call-gone : Lawful P → (n : ℕ) (k : Desk) (c : Call) → Gone n (k .station) (k .seat) → Gone n (call P k c .station) (call P k c .seat)
-  call-gone L n k (attaching d b) h = attach-gone L n k d b h
-  call-gone L n k detaching h = by (detachRefusal (k .station) (k .seat)) refl
+  change-gone : Lawful P → (n : ℕ) (k : Desk) (d : List ℕ) (b : IsBytes d) → Gone n (detachStation (k .station) (k .seat)) (detachSeat (k .station) (k .seat))
+      → Gone n (changeStation P (k .station) (k .seat) d) (changeSeat P (k .station) (k .seat) d)
+  unfolding changeStation changeSeat
+  change-gone L n k d b h = attach-gone L n (call P k detaching) d b h
+
+  -- by the call c
+  pub parts-gone : Lawful P → (n : ℕ) (k : Desk) (c : Call) → n ≤ k .station .number → Parts k c → Gone n (call P k c .station) (call P k c .seat)
+  parts-gone L n k (attaching d b) l e = absurd e
+  parts-gone L n k detaching l e = detach-gone n k l e
+  parts-gone L n k (changing d b) l e = change-gone L n k d b (detach-gone n k l e)
+  parts-gone L n k (opening i) l e = absurd e
+  parts-gone L n k (stepping i a) l e = absurd e
+  parts-gone L n k (showing i a) l e = absurd e
+  parts-gone L n k (numbering i a) l e = absurd e
+  parts-gone L n k (writing i w) l e = absurd e
+
+  detached-gone : (n : ℕ) (k : Desk) → Gone n (k .station) (k .seat) → Gone n (detachStation (k .station) (k .seat)) (detachSeat (k .station) (k .seat))
+  detached-gone n k h = by (detachRefusal (k .station) (k .seat)) refl
     where
       by : (m : ℕ) → detachRefusal (k .station) (k .seat) ≡ m → Gone n (detachStation (k .station) (k .seat)) (detachSeat (k .station) (k .seat))
       by zero e = detach-gone n k (h .low) e
       by (suc m) e = unfold detachStation detachSeat in rw e h
+
+  pub call-gone : Lawful P → (n : ℕ) (k : Desk) (c : Call) → Gone n (k .station) (k .seat) → Gone n (call P k c .station) (call P k c .seat)
+  call-gone L n k (attaching d b) h = attach-gone L n k d b h
+  call-gone L n k detaching h = detached-gone n k h
+  call-gone L n k (changing d b) h = change-gone L n k d b (detached-gone n k h)
   call-gone L n k (opening i) h = h
   call-gone L n k (stepping i a) h = h
   call-gone L n k (showing i a) h = h
@@ -203,6 +231,7 @@ module _ (P : Paper) where
   call-silent : Lawful P → (n i : ℕ) (k : Desk) (c : Call) → Gone n (k .station) (k .seat) → k .walks i .number ≤ n → handedBy P i k c ≡ []
   call-silent L n i k (attaching d b) g l = refl
   call-silent L n i k detaching g l = refl
+  call-silent L n i k (changing d b) g l = refl
   call-silent L n i k (opening j) g l = refl
   call-silent L n i k (stepping j a) g l = step-silent L n i j k a g l
   call-silent L n i k (showing j a) g l = refl
@@ -213,6 +242,28 @@ module _ (P : Paper) where
   calls-silent L n i [] k g l h = refl
   calls-silent L n i (c ∷ cs) k g l h =
       rw (call-silent L n i k c g l) (calls-silent L n i cs (call P k c) (call-gone L n k c g) (rw (call-keeps k c i (h .0)) l) (h .1))
+
+  -- the call at which a module leaves hands nothing back either
+  pub parts-silent : (i : ℕ) (k : Desk) (c : Call) → Parts k c → handedBy P i k c ≡ []
+  parts-silent i k (attaching d b) e = refl
+  parts-silent i k detaching e = refl
+  parts-silent i k (changing d b) e = refl
+  parts-silent i k (opening j) e = refl
+  parts-silent i k (stepping j a) e = absurd e
+  parts-silent i k (showing j a) e = refl
+  parts-silent i k (numbering j a) e = refl
+  parts-silent i k (writing j w) e = refl
+
+  -- nor touches a walk's record
+  pub parts-keep : (i : ℕ) (k : Desk) (c : Call) → Parts k c → call P k c .walks i ≡ k .walks i
+  parts-keep i k (attaching d b) e = refl
+  parts-keep i k detaching e = refl
+  parts-keep i k (changing d b) e = refl
+  parts-keep i k (opening j) e = absurd e
+  parts-keep i k (stepping j a) e = absurd e
+  parts-keep i k (showing j a) e = refl
+  parts-keep i k (numbering j a) e = refl
+  parts-keep i k (writing j w) e = absurd e
 
   -- a walk that was opened keeps its station's number
   pub open-number : (k : Desk) (i : ℕ) → openRefusal P (k .station) (k .seat) ≡ 0 → call P k (opening i) .walks i .number ≡ k .station .number

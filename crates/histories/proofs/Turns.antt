@@ -18,7 +18,7 @@ use Rattle.station.proofs.Orders.{first-rest}
 use Rattle.walk.specs.declared.Walk.{Walk}
 use Rattle.walk.specs.Orders.{Ask, standing, openRefusal, stepRefusal}
 use Rattle.walk.specs.Steps.{openWalk, bytesAt, movedOn, stepWalk, stepOut}
-use Rattle.histories.specs.Calls.{Desk, Call, attaching, detaching, opening, stepping, showing, numbering, writing, withWalk, call, handedBy, Lends, Spares, Serves, Served, Question, asksBy}
+use Rattle.histories.specs.Calls.{Desk, Call, attaching, detaching, changing, opening, stepping, showing, numbering, writing, withWalk, call, handedBy, Lends, Spares, Serves, Served, Question, asksBy}
 use Rattle.histories.specs.Lawful.{Lawful}
 use Rattle.histories.specs.Values.{cut, imagesFor, question}
 use Rattle.histories.specs.Outcomes.{Stands}
@@ -126,6 +126,7 @@ module _ (P : Paper) (L : Lawful P) (d address values : List ℕ) (f : length va
   pub turn : (k : Desk) (c : Call) (p : ℕ) → Stands P d i k p → Spares i c → Serves P i (imagesFor P d address values) c → Turn P d values i k c p
   turn k (attaching x b) p h m g = other refl refl refl
   turn k detaching p h m g = other refl refl refl
+  turn k (changing x b) p h m g = other refl refl refl
   turn k (opening j) p h m g = other refl refl (open-other P k i j m)
   turn k (stepping j a) p h m g = by (eqb i j) refl
     where
@@ -149,6 +150,7 @@ module _ (P : Paper) (L : Lawful P) (d address values : List ℕ) (f : length va
   pub move : (k : Desk) (c : Call) (p : ℕ) → Stands P d i k p → Spares i c → Served P i (imagesFor P d address values) k c → Move P d values i k c p
   move k (attaching x b) p h m g = still refl refl
   move k detaching p h m g = still refl refl
+  move k (changing x b) p h m g = still refl refl
   move k (opening j) p h m g = still refl (open-other P k i j m)
   move k (stepping j a) p h m g = by (eqb i j) refl
     where

@@ -8,7 +8,7 @@ use Rattle.addresses.specs.Addresses.{run}
 use Rattle.description.specs.Description.{IsBytes}
 use Rattle.station.specs.Paper.{kcb}
 use Rattle.walk.specs.Orders.{Ask}
-use Rattle.histories.specs.Calls.{Desk, Call, attaching, detaching, opening, stepping, showing, numbering, newDesk, answers, handed}
+use Rattle.histories.specs.Calls.{Desk, Call, attaching, detaching, changing, opening, stepping, showing, numbering, newDesk, answers, handed}
 use Rattle.histories.specs.Values.{imagesFor}
 
 -- an int, a struct of a double and a long, a long double, and then, unnamed, a double and an __int128; it returns a double
@@ -75,6 +75,41 @@ history b c e =
     ∷ told 0 (stepping 5 (ask otherImages 1 8))
     ∷ told 0 (stepping 5 (ask otherImages 0 4))
     ∷ told 19 (stepping 5 (ask otherImages 0 4))
+    ∷ []
+
+-- a step of the half-finished walk 5 over the new module's images: what read key pressure under the old module's offsets
+abbrev pub overTheNew : Call
+overTheNew = stepping 5 (ask otherImages 1 8)
+
+-- the same accident, where the host changes modules by one call
+abbrev pub exchange : IsBytes lister → IsBytes other → IsBytes damaged → List Told
+exchange b c e =
+    -- nothing is attached: a refused change leaves all, an accepted one attaches
+    told 1 (changing damaged e)
+    ∷ told 13 detaching
+    ∷ told 0 (changing lister b)
+    ∷ told 0 (opening 4)
+    ∷ told 0 (opening 5)
+    ∷ told 0 (stepping 4 (ask listerImages 1 8))
+    ∷ told 0 (stepping 5 (ask listerImages 1 8))
+    ∷ told 0 (stepping 4 (ask listerImages 5 16))
+    -- "one module left and another came", while 5 is half-finished
+    ∷ told 0 (changing other c)
+    ∷ told 17 overTheNew
+    ∷ told 17 (showing 5 (ask otherImages 1 8))
+    ∷ told 17 (stepping 5 (ask listerImages 5 16))
+    -- opened anew, it walks the new module
+    ∷ told 0 (opening 5)
+    ∷ told 0 (stepping 5 (ask otherImages 1 8))
+    ∷ told 0 (stepping 5 (ask otherImages 0 4))
+    -- a module left and none came
+    ∷ told 1 (changing damaged e)
+    ∷ told 13 (stepping 5 (ask otherImages 0 4))
+    ∷ told 13 detaching
+    -- and the first came again: the old walks stay refused
+    ∷ told 0 (changing lister b)
+    ∷ told 17 (stepping 4 (ask listerImages 1 8))
+    ∷ told 17 (stepping 5 (ask listerImages 1 8))
     ∷ []
 
 abbrev pub made : List Told → List Call

@@ -11,7 +11,7 @@ use Rattle.description.specs.Description.{IsBytes}
 use Rattle.station.specs.declared.Station.{Station}
 use Rattle.station.specs.Outcome.{leaves}
 use Rattle.station.specs.Paper.{Paper}
-use Rattle.station.specs.Attachment.{newStation, detachRefusal, detachStation, detachSeat, attachRefusal, attachStation, attachSeat}
+use Rattle.station.specs.Attachment.{newStation, detachRefusal, detachStation, detachSeat, attachRefusal, attachStation, attachSeat, changeRefusal, changeStation, changeSeat}
 use Rattle.walk.specs.declared.Walk.{Walk}
 use Rattle.walk.specs.Orders.{Ask, openRefusal, stepRefusal, showRefusal}
 use Rattle.walk.specs.Steps.{openWalk, stepWalk, stepOut}
@@ -28,11 +28,32 @@ pub record Desk : Type 0 where
 pub data Call : Type 0 where
   attaching : (d : List ℕ) → IsBytes d → Call
   detaching : Call
+  changing : (d : List ℕ) → IsBytes d → Call
   opening : ℕ → Call
   stepping : ℕ → Ask → Call
   showing : ℕ → Ask → Call
   numbering : ℕ → Ask → Call
   writing : ℕ → Walk → Call
+
+-- "one module left and another came": it comes by an attach, or by a change
+pub data Arrival : Type 0 where
+  byAttach : Arrival
+  byChange : Arrival
+
+abbrev pub arriving : Arrival → (d : List ℕ) → IsBytes d → Call
+arriving byAttach d b = attaching d b
+arriving byChange d b = changing d b
+
+-- and it leaves by an accepted detach: one that is called, or the one that a change begins with
+abbrev pub Parts : Desk → Call → Type 0
+Parts k (attaching d b) = ⊥
+Parts k detaching = detachRefusal (k .station) (k .seat) ≡ 0
+Parts k (changing d b) = detachRefusal (k .station) (k .seat) ≡ 0
+Parts k (opening i) = ⊥
+Parts k (stepping i a) = ⊥
+Parts k (showing i a) = ⊥
+Parts k (numbering i a) = ⊥
+Parts k (writing i w) = ⊥
 
 -- the records with w under the name i
 unfoldable pub withWalk : (ℕ → Walk) → ℕ → Walk → ℕ → Walk
@@ -43,12 +64,14 @@ abbrev pub newDesk : List ℕ → (ℕ → Walk) → Desk
 newDesk seat walks = record { station = newStation; seat = seat; walks = walks }
 
 module _ (P : Paper) where
-  -- the desk after a call: a refused one leaves it
+  -- the desk after a call: a refused one leaves it, but for a change
   abbrev pub call : Desk → Call → Desk
   call k (attaching d b) =
       record { station = attachStation P (k .station) (k .seat) d; seat = attachSeat P (k .station) (k .seat) d; walks = k .walks }
   call k detaching =
       record { station = detachStation (k .station) (k .seat); seat = detachSeat (k .station) (k .seat); walks = k .walks }
+  call k (changing d b) =
+      record { station = changeStation P (k .station) (k .seat) d; seat = changeSeat P (k .station) (k .seat) d; walks = k .walks }
   call k (opening i) =
       record {
         station = k .station;
@@ -66,6 +89,7 @@ module _ (P : Paper) where
   abbrev pub answer : Desk → Call → ℕ
   answer k (attaching d b) = attachRefusal P (k .station) (k .seat) d
   answer k detaching = detachRefusal (k .station) (k .seat)
+  answer k (changing d b) = changeRefusal P (k .station) (k .seat) d
   answer k (opening i) = openRefusal P (k .station) (k .seat)
   answer k (stepping i a) = stepRefusal P (k .station) (k .seat) (k .walks i) a
   answer k (showing i a) = showRefusal P (k .station) (k .seat) (k .walks i) a
@@ -86,25 +110,20 @@ module _ (P : Paper) where
   Along Q k [] = Unit {0}
   Along Q k (c ∷ cs) = Q k c × Along Q (call k c) cs
 
-  -- a call is no accepted detach
+  -- no module leaves by this call
   abbrev pub Stays : Desk → Call → Type 0
-  Stays k (attaching d b) = Unit {0}
-  Stays k detaching = detachRefusal (k .station) (k .seat) ≢ 0
-  Stays k (opening i) = Unit {0}
-  Stays k (stepping i a) = Unit {0}
-  Stays k (showing i a) = Unit {0}
-  Stays k (numbering i a) = Unit {0}
-  Stays k (writing i w) = Unit {0}
+  Stays k c = Parts k c → ⊥
 
-  -- something holds of each call as long as no detach is accepted; of what comes after one, nothing is said
+  -- something holds of each call as long as no module leaves; of what comes after that, nothing is said
   abbrev pub Until : (Desk → Call → Type 0) → Desk → List Call → Type 0
   Until Q k [] = Unit {0}
   Until Q k (c ∷ cs) = Q k c × (Stays k c → Until Q (call k c) cs)
 
-  -- the accepted attaches of a history
+  -- the accepted attaches of a history, a change's among them
   abbrev pub attachesBy : Desk → Call → ℕ
   attachesBy k (attaching d b) = leaves (attachRefusal P (k .station) (k .seat) d) 1 0
   attachesBy k detaching = 0
+  attachesBy k (changing d b) = leaves (changeRefusal P (k .station) (k .seat) d) 1 0
   attachesBy k (opening i) = 0
   attachesBy k (stepping i a) = 0
   attachesBy k (showing i a) = 0
@@ -119,6 +138,7 @@ module _ (P : Paper) where
   abbrev pub handedBy : ℕ → Desk → Call → List (List ℕ)
   handedBy i k (attaching d b) = []
   handedBy i k detaching = []
+  handedBy i k (changing d b) = []
   handedBy i k (opening j) = []
   handedBy i k (stepping j a) =
       cond (eqb i j) (leaves (stepRefusal P (k .station) (k .seat) (k .walks j) a) (stepOut P (k .station) (k .seat) (k .walks j) a ∷ []) []) []
@@ -142,6 +162,7 @@ pub record Lends (P : Paper) (images : List ℕ) (a : Ask) : Type 0 where
 abbrev pub Spares : ℕ → Call → Type 0
 Spares i (attaching d b) = Unit {0}
 Spares i detaching = Unit {0}
+Spares i (changing d b) = Unit {0}
 Spares i (opening j) = i ≢ j
 Spares i (stepping j a) = Unit {0}
 Spares i (showing j a) = Unit {0}
@@ -152,6 +173,7 @@ Spares i (writing j w) = i ≢ j
 abbrev pub Serves : Paper → ℕ → List ℕ → Call → Type 0
 Serves P i images (attaching d b) = Unit {0}
 Serves P i images detaching = Unit {0}
+Serves P i images (changing d b) = Unit {0}
 Serves P i images (opening j) = Unit {0}
 Serves P i images (stepping j a) = i ≡ j → Lends P images a
 Serves P i images (showing j a) = Unit {0}
@@ -162,6 +184,7 @@ Serves P i images (writing j w) = Unit {0}
 abbrev pub Served : Paper → ℕ → List ℕ → Desk → Call → Type 0
 Served P i images k (attaching d b) = Unit {0}
 Served P i images k detaching = Unit {0}
+Served P i images k (changing d b) = Unit {0}
 Served P i images k (opening j) = Unit {0}
 Served P i images k (stepping j a) = i ≡ j → stepRefusal P (k .station) (k .seat) (k .walks j) a ≡ 0 → Lends P images a
 Served P i images k (showing j a) = Unit {0}
@@ -176,6 +199,7 @@ pub record Question : Type 0 where
 abbrev pub asksBy : ℕ → Call → List Question
 asksBy i (attaching d b) = []
 asksBy i detaching = []
+asksBy i (changing d b) = []
 asksBy i (opening j) = []
 asksBy i (stepping j a) = cond (eqb i j) (record { asked = a .asked; room = length (a .out) } ∷ []) []
 asksBy i (showing j a) = []

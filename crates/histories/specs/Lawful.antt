@@ -1,5 +1,6 @@
 -- What the chapters before promise of an accepted description, and the states that calls lead to. Assumes nothing: these are definitions.
 use mathlib.Core.Path.{_≡_}
+use mathlib.Core.Logic.{_≢_}
 use mathlib.Core.Bool.{true, false}
 use mathlib.Core.List.{List}
 use Prim.Native.Nat.{ℕ, _%_, _≤_}
@@ -15,7 +16,7 @@ use Rattle.station.specs.Attachment.{seatOf}
 
 module _ (P : Paper) where
   -- "at most 586", of a list of bytes; what classification guarantees; "N is at most A"; a type number for each argument; registers only
-  -- where there is a register image; what is used at first of the stack is slots
+  -- where there is a register image; what is used at first of the stack is slots; 11 is said of what is lent, never of a description
   pub record Lawful : Type 0 where
     pub short : (d : List ℕ) → IsBytes d → verdictOf P d ≡ 0 → length d ≤ 586
     pub shaped : (d : List ℕ) → verdictOf P d ≡ 0 → All Shaped (P .shapes d)
@@ -23,6 +24,7 @@ module _ (P : Paper) where
     pub typed : (d : List ℕ) → verdictOf P d ≡ 0 → length (P .types d) ≡ arguments P d
     pub seated : (d : List ℕ) → verdictOf P d ≡ 0 → All (Seated (P .registers)) (P .shapes d)
     pub starts : (d : List ℕ) → verdictOf P d ≡ 0 → P .first d .stack .0 % wide (P .slot) ≡ 0
+    pub lent : (d : List ℕ) → verdictOf P d ≢ 11
 
   -- the seat holds the accepted description d, and the station knows it
   pub record Holds (s : Station) (seat d : List ℕ) : Type 0 where

@@ -11,20 +11,20 @@ use Rattle.form.specs.Reading.{refusalOf}
 use Rattle.places.specs.Places.{place}
 use Rattle.station.specs.declared.Station.{Station}
 use Rattle.station.specs.Paper.{Paper, arguments, shapeAt, typeAt, usedAt}
-use Rattle.station.specs.Attachment.{seatOf, detachRefusal, detachStation, detachSeat, attachRefusal}
+use Rattle.station.specs.Attachment.{seatOf, detachRefusal, detachStation, detachSeat, attachRefusal, changeRefusal}
 use Rattle.walk.specs.declared.Walk.{Walk}
 use Rattle.walk.specs.declared.OpenAnswer.the-variants.{Opened, Refused as OpenRefused}
 use Rattle.walk.specs.Offsets.{sourceIn}
 use Rattle.walk.specs.Orders.{Ask, wrongRegisters, standing, openRefusal, stepRefusal, showRefusal}
 use Rattle.walk.specs.Steps.{openWalk, openAnswer}
 use Rattle.walk.specs.Show.{whole, showPart}
-use Rattle.histories.specs.Calls.{Desk, Call, attaching, detaching, opening, call, calls, Along, Stays, Lends, handed}
+use Rattle.histories.specs.Calls.{Desk, Call, attaching, detaching, changing, opening, stepping, showing, numbering, writing, Arrival, arriving, Parts, call, calls, answer, Along, Stays, Lends, handed}
 use Rattle.histories.specs.Lawful.{Holds}
 use Rattle.histories.specs.Values.{imagesFor, unnamed}
 
--- the desk where d is attached at k, `between` is called, and then the walk i is opened
-abbrev pub opened : Paper → Desk → (d : List ℕ) → IsBytes d → List Call → ℕ → Desk
-opened P k d b between i = call P (calls P (call P k (attaching d b)) between) (opening i)
+-- the desk where d comes at k, `between` is called, and then the walk i is opened
+abbrev pub opened : Paper → Desk → Arrival → (d : List ℕ) → IsBytes d → List Call → ℕ → Desk
+opened P k v d b between i = call P (calls P (call P k (arriving v d b)) between) (opening i)
 
 -- d is attached under the number n, and an open starts as d alone says
 pub record Started (P : Paper) (n : ℕ) (d : List ℕ) (k : Desk) : Type 0 where
@@ -81,13 +81,20 @@ pub record Expired (P : Paper) (i : ℕ) (k : Desk) (cs : List Call) : Type 0 wh
   pub refused : (a : Ask) → Refused P (calls P k cs) (calls P k cs .walks i) a
   pub silent : handed P i k cs ≡ []
 
--- the first accepted detach of a history
+-- the call of a history at which its module leaves
 pub record Parted (P : Paper) (k : Desk) (cs : List Call) : Type 0 where
   pub before : List Call
+  pub parting : Call
   pub later : List Call
-  pub split : cs ≡ before ++ (detaching ∷ later)
+  pub split : cs ≡ before ++ (parting ∷ later)
   pub quiet : Along P (Stays P) k before
-  pub accepted : detachRefusal (calls P k before .station) (calls P k before .seat) ≡ 0
+  pub parts : Parts (calls P k before) parting
+
+-- a change of modules while there is a walk i: a new attachment exists exactly where it is accepted, and whatever is called then, the
+-- walk is refused under 17 while something is attached and 13 while nothing is (`staleNumber`), and hands nothing back
+pub record Replaced (P : Paper) (i : ℕ) (k : Desk) (d : List ℕ) (b : IsBytes d) (later : List Call) : Type 0 where
+  pub attached : call P k (changing d b) .station .attached ≡ eqb (answer P k (changing d b)) 0
+  pub expired : Expired P i (call P k (changing d b)) later
 
 -- ---- what a refusal leaves, and the last number
 
@@ -97,8 +104,21 @@ pub record Unchanged (k k′ : Desk) : Type 0 where
   pub seat : k′ .seat ≡ k .seat
   pub walks : (i : ℕ) → k′ .walks i ≡ k .walks i
 
--- the last number has been given: a detach passes, and after it an attach of any d is 15
+-- which refused calls leave the desk as it was: every call but a change, and a change under 11 alone (request 2026-09: "this is the one
+-- call where a refusal writes")
+abbrev pub Keeps : Call → ℕ → Type 0
+Keeps (attaching d b) n = Unit {0}
+Keeps detaching n = Unit {0}
+Keeps (changing d b) n = n ≡ 11
+Keeps (opening i) n = Unit {0}
+Keeps (stepping i a) n = Unit {0}
+Keeps (showing i a) n = Unit {0}
+Keeps (numbering i a) n = Unit {0}
+Keeps (writing i w) n = Unit {0}
+
+-- the last number has been given: a detach passes, and after it an attach of any d is 15, as a change to any d is at once
 pub record Last (P : Paper) (k : Desk) (d : List ℕ) : Type 0 where
   pub number : k .station .number ≡ 4294967295
   pub detach : detachRefusal (k .station) (k .seat) ≡ 0
   pub attach : attachRefusal P (detachStation (k .station) (k .seat)) (detachSeat (k .station) (k .seat)) d ≡ 15
+  pub change : changeRefusal P (k .station) (k .seat) d ≡ 15

@@ -360,6 +360,25 @@ fn detach(state: State, room: &mut [u8]) -> State {
     with_station(state, next)
 }
 
+fn change_lent(station: Station, seat: &mut [u8]) -> Station {
+    let mut space = io::buffer();
+    let n = read_sized(&mut space);
+    let done = station::change_by_value(station, seat, &space[..n]);
+    print_refusal(b"change ", done.refusal);
+    done.station
+}
+
+fn change(state: State, room: &mut [u8]) -> State {
+    let station = state.station;
+    let lent = state.seat;
+    if room.len() < lent {
+        return state;
+    }
+    let next = change_lent(station, &mut room[..lent]);
+    print_seat(next, room);
+    with_station(state, next)
+}
+
 fn open(state: State, seat: &[u8]) -> State {
     let station = state.station;
     let slot = read_byte() as usize;
@@ -504,6 +523,7 @@ fn play(
             fill_seat(room);
             state
         }
+        16 => change(state, room),
         _ => look(command, state, room, registers, stack),
     }
 }

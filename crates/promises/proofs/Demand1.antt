@@ -1,11 +1,13 @@
 -- Demand 1 is met: each line cites a law. Assumes nothing.
 use mathlib.Core.Path.{_≡_, refl, sym, ap, _∙_}
 use mathlib.Core.Logic.{_≢_}
+use mathlib.Core.Bool.{Bool, true, false, cond, not, _&&_}
 use mathlib.Core.List.{List}
 use Prim.Native.Nat.{ℕ, _<_}
-use borrow.Author.Tests.{ne-eqb}
-use lib.ListN.{length}
+use borrow.Author.Tests.{ne-eqb, eqb-true, eqb-false}
+use lib.ListN.{length, replicate}
 use Rattle.description.specs.Description.{typesIn, modelIn}
+use lib.Dec.{eqb}
 use Rattle.form.specs.Order.{formRefusal}
 use Rattle.form.specs.Reading.{refusalAt, refusalBy, refusalOf}
 use Rattle.types.specs.Wrong.{refusalFor}
@@ -30,12 +32,16 @@ use Rattle.moving.specs.Orders.{placeRefusal, gatherRefusal}
 use Rattle.moving.specs.Answers.{registersAfter, stackAfter, valuesAfter}
 use Rattle.returning.specs.Orders.{putRefusal, takeRefusal}
 use Rattle.returning.specs.Answers.{imageAfter, valueAfter}
+use Rattle.station.specs.declared.Station.{Station}
 use Rattle.station.specs.Paper.{kcb, refusalUnder}
-use Rattle.station.specs.Attachment.{attachRefusal, detachRefusal}
+use Rattle.station.specs.Attachment.{freed, attachRefusal, detachRefusal, changeRefusal, changeStation, changeSeat}
 use Rattle.station.proofs.Attachments.{attach-left, detach-left}
+use Rattle.station.proofs.Changes.{change-order}
+use Rattle.histories.proofs.Kcb.{condition-c}
 use Rattle.walk.specs.Orders.{openRefusal, stepRefusal, showRefusal}
 use Rattle.walk.proofs.Steps.{step-left}
-use Rattle.promises.specs.Demand1.{A1-Verdict, A2-Below, A2-Questions, A2-Layout, A2-Returned, A2-Walk, A3-Frame, A6-Bounds, A7-Run, Demand1}
+use Rattle.promises.specs.Meaning.{outcome}
+use Rattle.promises.specs.Demand1.{partedBy, A1-Verdict, A2-Below, A2-Questions, A2-Layout, A2-Returned, A2-Walk, A3-Frame, A6-Bounds, A7-Run, Demand1}
 use Rattle.promises.proofs.Answering.{answered, decided-number}
 use Rattle.promises.proofs.Numbers.{reading-means, extent-means, size-means, align-means, classes-means, run-means, layout-means, list-means, placing-means, gathering-means, putting-means, taking-means, opening-means, shown-means}
 use Rattle.promises.proofs.MemberRuns.{run-of, run-empty}
@@ -85,6 +91,7 @@ unfolding kcb attachRefusal detachRefusal openRefusal stepRefusal showRefusal re
 a2-walk = record {
   attach = λ s seat d. answered refl refl;
   detach = λ s seat. answered refl refl;
+  change = λ s seat d. answered refl (ap (λ (n : ℕ). outcome n tt) (change-order kcb s seat d));
   open-walk = λ s seat. answered refl (opening-means s seat);
   step = λ s seat w a. answered refl refl;
   show-number = λ s seat w a. answered refl refl;
@@ -96,6 +103,29 @@ a2-walk = record {
 count-none : (d : List ℕ) (room : ℕ) → listRefusal d room ≢ 0 → listCount d room ≡ 0
 unfolding listCount
 count-none d room h = rw (ne-eqb (listRefusal d room) 0 h) refl
+
+-- a refused change, under 11 and under another number
+change-refused : (s : Station) (seat d : List ℕ) → changeRefusal kcb s seat d ≢ 0
+    → (changeStation kcb s seat d ≡ cond (partedBy s (changeRefusal kcb s seat d)) (freed s) s)
+    × (changeSeat kcb s seat d ≡ cond (partedBy s (changeRefusal kcb s seat d)) (replicate 586 0) seat)
+change-refused s seat d n = by (eqb (changeRefusal kcb s seat d) 11) refl
+  where
+    never-parts : {A : Type 0} (b : Bool) (x y : A) → y ≡ cond (b && not true) x y
+    never-parts true x y = refl
+    never-parts false x y = refl
+
+    parts-so : {A : Type 0} (b : Bool) (x y : A) → cond b x y ≡ cond (b && not false) x y
+    parts-so true x y = refl
+    parts-so false x y = refl
+
+    by : (b : Bool) → eqb (changeRefusal kcb s seat d) 11 ≡ b
+        → (changeStation kcb s seat d ≡ cond (s .attached && not b) (freed s) s) × (changeSeat kcb s seat d ≡ cond (s .attached && not b) (replicate 586 0) seat)
+    by true e =
+        let t = condition-c .change-eleven s seat d (eqb-true (changeRefusal kcb s seat d) 11 e) in
+        (t .0 ∙ never-parts (s .attached) (freed s) s, t .1 ∙ never-parts (s .attached) (replicate 586 0) seat)
+    by false e =
+        let t = condition-c .change-leaves s seat d n (eqb-false (changeRefusal kcb s seat d) 11 e) in
+        (t .0 ∙ parts-so (s .attached) (freed s) s, t .1 ∙ parts-so (s .attached) (replicate 586 0) seat)
 
 a3 : A3-Frame
 unfolding filled registersAfter stackAfter valuesAfter imageAfter valueAfter
@@ -110,6 +140,7 @@ a3 = record {
   take-returned = λ d i v n. rw (ne-eqb (takeRefusal d i (length v)) 0 (λ e. n (decided-number _ _ (taking-means d i (length v)) ∙ e))) refl;
   attach = λ s seat d h. (sym (attach-left kcb s seat d h .0), sym (attach-left kcb s seat d h .1));
   detach = λ s seat h. (sym (detach-left s seat h .0), sym (detach-left s seat h .1));
+  change = change-refused;
   step = λ s seat w a h. (sym (step-left kcb s seat w a h .0), sym (step-left kcb s seat w a h .1));
 }
 

@@ -10,11 +10,12 @@ use Rattle.moving.proofs.Amd64.{amd64-ordered}
 use Rattle.station.specs.Paper.{kcb}
 use Rattle.station.specs.Attachment.{seatOf}
 use Rattle.station.proofs.Attachments.{attach-done}
+use Rattle.station.proofs.Changes.{change-done}
 use Rattle.histories.specs.Calls.{Until, Served, Serves, calls}
 use Rattle.histories.specs.Outcomes.{opened, Ended}
 use Rattle.histories.specs.Values.{imagesFor}
 use Rattle.histories.proofs.Kcb.{condition-c}
-use Rattle.promises.specs.Demand3.{C1-C2-Places, C3-Alignment, C5-Starts, C6-Reached, C7-Stale, placedImages, HandsBackPlaced, NeverAnotherPlaced, C8-HandsBack, C9-Shows, C10-Number, Demand3}
+use Rattle.promises.specs.Demand3.{C1-C2-Places, C3-Alignment, C5-Starts, C6-Reached, C7-Stale, placedImages, HandsBackPlaced, NeverAnotherPlaced, C8-HandsBack, C9-Shows, C10-Number, C12-Changes, Demand3}
 use Rattle.promises.proofs.Placements.{lowest}
 use Rattle.promises.proofs.PlacedFor.{placed-for, placed-cares}
 use Rattle.promises.proofs.ValueBytes.{each, inside, once, past, recorded, stack-there}
@@ -36,7 +37,7 @@ c3 = record {
 
 c5 : C5-Starts
 unfolding seatOf
-c5 = record { attached = λ s seat d. attach-done kcb s seat d; starts = condition-c .starts }
+c5 = record { attached = λ s seat d. attach-done kcb s seat d; changed = λ s seat d. change-done kcb s seat d; starts = condition-c .starts }
 
 c6 : C6-Reached
 c6 = record {
@@ -56,16 +57,16 @@ c7 = record {
 }
 
 hands-back : HandsBackPlaced
-hands-back k d b h values r s i between cs p connects variadic spares serves stays questions =
+hands-back k v d b h values r s i between cs p connects variadic spares serves stays questions =
     let e : placedImages d h values r s ≡ imagesFor kcb d (littleEndian 8 h) values = placed-for d h values r s p in
-    let w = condition-c .hands-back k d b (littleEndian 8 h) values i between cs connects variadic (placed-cares d h values r s p i cs spares)
+    let w = condition-c .hands-back k v d b (littleEndian 8 h) values i between cs connects variadic (placed-cares d h values r s p i cs spares)
     (subst (λ (images : List ℕ). All (Serves kcb i images) cs) e serves) stays questions in
-    (w .0, subst (Ended kcb i (calls kcb (opened kcb k d b between i) cs)) (sym e) (w .1))
+    (w .0, subst (Ended kcb i (calls kcb (opened kcb k v d b between i) cs)) (sym e) (w .1))
 
 never-another : NeverAnotherPlaced
-never-another k d b h values r s i between cs p connects variadic spares serves =
-    condition-c .never-another k d b (littleEndian 8 h) values i between cs connects variadic (placed-cares d h values r s p i cs spares)
-    (subst (λ (images : List ℕ). Until kcb (Served kcb i images) (opened kcb k d b between i) cs) (placed-for d h values r s p) serves)
+never-another k v d b h values r s i between cs p connects variadic spares serves =
+    condition-c .never-another k v d b (littleEndian 8 h) values i between cs connects variadic (placed-cares d h values r s p i cs spares)
+    (subst (λ (images : List ℕ). Until kcb (Served kcb i images) (opened kcb k v d b between i) cs) (placed-for d h values r s p) serves)
 
 c8 : C8-HandsBack
 c8 = record {
@@ -85,6 +86,9 @@ c9 = record { checks = condition-c .show-checks; shows = condition-c .shows; sho
 c10 : C10-Number
 c10 = record { passes = condition-c .number-passes; last = condition-c .number-last }
 
+c12 : C12-Changes
+c12 = record { equals = condition-c .change-equals; leaves = condition-c .change-leaves; eleven = condition-c .change-eleven; ends = condition-c .change-ends }
+
 pub demand-3 : Demand3
 demand-3 = record {
   places = c1-c2;
@@ -97,4 +101,5 @@ demand-3 = record {
   shows = c9;
   number = c10;
   detaches = condition-c .detaches;
+  changes = c12;
 }

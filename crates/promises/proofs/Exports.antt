@@ -48,14 +48,16 @@ use Rattle.returning.specs.Answers.{putAnswer, takeAnswer, imageAfter, valueAft
 use Rattle.station.specs.declared.Station.{Station as Attached}
 use Rattle.station.specs.Paper.{kcb, refusalUnder}
 use Rattle.station.specs.Outcome.{leaves}
-use Rattle.station.specs.Attachment.{described, newStation, attachRefusal, attachStation, attachSeat, detachRefusal, detachStation, detachSeat}
-use Rattle.station.proofs.Kcb.{kcb-refusal}
+use Rattle.station.specs.Attachment.{wrongSeat, described, newStation, attachRefusal, attachStation, attachSeat, detachRefusal, detachStation, detachSeat, changeRefusal, changeStation, changeSeat}
+use Rattle.station.proofs.Attachments.{detach-right, detach-done as detached}
+use Rattle.station.proofs.Changes.{wrong-refuses, idle-refuses, wrong-eleven, change-eleven as eleven-wrong, change-wrong, change-idle, change-parts}
+use Rattle.station.proofs.Kcb.{kcb-refusal, kcb-lent}
 use Rattle.station.proofs.Orders.{kept, left}
 use Rattle.walk.specs.declared.showing.ShownAnswer.{ShownAnswer}
 use Rattle.walk.specs.declared.showing.ShownAnswer.the-variants.{Registers, Stack, Apart, Refused}
 use Rattle.walk.specs.declared.Walk.{Walk as Standing}
 use Rattle.walk.specs.Orders.{Ask, asking, wrongRegisters, otherType, wrongStack, openRefusal, stepRefusal, showRefusal}
-use Rattle.histories.specs.Calls.{Desk, Call, attaching, detaching, opening, stepping, showing, numbering, writing, withWalk, call, calls, answer, answers}
+use Rattle.histories.specs.Calls.{Desk, Call, attaching, detaching, changing, opening, stepping, showing, numbering, writing, withWalk, call, calls, answer, answers}
 use Rattle.walk.specs.Steps.{openWalk, openAnswer, stepWalk, stepOut}
 use Rattle.walk.specs.Show.{shownIn, shownBytes, shownAnswer, showPart}
 use Rattle.flat.specs.declared.Classes.{Classes}
@@ -77,10 +79,11 @@ use Rattle.c_calls.specs.TypeCalls.{extentGiven, classesGiven, runPart, runRefu
 use Rattle.c_calls.specs.LayoutCalls.{layoutGiven, listGiven, flatAt}
 use Rattle.c_calls.specs.MovingCalls.{placedGiven, gatheredGiven}
 use Rattle.c_calls.specs.ReturningCalls.{putGiven, takenGiven}
-use Rattle.c_calls.specs.StationCalls.{attachGiven, detachGiven}
+use Rattle.c_calls.specs.StationCalls.{attachGiven, detachGiven, freedStation, changeGiven}
+use Rattle.c_calls.proofs.Given.{freed-means}
 use Rattle.c_calls.specs.WalkCalls.{openGiven, stepGiven, shownPart as partShown, shownRefusal}
 use Rattle.callbridge.specs.Interface.{Tells, TellsPart, runOf}
-use Rattle.callbridge.proofs.Told.{extent-told, classes-told, run-told, layout-told, list-told, placed-told, gathered-told, put-told, taken-told, attach-told, detach-told, open-told, step-told, shown-told}
+use Rattle.callbridge.proofs.Told.{extent-told, classes-told, run-told, layout-told, list-told, placed-told, gathered-told, put-told, taken-told, attach-told, detach-told, change-told, open-told, step-told, shown-told}
 use Rattle.callbridge.proofs.Means.{list-means as flat-list-means}
 use Rattle.types.proofs.Extent as extent
 use Rattle.flat.proofs.Classes as classes
@@ -107,14 +110,15 @@ use Rattle.callbridge.proofs.cb_take_returned
 use Rattle.callbridge.proofs.cb_new_station
 use Rattle.callbridge.proofs.cb_attach
 use Rattle.callbridge.proofs.cb_detach
+use Rattle.callbridge.proofs.cb_change
 use Rattle.callbridge.proofs.cb_open_walk
 use Rattle.callbridge.proofs.cb_step
 use Rattle.callbridge.proofs.cb_show
 use Rattle.promises.specs.Meaning.{Meaning, accepted, outcome, numberOf, ofRefusal, ofPlacing, ofGathering, ofPutting, ofTaking, none, run, shownPart, Answered}
-use Rattle.promises.specs.Orders.{questionOrder, checkOrder, layoutOrder, openOrder, showOrder, attachOrder, detachOrder, stepOrder, putOrder}
+use Rattle.promises.specs.Orders.{questionOrder, checkOrder, layoutOrder, openOrder, showOrder, attachOrder, detachOrder, changeOrder, stepOrder, putOrder}
 use Rattle.promises.specs.WrongType.{Names}
 use Rattle.promises.specs.Demand1.{members, classPair}
-use Rattle.promises.specs.Exports.{Fills, GivesPart, extentRead, classesRead, membersRead, layoutRead, shownRead, bytesIn, Checks, OffsetsFlat, LaysOutFlat, Lists, PlacesFlat, GathersFlat, PutsFlat, TakesFlat, AttachesFlat, DetachesFlat, OpensFlat, StepsFlat, ShowsFlat, Exports, Back, GathersBack, NeverTheSame, TakenBack, TakesBack, HostDesk, deskMeant, AttachDone, DetachDone, withRecord, OpenDone, StepDone, ShowDone, WriteDone, Done, Played, nothing, then, PlaysHistory}
+use Rattle.promises.specs.Exports.{Fills, GivesPart, extentRead, classesRead, membersRead, layoutRead, shownRead, bytesIn, Checks, OffsetsFlat, LaysOutFlat, Lists, PlacesFlat, GathersFlat, PutsFlat, TakesFlat, AttachesFlat, DetachesFlat, OpensFlat, StepsFlat, ShowsFlat, Exports, Back, GathersBack, NeverTheSame, TakenBack, TakesBack, HostDesk, deskMeant, AttachDone, DetachDone, withRecord, OpenDone, StepDone, ShowDone, WriteDone, Done, Played, nothing, then, PlaysHistory, ChangesFlat, ChangeDone}
 use Rattle.promises.proofs.Answering.{answered, decided-number}
 use Rattle.promises.proofs.Numbers.{extent-means, classes-means, run-means, layout-means as whole-means, list-means, placing-means, gathering-means, putting-means, taking-means, opening-means, shown-means}
 use Rattle.promises.proofs.WrongType.{wrong-type}
@@ -343,6 +347,51 @@ detaches-flat old seat =
           (ap stationMeant (t .1 old ∙ kept n _ old e) ∙ station-means (detachStation s seat) ∙ demand-3 .detaches s seat e .0, demand-3 .detaches s seat e .1);
     }
 
+-- what a refused change leaves of the record: all where the detach was refused, and else the record of a freed station
+change-kept : (old : Station) (seat d : List ℕ) → changeRefusal kcb (stationMeant old) seat d ≢ 0 → detachRefusal (stationMeant old) seat ≢ 0 → leftIn (changeGiven old seat d) (freedStation old seat) ≡ old
+change-kept old seat d n h =
+    let t = change-told old seat d in
+    t .0 .left (freedStation old seat) ∙ left (changeRefusal kcb (stationMeant old) seat d) _ _ n ∙ t .1 ∙ left (detachRefusal (stationMeant old) seat) _ old h
+
+change-freed : (old : Station) (seat d : List ℕ) → changeRefusal kcb (stationMeant old) seat d ≢ 0 → detachRefusal (stationMeant old) seat ≡ 0
+    → stationMeant (leftIn (changeGiven old seat d) (freedStation old seat)) ≡ detachStation (stationMeant old) seat
+change-freed old seat d n e =
+    let t = change-told old seat d in
+    ap stationMeant (t .0 .left (freedStation old seat) ∙ left (changeRefusal kcb (stationMeant old) seat d) _ _ n ∙ t .1 ∙ kept (detachRefusal (stationMeant old) seat) _ old e)
+    ∙ station-means (detachStation (stationMeant old) seat)
+
+-- a change that is not refused under 11 had a right seat
+change-detaches : (s : Attached) (seat d : List ℕ) → changeRefusal kcb s seat d ≢ 11 → s .attached ≡ true → detachRefusal s seat ≡ 0
+change-detaches s seat d m a = by (wrongSeat s seat) refl
+  where
+    by : (b : Bool) → wrongSeat s seat ≡ b → detachRefusal s seat ≡ 0
+    by true e = absurd (m (wrong-eleven kcb s seat d e))
+    by false e = detach-right s seat e a
+
+changes-flat : (old : Station) (seat d : List ℕ)
+    → ChangesFlat old seat d (refusalIn (changeGiven old seat d)) (leftIn (changeGiven old seat d) (freedStation old seat)) (changeSeat kcb (stationMeant old) seat d)
+unfolding stationMeant
+changes-flat old seat d =
+    let s = stationMeant old in
+    let n = changeRefusal kcb s seat d in
+    let t = change-told old seat d .0 in
+    let m = told-number t in
+    record {
+      answered = subst (λ r. Answered (ofRefusal r) (changeOrder s seat d) tt) (kcb-refusal d n ∙ sym (t .refusal)) (demand-1 .walk .change s seat d);
+      names = subst (Names d) (kcb-refusal d n ∙ sym (t .refusal)) (wrong-type .change s seat d);
+      eleven = λ p.
+          let e = sym m ∙ p in
+          let w = eleven-wrong kcb s seat d (kcb-lent d) e in
+          (change-kept old seat d (λ z. omega (arith, e, z)) (wrong-refuses s seat w), change-wrong kcb s seat d w .1);
+      idle = λ p a. (change-kept old seat d (λ z. p (m ∙ z)) (idle-refuses s seat a), change-idle kcb s seat d a (λ z. p (m ∙ z)) .1);
+      parted = λ p q a.
+          let e = change-detaches s seat d (λ z. q (m ∙ z)) a in
+          (change-freed old seat d (λ z. p (m ∙ z)) e ∙ detached s seat e .0, change-parts kcb s seat d e (λ z. p (m ∙ z)) .1);
+      changed = λ z.
+          let e = demand-3 .starts .changed s seat d (sym m ∙ z) in
+          (station-after t (freedStation old seat) (sym m ∙ z) ∙ e .0, e .1);
+    }
+
 -- ---- walk
 
 opens-flat : (s : Station) (seat : List ℕ) (old : Walk) → OpensFlat s seat old (refusalIn (openGiven (openAnswer kcb (stationMeant s) seat))) (leftIn (openGiven (openAnswer kcb (stationMeant s) seat)) old)
@@ -468,6 +517,10 @@ exports = record {
       along-three (DetachesFlat (now (c .passed .0)) (now (c .passed .1 .0)))
       (told (result cb_detach.ended c) (a .ensured) (λ f. f .0)) (told (station.the-row .coded) (a .ensured) (λ f. f .1 .0)) (told bytes (a .ensured) (λ f. f .1 .1))
       (detaches-flat (now (c .passed .0)) (now (c .passed .1 .0)));
+  change = λ c r w a.
+      along-three (ChangesFlat (now (c .passed .0)) (now (c .passed .1 .0)) (now (c .passed .1 .1 .0)))
+      (told (result cb_change.ended c) (a .ensured) (λ f. f .0)) (told (station.the-row .coded) (a .ensured) (λ f. f .1 .0)) (told bytes (a .ensured) (λ f. f .1 .1))
+      (changes-flat (now (c .passed .0)) (now (c .passed .1 .0)) (now (c .passed .1 .1 .0)));
   open-walk = λ c r w a.
       along (OpensFlat (now (c .passed .0)) (now (c .passed .1 .0)) (now (c .passed .1 .1 .0)))
       (told (result cb_open_walk.ended c) (a .ensured) (λ f. f .0)) (told (walk.the-row .coded) (a .ensured) (λ f. f .1))
@@ -556,6 +609,12 @@ detach-station : (s : Station) (seat : List ℕ) → stationMeant (leftIn (detac
 detach-station s seat =
     ap stationMeant (detach-told s seat .1 s) ∙ station-by (detachRefusal (stationMeant s) seat) (detachStation (stationMeant s) seat) s (λ h. demand-1 .frame .detach (stationMeant s) seat h .0)
 
+change-station : (s : Station) (seat d : List ℕ) → stationMeant (leftIn (changeGiven s seat d) (freedStation s seat)) ≡ changeStation kcb (stationMeant s) seat d
+unfolding changeGiven changeStation
+change-station s seat d =
+    let z = detachSeat (stationMeant s) seat in
+    attach-station (freedStation s seat) z d ∙ ap (λ (x : Attached). attachStation kcb x z d) (freed-means s seat)
+
 attach-number : (s : Station) (seat d : List ℕ) → refusalIn (attachGiven s seat d) .number ≡ attachRefusal kcb (stationMeant s) seat d
 attach-number s seat d = told-number (attach-told s seat d)
 
@@ -628,6 +687,19 @@ detach-done k l n p =
       p .number ∙ ap (λ (r : Refusal). r .number) (told (result cb_detach.ended (p .made)) (p .admitted .ensured) (λ f. f .0)) ∙ detach-number s z ∙ rw (p .station, p .seat) refl,
     )
 
+change-done : (k l : HostDesk) (d : List ℕ) (b : IsBytes d) (n : ℕ) → ChangeDone k d n l → (deskMeant l ≡ call kcb (deskMeant k) (changing d b)) × (n ≡ answer kcb (deskMeant k) (changing d b))
+change-done k l d b n p =
+    let s = now (p .made .passed .0) in
+    let z = now (p .made .passed .1 .0) in
+    let e = now (p .made .passed .1 .1 .0) in
+    let station-is : stationMeant (p .last .0) ≡ changeStation kcb (stationMeant (k .station)) (k .seat) d =
+    ap stationMeant (told (station.the-row .coded) (p .admitted .ensured) (λ f. f .1 .0)) ∙ change-station s z e ∙ rw (p .station, p .seat, p .description) refl in
+    let seat-is : p .last .1 .0 ≡ changeSeat kcb (stationMeant (k .station)) (k .seat) d = told bytes (p .admitted .ensured) (λ f. f .1 .1) ∙ rw (p .station, p .seat, p .description) refl in (
+      ap deskMeant (p .left) ∙ (λ j. record { station = station-is j; seat = seat-is j; walks = λ i. walkMeant (k .walks i) }),
+      p .number ∙ ap (λ (r : Refusal). r .number) (told (result cb_change.ended (p .made)) (p .admitted .ensured) (λ f. f .0)) ∙ told-number (change-told s z e .0)
+          ∙ rw (p .station, p .seat, p .description) refl,
+    )
+
 open-done : (k l : HostDesk) (i n : ℕ) → OpenDone k i n l → (deskMeant l ≡ call kcb (deskMeant k) (opening i)) × (n ≡ answer kcb (deskMeant k) (opening i))
 open-done k l i n p =
     let x = stationMeant (k .station) in
@@ -664,6 +736,7 @@ show-done k l i a n p =
 one-done : (k l : HostDesk) (c : Call) (n : ℕ) → Done k c n l → (deskMeant l ≡ call kcb (deskMeant k) c) × (n ≡ answer kcb (deskMeant k) c)
 one-done k l (attaching d b) n p = attach-done k l d b n p
 one-done k l detaching n p = detach-done k l n p
+one-done k l (changing d b) n p = change-done k l d b n p
 one-done k l (opening i) n p = open-done k l i n p
 one-done k l (stepping i a) n p = step-done k l i a n p
 one-done k l (showing i a) n p = show-done k l i a n p

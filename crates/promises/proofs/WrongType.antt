@@ -1,5 +1,5 @@
 -- Request 2026-01: the type that each call's refusal names is the lowest that breaks the rule. Assumes nothing.
-use mathlib.Core.Path.{_≡_, refl, sym, _∙_}
+use mathlib.Core.Path.{_≡_, refl, sym, subst, _∙_}
 use mathlib.Core.Logic.{_≢_}
 use mathlib.Core.Bool.{Bool, true, false, cond, _&&_, _||_, true≢false}
 use mathlib.Core.List.{List, [], _∷_}
@@ -25,9 +25,10 @@ use Rattle.returning.specs.Orders.{putRefusal, takeRefusal}
 use Rattle.station.specs.Paper.{kcb, refusalUnder}
 use Rattle.station.specs.declared.Station.{Station}
 use Rattle.station.specs.Attachment.{described, attachRefusal, detachRefusal}
+use Rattle.station.proofs.Changes.{change-order}
 use Rattle.station.proofs.Kcb.{kcb-refusal}
 use Rattle.walk.specs.Orders.{openRefusal, stepRefusal, showRefusal}
-use Rattle.promises.specs.Orders.{formOrder, checkOrder, questionOrder, offsetsOrder, layoutOrder, placeOrder, gatherOrder, putOrder, takeOrder, attachOrder, detachOrder, openOrder, stepOrder, showOrder}
+use Rattle.promises.specs.Orders.{formOrder, checkOrder, questionOrder, offsetsOrder, layoutOrder, placeOrder, gatherOrder, putOrder, takeOrder, attachOrder, detachOrder, openOrder, stepOrder, showOrder, changeOrder}
 use Rattle.promises.specs.WrongType.{Names, refusalRead, WrongType}
 
 -- whether a condition numbered n holds
@@ -121,6 +122,7 @@ wrong-type = record {
   take-returned = λ d image value. names d (takeOrder d image value) (alone (wrongRecord d)) (alone (tooLarge (modelIn d) d));
   attach = λ s seat d. seated d _ (names d (attachOrder s seat d) (alone (wrongRecord d)) (alone (tooLarge (modelIn d) d)));
   detach = detach-names;
+  change = λ s seat d. subst (λ (n : ℕ). Names d (refusalUnder kcb d n)) (sym (change-order kcb s seat d)) (seated d _ (names d (changeOrder s seat d) (alone (wrongRecord d)) (alone (tooLarge (modelIn d) d))));
   open-walk = λ s seat. seated (described s seat) _ (names (described s seat) (openOrder s seat) (alone (wrongRecord (described s seat))) (alone (tooLarge (modelIn (described s seat)) (described s seat))));
   step = λ s seat w a. seated (described s seat) _ (names (described s seat) (stepOrder s seat w a) (alone (wrongRecord (described s seat))) (alone (tooLarge (modelIn (described s seat)) (described s seat))));
   show = λ s seat w a. seated (described s seat) _ (names (described s seat) (showOrder s seat w a) (alone (wrongRecord (described s seat))) (alone (tooLarge (modelIn (described s seat)) (described s seat))));

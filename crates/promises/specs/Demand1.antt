@@ -2,15 +2,18 @@
 -- numbered refusal of document 01, in the stated order, never otherwise; a refusal changes no station, walk or lent buffer." Each statement is a
 -- type, under the label of docs/CONTRACTS.md; proofs/Demand1.antt proves `Demand1`. Assumes nothing: these are definitions.
 --
+-- One call is an exception from the last half sentence, by request 2026-09: "this is the one call where a refusal writes, and demand 1 names it". What it writes then is
+-- the field `change` of `A3-Frame`.
+--
 -- That each call accepts all inputs (A4) and that its contract leaves one outcome (A5) is said of the contracts themselves: `Total` and `Tight` of
 -- the crate `tightness`. That it ends is part of what Rattle proves of every function.
 use mathlib.Core.Path.{_≡_}
 use mathlib.Core.Logic.{_↔_, _≢_, _⊎_}
-use mathlib.Core.Bool.{cond}
+use mathlib.Core.Bool.{Bool, false, cond, not, _&&_}
 use mathlib.Core.List.{List, [], _++_}
 use Prim.Native.Nat.{ℕ, _+_, _*_, _≤_, _<_}
-use lib.Dec.{ltb}
-use lib.ListN.{length, getD, take, drop}
+use lib.Dec.{ltb, eqb}
+use lib.ListN.{length, getD, take, drop, replicate}
 use Rattle.description.specs.Description.{IsBytes, typesIn, kindAt, aAt, countAt, headerOf, argumentsIn, modelIn}
 use Rattle.form.specs.Order.{formRefusal}
 use Rattle.form.specs.Reading.{refusalOf, readingOf}
@@ -40,13 +43,13 @@ use Rattle.returning.specs.Image.{returnedAddress}
 use Rattle.returning.specs.Answers.{putAnswer, takeAnswer, imageAfter, valueAfter}
 use Rattle.station.specs.declared.Station.{Station}
 use Rattle.station.specs.Paper.{kcb, refusalUnder}
-use Rattle.station.specs.Attachment.{described, attachRefusal, attachStation, attachSeat, detachRefusal, detachStation, detachSeat}
+use Rattle.station.specs.Attachment.{described, attachRefusal, attachStation, attachSeat, detachRefusal, detachStation, detachSeat, changeRefusal, changeStation, changeSeat}
 use Rattle.walk.specs.declared.Walk.{Walk}
 use Rattle.walk.specs.Orders.{Ask, stepRefusal, showRefusal}
 use Rattle.walk.specs.Steps.{openWalk, openAnswer, stepWalk, stepOut}
 use Rattle.walk.specs.Show.{shownIn, shownAnswer}
 use Rattle.promises.specs.Meaning.{numberOf, ofNumber, ofRefusal, ofReading, ofExtent, ofSize, ofAlign, ofClasses, Members, run, none, ofRun, ofLayout, ofPlacing, ofGathering, ofPutting, ofTaking, ofOpening, ofShown, shownPart, Answered}
-use Rattle.promises.specs.Orders.{checkOrder, formOrder, typesOrder, usesOrder, questionOrder, offsetsOrder, layoutOrder, gatherOrder, placeOrder, putOrder, takeOrder, attachOrder, detachOrder, openOrder, stepOrder, showOrder}
+use Rattle.promises.specs.Orders.{checkOrder, formOrder, typesOrder, usesOrder, questionOrder, offsetsOrder, layoutOrder, gatherOrder, placeOrder, putOrder, takeOrder, attachOrder, detachOrder, openOrder, stepOrder, showOrder, changeOrder}
 
 -- ---- A1: "Bad input gets the numbered refusal of document 01, in the stated order, never otherwise"
 
@@ -99,6 +102,7 @@ pub record A2-Returned : Type 0 where
 pub record A2-Walk : Type 0 where
   pub attach : (s : Station) (seat d : List ℕ) → Answered (ofRefusal (refusalUnder kcb d (attachRefusal kcb s seat d))) (attachOrder s seat d) tt
   pub detach : (s : Station) (seat : List ℕ) → Answered (ofRefusal (refusalOf (detachRefusal s seat))) (detachOrder s seat) tt
+  pub change : (s : Station) (seat d : List ℕ) → Answered (ofRefusal (refusalUnder kcb d (changeRefusal kcb s seat d))) (changeOrder s seat d) tt
   pub open-walk : (s : Station) (seat : List ℕ) → Answered (ofOpening (openAnswer kcb s seat)) (openOrder s seat) (openWalk kcb s seat)
   pub step : (s : Station) (seat : List ℕ) (w : Walk) (a : Ask) → Answered (ofRefusal (refusalUnder kcb (described s seat) (stepRefusal kcb s seat w a))) (stepOrder s seat w a) tt
   pub show-number : (s : Station) (seat : List ℕ) (w : Walk) (a : Ask)
@@ -107,6 +111,10 @@ pub record A2-Walk : Type 0 where
       → Answered (ofShown (shownAnswer kcb s seat w a)) (showOrder s seat w a) (shownPart (shownIn kcb (described s seat) w))
 
 -- ---- A3: "a refusal changes no station, walk or lent buffer"
+
+-- whether a change that is refused under n writes: where something was attached and n is not 11, its module has left
+abbrev pub partedBy : Station → ℕ → Bool
+partedBy s n = s .attached && not (eqb n 11)
 
 pub record A3-Frame : Type 0 where
   pub member-offsets : (d : List ℕ) (t : ℕ) (list : List ℕ) → offsetsRefusal d t (length list) ≢ 0 → offsetsAfter d t list ≡ list
@@ -119,6 +127,10 @@ pub record A3-Frame : Type 0 where
   pub take-returned : (d image value : List ℕ) → numberOf (ofTaking (takeAnswer d image (length value))) ≢ 0 → valueAfter d image value ≡ value
   pub attach : (s : Station) (seat d : List ℕ) → attachRefusal kcb s seat d ≢ 0 → (attachStation kcb s seat d ≡ s) × (attachSeat kcb s seat d ≡ seat)
   pub detach : (s : Station) (seat : List ℕ) → detachRefusal s seat ≢ 0 → (detachStation s seat ≡ s) × (detachSeat s seat ≡ seat)
+  -- the exception, request 2026-09: "the station ends detached, with a zero seat if one was attached", "Refused under 11 it changes nothing"
+  pub change : (s : Station) (seat d : List ℕ) → changeRefusal kcb s seat d ≢ 0
+      → (changeStation kcb s seat d ≡ cond (partedBy s (changeRefusal kcb s seat d)) (record { attached = false; length = record { 0 = 0 }; number = s .number }) s)
+      × (changeSeat kcb s seat d ≡ cond (partedBy s (changeRefusal kcb s seat d)) (replicate 586 0) seat)
   pub step : (s : Station) (seat : List ℕ) (w : Walk) (a : Ask) → stepRefusal kcb s seat w a ≢ 0 → (stepWalk kcb s seat w a ≡ w) × (stepOut kcb s seat w a ≡ a .out)
 
 -- ---- A6: what an accepted description can ask for is bounded (`Bounded`: 586 bytes, sizes 1 to 4,096, six and eight registers, an area of at most

@@ -26,11 +26,11 @@ use Rattle.moving.specs.Answers.{registersAfter, stackAfter}
 use Rattle.moving.specs.Statements.{NoSharedImage}
 use Rattle.station.specs.declared.Station.{Station}
 use Rattle.station.specs.Paper.{kcb}
-use Rattle.station.specs.Attachment.{attachRefusal, attachStation, attachSeat}
-use Rattle.histories.specs.Calls.{Desk, Call, calls, Along, Stays, Until, handed, Spares, Serves, Served, asks}
+use Rattle.station.specs.Attachment.{attachRefusal, attachStation, attachSeat, changeRefusal, changeStation, changeSeat}
+use Rattle.histories.specs.Calls.{Desk, Call, Arrival, calls, Along, Stays, Until, handed, Spares, Serves, Served, asks}
 use Rattle.histories.specs.Values.{imagesFor, unnamed, unnamedQuestions}
 use Rattle.histories.specs.Outcomes.{opened, Ended}
-use Rattle.histories.specs.ConditionC.{Connects, Starts, HandsBackSoFar, GoesOn, Stale, StaleRecord, AnyRecord, Either, NumberCounts, NumberBounded, NumberPasses, NumberLast, Reached, OpenReached, StepReached, ShowReached, ShowChecks, Shows, ShowsNone, Detaches, RefusedLeaves, Cut}
+use Rattle.histories.specs.ConditionC.{Connects, Starts, HandsBackSoFar, GoesOn, Stale, StaleRecord, AnyRecord, Either, NumberCounts, NumberBounded, NumberPasses, NumberLast, Reached, OpenReached, StepReached, ShowReached, ShowChecks, Shows, ShowsNone, Detaches, RefusedLeaves, ChangeEquals, ChangeEleven, ChangeLeaves, ChangeEnds, Cut}
 use Rattle.promises.specs.Demand2.{placeAt}
 
 -- ---- C1, C2: "each value byte has exactly one place, no two share one"
@@ -69,6 +69,10 @@ pub record C5-Starts : Type 0 where
   pub attached : (s : Station) (seat d : List ℕ) → attachRefusal kcb s seat d ≡ 0
       → (attachStation kcb s seat d ≡ record { attached = true; length = record { 0 = length d }; number = suc (s .number) })
       × (attachSeat kcb s seat d ≡ d ++ replicate (586 - length d) 0)
+  -- and an accepted change, the same
+  pub changed : (s : Station) (seat d : List ℕ) → changeRefusal kcb s seat d ≡ 0
+      → (changeStation kcb s seat d ≡ record { attached = true; length = record { 0 = length d }; number = suc (s .number) })
+      × (changeSeat kcb s seat d ≡ d ++ replicate (586 - length d) 0)
   pub starts : Starts kcb
 
 -- ---- C6: what calls lead to: 1 to 10 are no answers of open, step and show there
@@ -86,7 +90,7 @@ pub record C7-Stale : Type 0 where
   pub stale-record : StaleRecord kcb
   pub number-counts : NumberCounts kcb
   pub number-bounded : NumberBounded kcb
-  -- a history has a first accepted detach, or none: so it falls under `stale` from there, or under C8
+  -- the module leaves in a history, or does not: so it falls under `stale` from there, or under C8
   pub either : Either kcb
 
 -- ---- C8: "over images placed for it and asked by the right types, hands back each unnamed argument's bytes in order"
@@ -95,24 +99,24 @@ pub record C7-Stale : Type 0 where
 abbrev pub placedImages : List ℕ → ℕ → List ℕ → List ℕ → List ℕ → List ℕ
 placedImages d h values r s = registersAfter amd64 d h values r s ++ stackAfter amd64 d h values r s
 
--- d is attached at any desk k, the walk i is opened, and each step of it is lent these images: then the steps hand back the unnamed arguments'
+-- d comes at any desk k, by an attach or a change, the walk i is opened, and each step of it is lent these images: then the steps hand back the unnamed arguments'
 -- bytes, in order, among any other calls, and the next step is 19
 abbrev pub HandsBackPlaced : Type 0
 HandsBackPlaced =
-    (k : Desk) (d : List ℕ) (b : IsBytes d) (h : ℕ) (values r s : List ℕ) (i : ℕ) (between cs : List Call)
-    → placeRefusal amd64 d h values (length r) (length s) ≡ 0 → Connects kcb k d b between → kcb .variadic d ≡ true → All (Spares i) cs
-    → All (Serves kcb i (placedImages d h values r s)) cs → Along kcb (Stays kcb) (opened kcb k d b between i) cs → asks i cs ≡ unnamedQuestions kcb d
-    → (handed kcb i (opened kcb k d b between i) cs ≡ unnamed kcb d values)
-    × Ended kcb i (calls kcb (opened kcb k d b between i) cs) (placedImages d h values r s)
+    (k : Desk) (v : Arrival) (d : List ℕ) (b : IsBytes d) (h : ℕ) (values r s : List ℕ) (i : ℕ) (between cs : List Call)
+    → placeRefusal amd64 d h values (length r) (length s) ≡ 0 → Connects kcb k v d b between → kcb .variadic d ≡ true → All (Spares i) cs
+    → All (Serves kcb i (placedImages d h values r s)) cs → Along kcb (Stays kcb) (opened kcb k v d b between i) cs → asks i cs ≡ unnamedQuestions kcb d
+    → (handed kcb i (opened kcb k v d b between i) cs ≡ unnamed kcb d values)
+    × Ended kcb i (calls kcb (opened kcb k v d b between i) cs) (placedImages d h values r s)
 
--- in any history whatever, detaches and other modules included, what it hands back is a beginning of its own module's unnamed arguments, as long as
+-- in any history whatever, detaches, changes and other modules included, what it hands back is a beginning of its own module's unnamed arguments, as long as
 -- the images are lent to the steps that are accepted before its module leaves
 abbrev pub NeverAnotherPlaced : Type 0
 NeverAnotherPlaced =
-    (k : Desk) (d : List ℕ) (b : IsBytes d) (h : ℕ) (values r s : List ℕ) (i : ℕ) (between cs : List Call)
-    → placeRefusal amd64 d h values (length r) (length s) ≡ 0 → Connects kcb k d b between → kcb .variadic d ≡ true → All (Spares i) cs
-    → Until kcb (Served kcb i (placedImages d h values r s)) (opened kcb k d b between i) cs
-    → handed kcb i (opened kcb k d b between i) cs ≡ take (length (handed kcb i (opened kcb k d b between i) cs)) (unnamed kcb d values)
+    (k : Desk) (v : Arrival) (d : List ℕ) (b : IsBytes d) (h : ℕ) (values r s : List ℕ) (i : ℕ) (between cs : List Call)
+    → placeRefusal amd64 d h values (length r) (length s) ≡ 0 → Connects kcb k v d b between → kcb .variadic d ≡ true → All (Spares i) cs
+    → Until kcb (Served kcb i (placedImages d h values r s)) (opened kcb k v d b between i) cs
+    → handed kcb i (opened kcb k v d b between i) cs ≡ take (length (handed kcb i (opened kcb k v d b between i) cs)) (unnamed kcb d values)
 
 pub record C8-HandsBack : Type 0 where
   -- the images that `place_values` leaves are those that condition C speaks of
@@ -125,7 +129,7 @@ pub record C8-HandsBack : Type 0 where
   pub hands-back-so-far : HandsBackSoFar kcb
   pub any-record : AnyRecord kcb
   pub cuts : Cut kcb
-  -- a refused call leaves the desk as it was, so that a walk goes on behind it
+  -- a refused call leaves the desk as it was, so that a walk goes on behind it; a change does so under 11 alone
   pub refused : RefusedLeaves kcb
 
 -- ---- C9: "it shows the argument as a part of the register image or of the stack image, and the empty part for a refusal, for two vector registers and
@@ -144,6 +148,16 @@ pub record C10-Number : Type 0 where
 
 -- ---- C11: "Detach zeros seat and length and keeps the number": `Detaches`
 
+-- ---- C12, request 2026-09: "It equals detach, its answer ignored, then attach. So if the new description is refused, or the number is used up, the
+-- station ends detached, with a zero seat if one was attached .. Refused under 11 it changes nothing, and an open walk goes on; otherwise a walk opened
+-- before it is refused under 17 when a new attachment exists and 13 when none does"
+
+pub record C12-Changes : Type 0 where
+  pub equals : ChangeEquals kcb
+  pub leaves : ChangeLeaves kcb
+  pub eleven : ChangeEleven kcb
+  pub ends : ChangeEnds kcb
+
 pub record Demand3 : Type 0 where
   pub places : C1-C2-Places
   pub alignment : C3-Alignment
@@ -155,3 +169,4 @@ pub record Demand3 : Type 0 where
   pub shows : C9-Shows
   pub number : C10-Number
   pub detaches : Detaches kcb
+  pub changes : C12-Changes

@@ -48,7 +48,7 @@ use Rattle.flat.specs.Numbers.{classMeant}
 use Rattle.flat.specs.Meanings.{placementMeant, layoutMeant}
 use Rattle.flat.specs.Parts.{nowhere}
 use Rattle.flat.specs.Stations.{stationMeant, walkMeant}
-use Rattle.histories.specs.Calls.{Desk, Call, attaching, detaching, opening, stepping, showing, numbering, writing, calls, answers}
+use Rattle.histories.specs.Calls.{Desk, Call, attaching, detaching, changing, opening, stepping, showing, numbering, writing, calls, answers}
 use Rattle.callbridge.proofs.cb_version
 use Rattle.callbridge.proofs.cb_check
 use Rattle.callbridge.proofs.cb_type_extent
@@ -65,11 +65,12 @@ use Rattle.callbridge.proofs.cb_take_returned
 use Rattle.callbridge.proofs.cb_new_station
 use Rattle.callbridge.proofs.cb_attach
 use Rattle.callbridge.proofs.cb_detach
+use Rattle.callbridge.proofs.cb_change
 use Rattle.callbridge.proofs.cb_open_walk
 use Rattle.callbridge.proofs.cb_step
 use Rattle.callbridge.proofs.cb_show
 use Rattle.promises.specs.Meaning.{outcome, ofRefusal, Members, run, none, Part as Shown, inRegisters, inStack, apart, shownPart, Answered}
-use Rattle.promises.specs.Orders.{questionOrder, offsetsOrder, checkOrder, layoutOrder, placeOrder, gatherOrder, putOrder, takeOrder, attachOrder, detachOrder, openOrder, stepOrder, showOrder}
+use Rattle.promises.specs.Orders.{questionOrder, offsetsOrder, checkOrder, layoutOrder, placeOrder, gatherOrder, putOrder, takeOrder, attachOrder, detachOrder, openOrder, stepOrder, showOrder, changeOrder}
 use Rattle.promises.specs.WrongType.{Names}
 use Rattle.promises.specs.Demand1.{members, classPair}
 use Rattle.promises.specs.Demand2.{MembersLie}
@@ -177,6 +178,17 @@ pub record DetachesFlat (old : Station) (seat : List ℕ) (r : Refusal) (new : S
   pub refused : r .number ≢ 0 → (new ≡ old) × (z ≡ seat)
   pub detached : r .number ≡ 0 → (stationMeant new ≡ record { attached = false; length = record { 0 = 0 }; number = old .number }) × (z ≡ replicate 586 0)
 
+-- cb_change (request 2026-09): a refusal leaves every byte under 11, and where nothing was attached; else what was attached has left
+pub record ChangesFlat (old : Station) (seat d : List ℕ) (r : Refusal) (new : Station) (z : List ℕ) : Type 0 where
+  pub answered : Answered (ofRefusal r) (changeOrder (stationMeant old) seat d) tt
+  pub names : Names d r
+  pub eleven : r .number ≡ 11 → (new ≡ old) × (z ≡ seat)
+  pub idle : r .number ≢ 0 → stationMeant old .attached ≡ false → (new ≡ old) × (z ≡ seat)
+  pub parted : r .number ≢ 0 → r .number ≢ 11 → stationMeant old .attached ≡ true
+      → (stationMeant new ≡ record { attached = false; length = record { 0 = 0 }; number = old .number }) × (z ≡ replicate 586 0)
+  pub changed : r .number ≡ 0
+      → (stationMeant new ≡ record { attached = true; length = record { 0 = length d }; number = suc (old .number) }) × (z ≡ d ++ replicate (586 - length d) 0)
+
 -- cb_open_walk: position N, and the offsets that the description in the seat gives there
 abbrev pub OpensFlat : Station → List ℕ → Walk → Refusal → Walk → Type 0
 OpensFlat s seat old r new =
@@ -233,6 +245,8 @@ pub record Exports : Type 2 where
   pub attach : Ensures cb_attach.ended (λ M. cb_attach.clauses {M = M})
       (λ c r w. AttachesFlat (now (c .passed .0)) (now (c .passed .1 .0)) (now (c .passed .1 .1 .0)) r (w .0) (w .1 .0))
   pub detach : Ensures cb_detach.ended (λ M. cb_detach.clauses {M = M}) (λ c r w. DetachesFlat (now (c .passed .0)) (now (c .passed .1 .0)) r (w .0) (w .1 .0))
+  pub change : Ensures cb_change.ended (λ M. cb_change.clauses {M = M})
+      (λ c r w. ChangesFlat (now (c .passed .0)) (now (c .passed .1 .0)) (now (c .passed .1 .1 .0)) r (w .0) (w .1 .0))
   pub open-walk : Ensures cb_open_walk.ended (λ M. cb_open_walk.clauses {M = M})
       (λ c r w. OpensFlat (now (c .passed .0)) (now (c .passed .1 .0)) (now (c .passed .1 .1 .0)) r (w .1 .1 .0))
   pub step : Ensures cb_step.ended (λ M. cb_step.clauses {M = M})
@@ -317,6 +331,17 @@ pub record DetachDone (k : HostDesk) (n : ℕ) (l : HostDesk) : Type 2 where
   pub number : n ≡ result .number
   pub left : l ≡ record { station = last .0; seat = last .1 .0; walks = k .walks }
 
+pub record ChangeDone (k : HostDesk) (d : List ℕ) (n : ℕ) (l : HostDesk) : Type 2 where
+  pub made : Made cb_change.ended
+  pub result : Res (cb_change.ended .signature) (made .lifetimes)
+  pub last : Lasts cb_change.ended (made .lifetimes) (made .passed)
+  pub admitted : Admits cb_change.ended (λ M. cb_change.clauses {M = M}) made result last
+  pub station : now (made .passed .0) ≡ k .station
+  pub seat : now (made .passed .1 .0) ≡ k .seat
+  pub description : now (made .passed .1 .1 .0) ≡ d
+  pub number : n ≡ result .number
+  pub left : l ≡ record { station = last .0; seat = last .1 .0; walks = k .walks }
+
 -- the records with w under the name i
 abbrev pub withRecord : (ℕ → Walk) → ℕ → Walk → ℕ → Walk
 withRecord ws i w j = cond (eqb i j) w (ws j)
@@ -371,6 +396,7 @@ pub record WriteDone (k : HostDesk) (i : ℕ) (w : Standing) (n : ℕ) (l : Host
 abbrev pub Done : HostDesk → Call → ℕ → HostDesk → Type 2
 Done k (attaching d b) n l = AttachDone k d n l
 Done k detaching n l = DetachDone k n l
+Done k (changing d b) n l = ChangeDone k d n l
 Done k (opening i) n l = OpenDone k i n l
 Done k (stepping i a) n l = StepDone k i a n l
 Done k (showing i a) n l = ShowDone k i a n l

@@ -82,6 +82,10 @@ attachOrder s seat d =
 abbrev pub detachOrder : Station → List ℕ → List Rule
 detachOrder s seat = rule 11 (wrongSeat s seat) ∷ rule 13 (not (s .attached)) ∷ []
 
+-- request 2026-09: "11 first, then those of attach without 14"
+abbrev pub changeOrder : Station → List ℕ → List ℕ → List Rule
+changeOrder s seat d = rule 11 (wrongSeat s seat) ∷ rule 15 (leb 4294967295 (s .number)) ∷ checkOrder d
+
 -- "Open: 11, 13, 1..10, 16"; "Open and step read the description in the seat at the station's length"
 abbrev pub openOrder : Station → List ℕ → List Rule
 openOrder s seat =

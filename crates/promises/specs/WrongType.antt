@@ -25,7 +25,7 @@ use Rattle.moving.specs.Orders.{placeRefusal, gatherRefusal}
 use Rattle.returning.specs.Orders.{putRefusal, takeRefusal}
 use Rattle.station.specs.declared.Station.{Station}
 use Rattle.station.specs.Paper.{kcb, refusalUnder}
-use Rattle.station.specs.Attachment.{described, attachRefusal, detachRefusal}
+use Rattle.station.specs.Attachment.{described, attachRefusal, detachRefusal, changeRefusal}
 use Rattle.walk.specs.declared.Walk.{Walk}
 use Rattle.walk.specs.Orders.{Ask, openRefusal, stepRefusal, showRefusal}
 
@@ -61,6 +61,7 @@ pub record WrongType : Type 0 where
   pub take-returned : (d image : List ℕ) (valueLength : ℕ) → Names d (refusalFor d (takeRefusal d image valueLength))
   pub attach : (s : Station) (seat d : List ℕ) → Names d (refusalUnder kcb d (attachRefusal kcb s seat d))
   pub detach : (s : Station) (seat d : List ℕ) → Names d (refusalOf (detachRefusal s seat))
+  pub change : (s : Station) (seat d : List ℕ) → Names d (refusalUnder kcb d (changeRefusal kcb s seat d))
   pub open-walk : (s : Station) (seat : List ℕ) → Names (described s seat) (refusalUnder kcb (described s seat) (openRefusal kcb s seat))
   pub step : (s : Station) (seat : List ℕ) (w : Walk) (a : Ask)
       → Names (described s seat) (refusalUnder kcb (described s seat) (stepRefusal kcb s seat w a))

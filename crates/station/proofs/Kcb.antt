@@ -1,5 +1,6 @@
 -- Document 01's own paper, in the layout's words. Assumes nothing.
 use mathlib.Core.Path.{_≡_, refl, sym, ap, _∙_}
+use mathlib.Core.Logic.{_≢_}
 use mathlib.Core.List.{List, [], _∷_, _++_, map}
 use Prim.Native.Nat.{ℕ, zero, suc, _+_, _-_, _≤_, _<_}
 use native.Mathlib.Omega.{arith}
@@ -7,11 +8,12 @@ use lib.ListN.{length, getD, take}
 use Rattle.description.specs.Description.{argumentsIn, argumentAt, IsBytes}
 use Rattle.addresses.specs.Addresses.{run}
 use Rattle.form.proofs.Form.{accepted-length}
+use Rattle.form.proofs.Order.{never}
 use Rattle.types.specs.Wrong.{refusalFor}
 use Rattle.types.proofs.Large.{accepted-form}
 use Rattle.uses.proofs.Uses.{accepted-types}
 use Rattle.layout.specs.Arguments.{shapeAt as layoutShape, shapesFrom, usedAt as layoutUsed, areaOf as layoutArea}
-use Rattle.layout.specs.Verdict.{verdict}
+use Rattle.layout.specs.Verdict.{checkOrder, verdict}
 use Rattle.layout.proofs.Arguments.{length-shapes, shapes-split}
 use Rattle.layout.proofs.Verdict.{accepted-uses}
 use Rattle.places.specs.Shapes.{Shape}
@@ -76,3 +78,10 @@ kcb-type d p l = type-in d (argumentsIn d) 0 p l ∙ ap (argumentAt d) (omega ar
 -- "at most 586", of bytes
 pub kcb-short : (d : List ℕ) → IsBytes d → verdictOf kcb d ≡ 0 → length d ≤ 586
 kcb-short d b e = accepted-length d (accepted-form d (accepted-types d (accepted-uses d (sym (kcb-verdict d) ∙ e)))) b
+
+-- 11 is none of 1 to 10
+pub kcb-lent : (d : List ℕ) → verdictOf kcb d ≢ 11
+unfolding kcb verdictOf
+kcb-lent d =
+    never (checkOrder d) 11 (λ e. omega (arith, e))
+    ((λ e. omega (arith, e)), ((λ e. omega (arith, e)), ((λ e. omega (arith, e)), ((λ e. omega (arith, e)), ((λ e. omega (arith, e)), ((λ e. omega (arith, e)), ((λ e. omega (arith, e)), ((λ e. omega (arith, e)), ((λ e. omega (arith, e)), ((λ e. omega (arith, e)), tt))))))))))

@@ -1,3 +1,4 @@
 pub mod Orders
 pub mod Attachments
 pub mod Kcb
+pub mod Changes

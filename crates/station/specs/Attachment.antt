@@ -1,5 +1,5 @@
--- Attach and detach (document 01, "Station and walk" and "Refusal numbers"): what each answers and leaves, as functions of what it
--- is lent. Assumes nothing: these are definitions.
+-- Attach and detach (document 01, "Station and walk" and "Refusal numbers") and the change (request 2026-09): what each answers and leaves, as
+-- functions of what it is lent. Assumes nothing: these are definitions.
 use mathlib.Core.Bool.{Bool, true, false, not, _||_}
 use mathlib.Core.List.{List, [], _∷_, _++_}
 use Prim.Native.Nat.{ℕ, suc, _-_}
@@ -66,3 +66,19 @@ module _ (P : Paper) where
   -- "and fills the seat with the description, then zeros"
   unfoldable pub attachSeat : Station → List ℕ → List ℕ → List ℕ
   attachSeat s seat d = leaves (attachRefusal s seat d) (seatOf d) seat
+
+  -- ---- change (request 2026-09)
+
+  -- "It equals detach, its answer ignored, then attach"
+  unfoldable pub changeRefusal : Station → List ℕ → List ℕ → ℕ
+  changeRefusal s seat d = attachRefusal (detachStation s seat) (detachSeat s seat) d
+
+  unfoldable pub changeStation : Station → List ℕ → List ℕ → Station
+  changeStation s seat d = attachStation (detachStation s seat) (detachSeat s seat) d
+
+  unfoldable pub changeSeat : Station → List ℕ → List ℕ → List ℕ
+  changeSeat s seat d = attachSeat (detachStation s seat) (detachSeat s seat) d
+
+  -- "Refusals: 11 first, then those of attach without 14"
+  abbrev pub changeOrder : Station → List ℕ → List ℕ → List Rule
+  changeOrder s seat d = rule 11 (wrongSeat s seat) ∷ rule 15 (leb 4294967295 (s .number)) ∷ P .order d

@@ -1,10 +1,11 @@
-// The station and its seat (document 01, "Station and walk"): attaching a description and detaching it, by value and lent.
+// The station and its seat (document 01, "Station and walk"): attaching a description, detaching it and changing it for another
+// (request 2026-09), by value and lent.
 use form::Refusal;
 use units::Bytes;
 ghost use mathlib.Core.Path.{_≡_};
 ghost use Prim.Native.Nat.{_≤_};
 ghost use lib.ListN.{length};
-ghost use Rattle.station.specs.Attachment.{newStation, wrongSeat, seatOf, attachRefusal, attachStation, attachSeat, detachRefusal, detachStation, detachSeat};
+ghost use Rattle.station.specs.Attachment.{newStation, wrongSeat, seatOf, attachRefusal, attachStation, attachSeat, detachRefusal, detachStation, detachSeat, changeRefusal, changeStation, changeSeat};
 ghost use Rattle.station.specs.Paper.{kcb, refusalUnder};
 ghost use Rattle.form.specs.Reading.{refusalOf};
 
@@ -158,6 +159,30 @@ pub fn detach(station: &mut Station, seat: &mut [u8]) -> Refusal
         × (now (seat .exit) ≡ detachSeat (now (station .entry)) (now (seat .entry))) ⌝ }
 {
     let after = detach_by_value(*station, seat);
+    *station = after.station;
+    after.refusal
+}
+
+// ---- changing
+
+// Changes modules, by value: "It equals detach, its answer ignored, then attach". It is the one call where a refusal writes: what was
+// attached has left.
+pub fn change_by_value(station: Station, seat: &mut [u8], d: &[u8]) -> Attached
+    ensures { λ r. ⌜ (r .refusal ≡ refusalUnder kcb (now (d .entry)) (changeRefusal kcb station (now (seat .entry)) (now (d .entry))))
+        × (r .station ≡ changeStation kcb station (now (seat .entry)) (now (d .entry)))
+        × (now (seat .exit) ≡ changeSeat kcb station (now (seat .entry)) (now (d .entry))) ⌝ }
+{
+    let freed = detach_by_value(station, seat);
+    attach_by_value(freed.station, seat, d)
+}
+
+// Changes modules at the station and the seat that the host lends.
+pub fn change(station: &mut Station, seat: &mut [u8], d: &[u8]) -> Refusal
+    ensures { λ r. ⌜ (r ≡ refusalUnder kcb (now (d .entry)) (changeRefusal kcb (now (station .entry)) (now (seat .entry)) (now (d .entry))))
+        × (now (station .exit) ≡ changeStation kcb (now (station .entry)) (now (seat .entry)) (now (d .entry)))
+        × (now (seat .exit) ≡ changeSeat kcb (now (station .entry)) (now (seat .entry)) (now (d .entry))) ⌝ }
+{
+    let after = change_by_value(*station, seat, d);
     *station = after.station;
     after.refusal
 }

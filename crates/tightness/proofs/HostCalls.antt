@@ -21,6 +21,8 @@ use Rattle.station.proofs.attach
 use Rattle.station.proofs.attach_by_value
 use Rattle.station.proofs.detach
 use Rattle.station.proofs.detach_by_value
+use Rattle.station.proofs.change
+use Rattle.station.proofs.change_by_value
 use Rattle.walk.proofs.open_walk
 use Rattle.walk.proofs.step
 use Rattle.walk.proofs.step_by_value
@@ -44,6 +46,7 @@ use Rattle.callbridge.proofs.cb_take_returned
 use Rattle.callbridge.proofs.cb_new_station
 use Rattle.callbridge.proofs.cb_attach
 use Rattle.callbridge.proofs.cb_detach
+use Rattle.callbridge.proofs.cb_change
 use Rattle.callbridge.proofs.cb_open_walk
 use Rattle.callbridge.proofs.cb_step
 use Rattle.callbridge.proofs.cb_show
@@ -107,6 +110,12 @@ total-station-detach c g = refl
 
 pub total-station-detach-by-value : Total detach_by_value.ended (λ M. detach_by_value.clauses {M = M})
 total-station-detach-by-value c g = refl
+
+pub total-station-change : Total change.ended (λ M. change.clauses {M = M})
+total-station-change c g = refl
+
+pub total-station-change-by-value : Total change_by_value.ended (λ M. change_by_value.clauses {M = M})
+total-station-change-by-value c g = refl
 
 pub total-walk-open-walk : Total open_walk.ended (λ M. open_walk.clauses {M = M})
 total-walk-open-walk c g = refl
@@ -176,6 +185,9 @@ total-callbridge-cb-attach c g = refl
 
 pub total-callbridge-cb-detach : Total cb_detach.ended (λ M. cb_detach.clauses {M = M})
 total-callbridge-cb-detach c g = refl
+
+pub total-callbridge-cb-change : Total cb_change.ended (λ M. cb_change.clauses {M = M})
+total-callbridge-cb-change c g = refl
 
 pub total-callbridge-cb-open-walk : Total cb_open_walk.ended (λ M. cb_open_walk.clauses {M = M})
 total-callbridge-cb-open-walk c g = refl

@@ -29,6 +29,9 @@ use Rattle.c_calls.proofs.attach.Symbol as attach-symbol
 use Rattle.c_calls.proofs.detach
 use Rattle.c_calls.proofs.detach.Met as detach-met
 use Rattle.c_calls.proofs.detach.Symbol as detach-symbol
+use Rattle.c_calls.proofs.change
+use Rattle.c_calls.proofs.change.Met as change-met
+use Rattle.c_calls.proofs.change.Symbol as change-symbol
 use Rattle.c_calls.proofs.type_extent
 use Rattle.c_calls.proofs.type_extent.Met as type-extent-met
 use Rattle.c_calls.proofs.type_extent.Symbol as type-extent-symbol
@@ -119,6 +122,15 @@ meets-c-calls-detach M = detach-met.met
 
 pub tight-c-calls-detach : Tight detach.ended (λ M. detach.clauses {M = M})
 tight-c-calls-detach c r q w v a b = (settle (result detach.ended c) (a .ensured) (b .ensured) (λ e f i. record { station = (e .1 .0 ∙ sym (f .1 .0)) i; refusal = (e .0 ∙ sym (f .0)) i }), λ i. (tt, (same-seat i, tt)))
+  where
+    same-seat : w .1 .0 ≡ v .1 .0
+    same-seat = settle bytes (a .ensured) (b .ensured) (λ e f. e .1 .1 ∙ sym (f .1 .1))
+
+pub meets-c-calls-change : Meets change.ended (λ M. change.clauses {M = M}) change-symbol.routine
+meets-c-calls-change M = change-met.met
+
+pub tight-c-calls-change : Tight change.ended (λ M. change.clauses {M = M})
+tight-c-calls-change c r q w v a b = (settle (result change.ended c) (a .ensured) (b .ensured) (λ e f i. record { station = (e .1 .0 ∙ sym (f .1 .0)) i; refusal = (e .0 ∙ sym (f .0)) i }), λ i. (tt, (same-seat i, (tt, tt))))
   where
     same-seat : w .1 .0 ≡ v .1 .0
     same-seat = settle bytes (a .ensured) (b .ensured) (λ e f. e .1 .1 ∙ sym (f .1 .1))

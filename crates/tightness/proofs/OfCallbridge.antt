@@ -60,6 +60,9 @@ use Rattle.callbridge.proofs.cb_attach.Symbol as cb-attach-symbol
 use Rattle.callbridge.proofs.cb_detach
 use Rattle.callbridge.proofs.cb_detach.Met as cb-detach-met
 use Rattle.callbridge.proofs.cb_detach.Symbol as cb-detach-symbol
+use Rattle.callbridge.proofs.cb_change
+use Rattle.callbridge.proofs.cb_change.Met as cb-change-met
+use Rattle.callbridge.proofs.cb_change.Symbol as cb-change-symbol
 use Rattle.callbridge.proofs.cb_open_walk
 use Rattle.callbridge.proofs.cb_open_walk.Met as cb-open-walk-met
 use Rattle.callbridge.proofs.cb_open_walk.Symbol as cb-open-walk-symbol
@@ -219,6 +222,18 @@ meets-callbridge-cb-detach M = cb-detach-met.met
 
 pub tight-callbridge-cb-detach : Tight cb_detach.ended (λ M. cb_detach.clauses {M = M})
 tight-callbridge-cb-detach c r q w v a b = (settle (result cb_detach.ended c) (a .ensured) (b .ensured) (λ e f. e .0 ∙ sym (f .0)), λ i. (same-station i, (same-seat i, tt)))
+  where
+    same-station : w .0 ≡ v .0
+    same-station = settle (flat-Station.the-row .coded) (a .ensured) (b .ensured) (λ e f. e .1 .0 ∙ sym (f .1 .0))
+
+    same-seat : w .1 .0 ≡ v .1 .0
+    same-seat = settle bytes (a .ensured) (b .ensured) (λ e f. e .1 .1 ∙ sym (f .1 .1))
+
+pub meets-callbridge-cb-change : Meets cb_change.ended (λ M. cb_change.clauses {M = M}) cb-change-symbol.routine
+meets-callbridge-cb-change M = cb-change-met.met
+
+pub tight-callbridge-cb-change : Tight cb_change.ended (λ M. cb_change.clauses {M = M})
+tight-callbridge-cb-change c r q w v a b = (settle (result cb_change.ended c) (a .ensured) (b .ensured) (λ e f. e .0 ∙ sym (f .0)), λ i. (same-station i, (same-seat i, (tt, tt))))
   where
     same-station : w .0 ≡ v .0
     same-station = settle (flat-Station.the-row .coded) (a .ensured) (b .ensured) (λ e f. e .1 .0 ∙ sym (f .1 .0))

@@ -21,6 +21,12 @@ use Rattle.station.proofs.detach_by_value.Symbol as detach-by-value-symbol
 use Rattle.station.proofs.detach
 use Rattle.station.proofs.detach.Met as detach-met
 use Rattle.station.proofs.detach.Symbol as detach-symbol
+use Rattle.station.proofs.change_by_value
+use Rattle.station.proofs.change_by_value.Met as change-by-value-met
+use Rattle.station.proofs.change_by_value.Symbol as change-by-value-symbol
+use Rattle.station.proofs.change
+use Rattle.station.proofs.change.Met as change-met
+use Rattle.station.proofs.change.Symbol as change-symbol
 
 pub meets-station-new-station : Meets new_station.ended (λ M. new_station.clauses {M = M}) new-station-symbol.routine
 meets-station-new-station M = new-station-met.met
@@ -69,6 +75,27 @@ meets-station-detach M = detach-met.met
 
 pub tight-station-detach : Tight detach.ended (λ M. detach.clauses {M = M})
 tight-station-detach c r q w v a b = (settle (result detach.ended c) (a .ensured) (b .ensured) (λ e f. e .0 ∙ sym (f .0)), λ i. (same-station i, (same-seat i, tt)))
+  where
+    same-station : w .0 ≡ v .0
+    same-station = settle (station-Station.the-row .coded) (a .ensured) (b .ensured) (λ e f. e .1 ∙ sym (f .1))
+
+    same-seat : w .1 .0 ≡ v .1 .0
+    same-seat = settle bytes (a .ensured) (b .ensured) (λ e f. e .2 ∙ sym (f .2))
+
+pub meets-station-change-by-value : Meets change_by_value.ended (λ M. change_by_value.clauses {M = M}) change-by-value-symbol.routine
+meets-station-change-by-value M = change-by-value-met.met
+
+pub tight-station-change-by-value : Tight change_by_value.ended (λ M. change_by_value.clauses {M = M})
+tight-station-change-by-value c r q w v a b = (settle (result change_by_value.ended c) (a .ensured) (b .ensured) (λ e f i. record { station = (e .1 ∙ sym (f .1)) i; refusal = (e .0 ∙ sym (f .0)) i }), λ i. (tt, (same-seat i, (tt, tt))))
+  where
+    same-seat : w .1 .0 ≡ v .1 .0
+    same-seat = settle bytes (a .ensured) (b .ensured) (λ e f. e .2 ∙ sym (f .2))
+
+pub meets-station-change : Meets change.ended (λ M. change.clauses {M = M}) change-symbol.routine
+meets-station-change M = change-met.met
+
+pub tight-station-change : Tight change.ended (λ M. change.clauses {M = M})
+tight-station-change c r q w v a b = (settle (result change.ended c) (a .ensured) (b .ensured) (λ e f. e .0 ∙ sym (f .0)), λ i. (same-station i, (same-seat i, (tt, tt))))
   where
     same-station : w .0 ≡ v .0
     same-station = settle (station-Station.the-row .coded) (a .ensured) (b .ensured) (λ e f. e .1 ∙ sym (f .1))

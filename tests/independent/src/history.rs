@@ -8,7 +8,7 @@ use crate::moving::{placing, Image, NARROW_ADDRESSES, REGISTER_IMAGE};
 use crate::places::accepted;
 use crate::random::Random;
 use crate::refusal::{told, Told};
-use crate::station::{attach, detach, Station, SEAT};
+use crate::station::{attach, change, detach, Station, SEAT};
 use crate::types::code;
 use crate::walk::{open, show_number, shown_piece, step, Walk};
 
@@ -29,6 +29,7 @@ pub enum Command {
     Stack(Vec<u8>),
     Attach(Vec<u8>),
     Detach,
+    Change(Vec<u8>),
     Open { slot: u8 },
     Step { slot: u8, asked: u8, out: u16 },
     Show { slot: u8, asked: u8 },
@@ -70,6 +71,10 @@ impl Command {
                 push_part(bytes, description);
             }
             Command::Detach => bytes.push(8),
+            Command::Change(description) => {
+                bytes.push(16);
+                push_part(bytes, description);
+            }
             _ => self.encode_walk_command(bytes),
         }
     }
@@ -196,6 +201,11 @@ impl Scene {
                 let answer = detach(&mut self.station, &mut self.seat[..self.lent]);
                 format!("detach {}", self.after_station_call(told(&answer)))
             }
+            Command::Change(description) => {
+                let seat = &mut self.seat[..self.lent];
+                let answer = change(&mut self.station, seat, description);
+                format!("change {}", self.after_station_call(told(&answer)))
+            }
             Command::Open { slot } => self.answer_open(*slot),
             Command::Step { slot, asked, out } => self.answer_step(*slot, *asked, *out),
             Command::Show { slot, asked } => self.answer_show(*slot, *asked),
@@ -309,6 +319,11 @@ impl Script {
         self.place_images(random, description);
     }
 
+    pub fn change(&mut self, random: &mut Random, description: &[u8]) {
+        self.add(Command::Change(description.to_vec()));
+        self.place_images(random, description);
+    }
+
     /// The type that the walk in a slot should ask next, and its size.
     pub fn next_type(&self, slot: u8) -> Option<(u8, u16)> {
         let seat = &self.scene.seat[..self.scene.station.length.min(SEAT)];
@@ -408,9 +423,13 @@ pub fn random_history(random: &mut Random, script: &mut Script, length: usize) {
     let descriptions: Vec<Vec<u8>> = (0..3).map(|_| variadic_description(random)).collect();
     for _ in 0..length {
         match random.below(20) {
-            0 | 1 => {
+            0 => {
                 let description = random.choose(&[0, 1, 2]);
                 script.attach(random, &descriptions[description]);
+            }
+            1 => {
+                let description = random.choose(&[0, 1, 2]);
+                script.change(random, &descriptions[description]);
             }
             2 if random.one_in(3) => script.add(Command::Detach),
             2..=6 => script.add(Command::Open { slot: random.below(SLOTS) as u8 }),
@@ -496,7 +515,11 @@ fn wrong_scene(random: &mut Random, script: &mut Script) {
             let mut description = variadic_description(random);
             let at = random.below(description.len());
             description[at] ^= 1 << random.below(8);
-            script.add(Command::Attach(description));
+            if random.one_in(2) {
+                script.add(Command::Attach(description));
+            } else {
+                script.add(Command::Change(description));
+            }
         }
     }
 }
@@ -508,8 +531,12 @@ fn mend_scene(random: &mut Random, script: &mut Script, descriptions: &[Vec<u8>]
         let number = random.below(9) as u32;
         script.add(Command::StationByHand(Station { attached: false, length: 0, number }));
     }
-    script.add(Command::Detach);
     let index = random.below(descriptions.len());
-    script.attach(random, &descriptions[index]);
+    if random.one_in(2) {
+        script.change(random, &descriptions[index]);
+    } else {
+        script.add(Command::Detach);
+        script.attach(random, &descriptions[index]);
+    }
     script.add(Command::Open { slot: random.below(SLOTS) as u8 });
 }

@@ -1,4 +1,5 @@
-//! "Station and walk", its first half: attach and detach.
+//! "Station and walk", its first half: attach and detach; and of document 02
+//! request 2026-09, "One call to change modules".
 
 use crate::description::LONGEST;
 use crate::places::accepted;
@@ -51,5 +52,26 @@ pub fn detach(station: &mut Station, seat: &mut [u8]) -> Result<(), Refusal> {
     seat.fill(0);
     station.attached = false;
     station.length = 0;
+    Ok(())
+}
+
+/// Request 2026-09: "Refusals: 11 first, then those of attach without 14." "If
+/// the new description is refused, or the number is used up, the station ends
+/// detached, with a zero seat if one was attached; this is the one call where a
+/// refusal writes." Written out, and not as a detach before an attach: that the
+/// two are equal is for the tests to say.
+pub fn change(station: &mut Station, seat: &mut [u8], description: &[u8]) -> Result<(), Refusal> {
+    check_seat(station, seat)?;
+    if station.attached {
+        seat.fill(0);
+        *station = Station { attached: false, length: 0, number: station.number };
+    }
+    if station.number == u32::MAX {
+        return Err(Refusal::NumbersUsedUp);
+    }
+    accepted(description)?;
+    seat.fill(0);
+    seat[..description.len()].copy_from_slice(description);
+    *station = Station { attached: true, length: description.len(), number: station.number + 1 };
     Ok(())
 }

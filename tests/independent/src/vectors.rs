@@ -516,6 +516,8 @@ fn printed_histories(random: &mut Random, script: &mut Script) {
     records_by_hand(random, script);
     plain_function(random, script);
     last_numbers(random, script);
+    changed_modules(random, script);
+    last_numbers_changed(random, script);
     spoilt_seats(random, script);
     wrong_lengths_in_order(random, script);
     models_in_the_seat(random, script);
@@ -662,6 +664,70 @@ fn last_numbers(random: &mut Random, script: &mut Script) {
             script.add(Command::Attach(vec![]));
             script.attach(random, &good);
             script.walk_whole(0);
+        }
+    }
+}
+
+/// Request 2026-09: a refused change where nothing is attached, one where
+/// something is, one under 11, and what becomes of the walks.
+fn changed_modules(random: &mut Random, script: &mut Script) {
+    let first = description("void: int, ..., long, double, long");
+    let second = description("void: double, ..., double, long");
+    script.add(Command::Reset);
+    script.add(Command::FillSeat(0x5A));
+    script.add(Command::Change(vec![1, 2, 3]));
+    script.add(Command::Change(vec![]));
+    script.change(random, &first);
+    script.add(Command::Open { slot: 0 });
+    script.step_right(0);
+    for seat in [0, 585, 587] {
+        script.add(Command::SeatLength(seat));
+        script.add(Command::Change(second.clone()));
+        script.add(Command::Change(vec![1, 2, 3]));
+    }
+    script.add(Command::SeatLength(586));
+    script.step_right(0);
+    script.change(random, &second);
+    script.step_right(0);
+    script.walk_whole(1);
+    script.add(Command::Change(vec![1, 2, 3]));
+    script.step_right(1);
+    script.add(Command::Detach);
+    script.add(Command::FillSeat(0xC3));
+    script.add(Command::Change(vec![1, 2, 3]));
+    script.step_right(1);
+    script.change(random, &second);
+    script.step_right(1);
+    script.walk_whole(2);
+    script.change(random, &second);
+    script.step_right(2);
+    script.add(Command::Open { slot: 3 });
+    for one in broken() {
+        script.add(Command::Change(one.bytes));
+        script.step_right(3);
+        script.change(random, &first);
+        script.add(Command::Open { slot: 3 });
+    }
+}
+
+/// The last numbers by changes: 15 comes before 1 to 10, and what was attached
+/// has left.
+fn last_numbers_changed(random: &mut Random, script: &mut Script) {
+    let good = description("void: int, ..., long, double");
+    for number in [u32::MAX - 2, u32::MAX - 1, u32::MAX] {
+        for attached in [false, true] {
+            for length in [0, 586, 587] {
+                script.add(Command::Reset);
+                script.add(Command::FillSeat(0x5A));
+                script.add(Command::StationByHand(Station { attached, length, number }));
+                script.add(Command::Change(vec![]));
+                script.add(Command::StationByHand(Station { attached, length, number }));
+                script.change(random, &good);
+                script.walk_whole(0);
+                script.add(Command::Change(vec![]));
+                script.change(random, &good);
+                script.walk_whole(0);
+            }
         }
     }
 }
@@ -841,6 +907,8 @@ fn every_call(script: &mut Script, description: &[u8]) {
     script.add(Command::Attach(description.to_vec()));
     script.add(Command::Detach);
     script.add(Command::Attach(Vec::new()));
+    script.add(Command::Change(description.to_vec()));
+    script.add(Command::Change(Vec::new()));
 }
 
 // ---- listings

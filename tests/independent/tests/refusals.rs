@@ -12,7 +12,7 @@ use independent::places::{check, layout};
 use independent::random::Random;
 use independent::refusal::{told, Refusal, Told};
 use independent::returning::{putting, taking, RETURN_IMAGE};
-use independent::station::{attach, detach, Station, SEAT};
+use independent::station::{attach, change, detach, Station, SEAT};
 use independent::types::{alignment, size, types};
 use independent::walk::{open, show_number, step, Walk};
 
@@ -170,6 +170,59 @@ fn attach_and_detach_keep_their_orders() {
     assert_eq!(station, Station { attached: false, length: 0, ..before });
     assert!(seat.iter().all(|&byte| byte == 0));
     assert_eq!(attach(&mut station, &mut seat, &good), Err(Refusal::NumbersUsedUp));
+}
+
+#[test]
+fn a_change_keeps_its_order_and_is_the_one_call_where_a_refusal_writes() {
+    let good = description("void: int, ..., long");
+    let mut seat = vec![3; SEAT];
+    let mut station = Station { attached: true, length: 587, number: u32::MAX };
+    let before = station;
+    assert_eq!(change(&mut station, &mut seat, &good), Err(Refusal::WrongLength));
+    assert_eq!(station, before);
+    station = Station { attached: false, length: 0, number: u32::MAX };
+    let before = station;
+    assert_eq!(change(&mut station, &mut seat, &[]), Err(Refusal::NumbersUsedUp));
+    assert_eq!(station, before);
+    station.number = 7;
+    assert_eq!(change(&mut station, &mut seat, &[]), Err(Refusal::UnderElevenBytes));
+    assert!(seat.iter().all(|&byte| byte == 3), "nothing was attached");
+    assert_eq!(change(&mut station, &mut seat, &good), Ok(()));
+    assert_eq!(station, Station { attached: true, length: good.len(), number: 8 });
+    assert_eq!(change(&mut station, &mut seat, &[]), Err(Refusal::UnderElevenBytes));
+    assert_eq!(station, Station { attached: false, length: 0, number: 8 });
+    assert!(seat.iter().all(|&byte| byte == 0), "what was attached has left");
+    station = Station { attached: true, length: 586, number: u32::MAX };
+    seat.fill(3);
+    assert_eq!(change(&mut station, &mut seat, &[]), Err(Refusal::NumbersUsedUp));
+    assert_eq!(station, Station { attached: false, length: 0, number: u32::MAX });
+    assert!(seat.iter().all(|&byte| byte == 0), "what was attached has left");
+}
+
+/// "It equals detach, its answer ignored, then attach."
+#[test]
+fn a_change_is_a_detach_and_an_attach() {
+    let mut random = Random::new(26);
+    let descriptions = [
+        description("void: int, ..., long"),
+        description("int: struct{long, double}"),
+        vec![],
+        vec![1; 586],
+    ];
+    for _ in 0..2000 {
+        let attached = random.one_in(2);
+        let length = random.choose(&[0, 11, 586, 587]);
+        let number = random.choose(&[0, 1, u32::MAX - 1, u32::MAX]);
+        let mut station = Station { attached, length, number };
+        let lent = random.choose(&[0, SEAT - 1, SEAT, SEAT, SEAT, SEAT + 1]);
+        let mut seat = random.bytes(lent);
+        let new = &descriptions[random.below(descriptions.len())];
+        let (mut other, mut other_seat) = (station, seat.clone());
+        let answer = change(&mut station, &mut seat, new);
+        let _ = detach(&mut other, &mut other_seat);
+        assert_eq!(answer, attach(&mut other, &mut other_seat, new));
+        assert_eq!((station, seat), (other, other_seat));
+    }
 }
 
 /// A step on the lister's case, attached as number 1.

@@ -1,6 +1,6 @@
 //! Random histories of calls, played through the library: of each command the refusal, and all that it lent or set, against the
 //! independent layout. Behind each command the host writes another number that says attached, and rubbish into reserved bytes: neither
-//! changes an answer, an accepted call writes 0 or 1 and zeros there, and a refused one leaves them.
+//! changes an answer, an accepted call writes 0 or 1 and zeros there, and a refused one leaves them, but for a change that detached.
 
 use crate::batch::{About, Batch, Code, Thing};
 use crate::records::{left, Fields, Part, Station, Walk, FILLING, REGISTERS, STACK};
@@ -8,7 +8,7 @@ use independent::history::{random_history, Command, Scene, Script, SLOTS};
 use independent::moving::Image;
 use independent::random::Random;
 use independent::refusal::{told, Told};
-use independent::station::{attach, detach};
+use independent::station::{attach, change, detach};
 use independent::walk::{open, shown_piece, step, Piece};
 
 pub fn ask(random: &mut Random, length: usize, batch: &mut Batch) {
@@ -70,6 +70,17 @@ impl Desk {
                 *station = left(*station, answer.map(|()| scene.station.into()));
                 self.expect_station(told(&answer), batch);
                 "cb_detach"
+            }
+            Command::Change(description) => {
+                let before = scene.station;
+                let answer = change(&mut scene.station, &mut scene.seat[..scene.lent], description);
+                // The one call where a refusal writes: every byte of the struct where it freed something, and else none.
+                if answer.is_ok() || scene.station != before {
+                    *station = scene.station.into();
+                }
+                self.expect_station(told(&answer), batch);
+                batch.buffer(Thing::Description, description);
+                "cb_change"
             }
             Command::Open { slot } => {
                 let answer = open(&scene.station, &scene.seat[..scene.lent]);
