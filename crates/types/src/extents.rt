@@ -5,9 +5,10 @@ use description::Model;
 use units::Bytes;
 ghost use mathlib.Core.Path.{_≡_};
 ghost use Prim.Native.Nat.{_<_, _≤_, _^_};
+ghost use lib.ListN.{length};
 ghost use Rattle.description.specs.Description.{modelIn};
 ghost use Rattle.types.specs.Size.{offsetAfter, endAfter};
-ghost use Rattle.types.specs.Basic.{basicSize, basicAlign};
+ghost use Rattle.types.specs.Basic.{pointer, basicSize, basicAlign};
 ghost use Rattle.types.specs.Decode.{tyAt, tysFrom};
 ghost use Rattle.types.specs.Asks.{Sized, SizedRun, IsExtent, IsRun};
 ghost use Rattle.types.specs.Table.{Sizes};
@@ -34,13 +35,10 @@ fn end_after(union: bool, end: Bytes, member: Extent) -> Bytes
 
 // ---- one type
 
-const SIZES: [u8; 16] = [1, 1, 2, 4, 8, 16, 4, 8, 16, 16, 8, 16, 8, 16, 32, 8];
+// Of codes 0 to 14, which no model changes.
+const SIZES: [u8; 15] = [1, 1, 2, 4, 8, 16, 4, 8, 16, 16, 8, 16, 8, 16, 32];
 
-const ALIGNS: [u8; 16] = [1, 1, 2, 4, 8, 16, 4, 8, 16, 16, 8, 16, 4, 8, 16, 8];
-
-const ILP32_SIZES: [u8; 16] = [1, 1, 2, 4, 8, 16, 4, 8, 16, 16, 8, 16, 8, 16, 32, 4];
-
-const ILP32_ALIGNS: [u8; 16] = [1, 1, 2, 4, 8, 16, 4, 8, 16, 16, 8, 16, 4, 8, 16, 4];
+const ALIGNS: [u8; 15] = [1, 1, 2, 4, 8, 16, 4, 8, 16, 16, 8, 16, 4, 8, 16];
 
 fn number(byte: u8) -> usize
     ensures { λ r. ⌜ r ≡ byte ⌝ }
@@ -48,20 +46,34 @@ fn number(byte: u8) -> usize
     byte as usize
 }
 
-// Size and alignment of a basic type, from the model's table.
-fn basic_extent(model: Model, code: usize) -> Extent
-    requires { ⌜ code < 16 ⌝ }
-    ensures { λ r. ⌜ (r .size .0 ≡ basicSize model code) × (r .align .0 ≡ basicAlign model code) ⌝ }
+// Size and alignment of a pointer.
+fn pointer_extent(model: Model) -> Extent
+    ensures { λ r. ⌜ (r .size .0 ≡ pointer model) × (r .align .0 ≡ pointer model) ⌝ }
 {
     match model {
         Model::Lp64 => Extent {
-            size: Bytes(number(SIZES[code])),
-            align: Bytes(number(ALIGNS[code])),
+            size: Bytes(8),
+            align: Bytes(8),
         },
         Model::Ilp32 => Extent {
-            size: Bytes(number(ILP32_SIZES[code])),
-            align: Bytes(number(ILP32_ALIGNS[code])),
+            size: Bytes(4),
+            align: Bytes(4),
         },
+    }
+}
+
+// Size and alignment of a basic type. The model is looked up for a pointer alone: any other type pays one test for it.
+fn basic_extent(d: &[u8], code: usize) -> Extent
+    requires { ⌜ (11 ≤ length (now d)) × (code < 16) ⌝ }
+    ensures { λ r. ⌜ (r .size .0 ≡ basicSize (modelIn (now (d .entry))) code) × (r .align .0 ≡ basicAlign (modelIn (now (d .entry))) code) ⌝ }
+{
+    if code == 15 {
+        let model = description::model_of(d);
+        return pointer_extent(model);
+    }
+    Extent {
+        size: Bytes(number(SIZES[code])),
+        align: Bytes(number(ALIGNS[code])),
     }
 }
 
@@ -96,14 +108,14 @@ fn members_extent(
 }
 
 // Size and alignment of type k, by the table of the types below it.
-pub fn extent_of(d: &[u8], k: usize, model: Model, table: &[u32; 64]) -> Extent
-    requires { ⌜ Sized (modelIn (now d)) (now d) k × Sizes (modelIn (now d)) (now d) k (now table) × (model ≡ modelIn (now d)) ⌝ }
+pub fn extent_of(d: &[u8], k: usize, table: &[u32; 64]) -> Extent
+    requires { ⌜ Sized (modelIn (now d)) (now d) k × Sizes (modelIn (now d)) (now d) k (now table) ⌝ }
     ensures { λ r. ⌜ IsExtent (modelIn (now (d .entry))) (tyAt (now (d .entry)) k) r ⌝ }
 {
     let kind = description::kind_at(d, k);
     let a = description::a_at(d, k);
     if kind == 0 {
-        return basic_extent(model, a);
+        return basic_extent(d, a);
     }
     let count = description::count_at(d, k);
     if kind == 1 {

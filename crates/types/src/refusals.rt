@@ -20,10 +20,9 @@ fn fill_sizes(d: &[u8], table: &mut [u32; 64]) -> usize
 {
     table_entries::entries(table);
     let types = description::byte_at(d, 5);
-    let model = description::model_of(d);
     let mut k = 0;
     while k < types {
-        let extent = extents::extent_of(d, k, model, table);
+        let extent = extents::extent_of(d, k, table);
         if units::over(extent.size, Bytes(4096)) {
             return k;
         }

@@ -19,10 +19,10 @@ a-at-requires : tie.Need-a-at-requires
 a-at-requires c κs = search needs
 
 basic-extent-requires : tie.Need-basic-extent-requires
-basic-extent-requires c κs = basic-low (now (c .before .before .before .before .args .d)) (c .before .before .before .before .args .k) (c .before .a-at .result) (c .before .before .before .before .pre .0) (c .before .a-at .ensures .0) (sym (c .before .before .kind-at .ensures) ∙ c .if1 .taken)
+basic-extent-requires c κs = (c .before .before .before .before .pre .0 .whole .headed, basic-low (now (c .before .before .before .before .args .d)) (c .before .before .before .before .args .k) (c .before .a-at .result) (c .before .before .before .before .pre .0) (c .before .a-at .ensures .0) (sym (c .before .before .kind-at .ensures) ∙ c .if1 .taken))
 
 returns : tie.Need-returns
-returns c = basic-done (now (c .before .before .before .before .before .args .d)) (c .before .before .before .before .before .args .k) (c .before .before .a-at .result) (c .before .before .before .before .before .pre .0) (c .before .before .a-at .ensures .0) (sym (c .before .before .before .kind-at .ensures) ∙ c .before .if1 .taken) (c .basic-extent .result) (rw (c .before .before .before .before .before .pre .2) at (c .basic-extent .ensures))
+returns c = basic-done (now (c .before .before .before .before .before .args .d)) (c .before .before .before .before .before .args .k) (c .before .before .a-at .result) (c .before .before .before .before .before .pre .0) (c .before .before .a-at .ensures .0) (sym (c .before .before .before .kind-at .ensures) ∙ c .before .if1 .taken) (c .basic-extent .result) (c .basic-extent .ensures)
 
 count-at-requires : tie.Need-count-at-requires
 count-at-requires c κs = search needs
