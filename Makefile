@@ -1,4 +1,4 @@
-# make: the static library, the shared one and the lister. make shared, test, bench, install (PREFIX, LIBDIR, DESTDIR), uninstall, clean.
+# make: the static library, the shared one, the lister and the tidier. make shared, test, bench, install (PREFIX, LIBDIR, DESTDIR), uninstall, clean.
 PREFIX ?= /usr/local
 LIBDIR ?= $(PREFIX)/lib
 DESTDIR ?=
@@ -16,6 +16,7 @@ DOC = $(DESTDIR)$(PREFIX)/share/doc/callbridge
 LIBRARY = target/staticlib/libcallbridge.a
 SHARED = target/shared/libcallbridge.so.$(VERSION)
 LISTER = target/bin/lister
+TIDIER = target/bin/tidier
 SOURCES = crates.txt $(shell find crates -name '*.rt' -o -name '*.antt')
 
 # What is built is x86-64 code, whatever machine builds it: on another one Debian's compiler for x86-64 links the shared library.
@@ -26,7 +27,7 @@ else
 LINK = x86_64-linux-gnu-gcc-12
 endif
 
-all: $(LIBRARY) shared $(LISTER)
+all: $(LIBRARY) shared $(LISTER) $(TIDIER)
 
 $(LIBRARY): $(SOURCES)
 	rt staticlib callbridge
@@ -34,6 +35,10 @@ $(LIBRARY): $(SOURCES)
 $(LISTER): $(SOURCES)
 	rt check lister
 	touch $(LISTER)
+
+$(TIDIER): $(SOURCES)
+	rt check tidier
+	touch $(TIDIER)
 
 shared: $(SHARED)
 
@@ -70,14 +75,16 @@ install: all
 	$(FILLED) packaging/callbridge-config.cmake.in > $(CMAKE)/callbridge-config.cmake
 	$(FILLED) packaging/callbridge-config-version.cmake.in > $(CMAKE)/callbridge-config-version.cmake
 	install -m 755 $(LISTER) $(BIN)/kcb-list
+	install -m 755 $(TIDIER) $(BIN)/kcb-tidy
 	install -m 644 man/kcb-list.1 $(MAN)/man1/kcb-list.1
+	install -m 644 man/kcb-tidy.1 $(MAN)/man1/kcb-tidy.1
 	install -m 644 man/callbridge.3 $(MAN)/man3/callbridge.3
 	install -m 644 man/kcb.5 $(MAN)/man5/kcb.5
 	install -m 644 LICENSE $(DOC)/LICENSE
 	[ -n "$(DESTDIR)" ] || ! [ -w /etc/ld.so.cache ] || ldconfig
 
 uninstall:
-	rm -f $(INCLUDE)/callbridge.h $(BIN)/kcb-list $(MAN)/man1/kcb-list.1 $(MAN)/man3/callbridge.3 $(MAN)/man5/kcb.5 $(DOC)/LICENSE
+	rm -f $(INCLUDE)/callbridge.h $(BIN)/kcb-list $(BIN)/kcb-tidy $(MAN)/man1/kcb-list.1 $(MAN)/man1/kcb-tidy.1 $(MAN)/man3/callbridge.3 $(MAN)/man5/kcb.5 $(DOC)/LICENSE
 	rm -f $(LIB)/libcallbridge.a $(LIB)/libcallbridge.so.$(VERSION) $(LIB)/libcallbridge.so.$(MAJOR) $(LIB)/libcallbridge.so
 	rm -f $(LIB)/pkgconfig/callbridge.pc $(LIB)/pkgconfig/callbridge-static.pc
 	rm -f $(CMAKE)/callbridge-config.cmake $(CMAKE)/callbridge-config-version.cmake

@@ -5,13 +5,14 @@
 #include <stdio.h>
 #include <string.h>
 
-enum { CASES = 17, BASIC = 0, ARRAY = 1, STRUCT = 2, UNION = 3, CHAR = 1, INT = 3, FLOAT = 6, DOUBLE = 7, NOTHING = 255 };
+enum { CASES = 19, BASIC = 0, ARRAY = 1, STRUCT = 2, UNION = 3, CHAR = 1, INT = 3, FLOAT = 6, DOUBLE = 7, NOTHING = 255 };
 
 typedef struct hostile {
     const char *name;
     uint8_t bytes[CB_MAX_DESCRIPTION];
     size_t length;
     cb_layout layout;
+    cb_tidied tidied;
 } hostile;
 
 static hostile cases[CASES];
@@ -184,6 +185,21 @@ static void mixed_tower(int small, const char *name)
     end(name, 62);
 }
 
+/* 62 unions of 194 members, each shifted by one: all members are of one type but for one of another, which stands near the end of each
+   run, in another place of each. What tidying compares longest. Over _Bool, and over char[8], which costs the most to classify. */
+static void nearly_equal(uint8_t kind, const char *name)
+{
+    begin(CHAR);
+    add_type(kind, 0, kind == ARRAY ? 8 : 0);
+    for (int i = 0; i < 255; i++) {
+        add_member(i == 193 ? 0 : 1);
+    }
+    for (int k = 2; k < 64; k++) {
+        add_type(UNION, k - 2, 194);
+    }
+    end(name, 62);
+}
+
 /* Two floats, two ints and unions of them in turn: the classes differ, and no test of the numbers shows what they merge to. */
 static void class_tower(void)
 {
@@ -235,6 +251,11 @@ static void place(int which)
     cb_place_values(h->bytes, h->length, 0, values, h->layout.values, registers, CB_REGISTER_IMAGE, stack, h->layout.area, &placed);
 }
 
+static void tidy(int which)
+{
+    cb_tidy(cases[which].bytes, cases[which].length, out, cases[which].tidied.length);
+}
+
 static void step(int which)
 {
     hostile *h = &cases[which];
@@ -257,12 +278,14 @@ static void count_case(int which)
     station = cb_new_station();
     cb_attach(&station, seat, CB_SEAT_LENGTH, h->bytes, h->length);
     cb_open_walk(&station, seat, CB_SEAT_LENGTH, &walk);
+    cb_tidy_length(h->bytes, h->length, &h->tidied);
     count("cb_check", which, 1, check);
     count("cb_member_offsets", which, 1, offsets);
     count("cb_lay_out", which, 1, lay_out);
     count("cb_place_values", which, 1, place);
     count("cb_step", which, 1, step);
     count("cb_change", which, 1, change);
+    count("cb_tidy", which, 1, tidy);
 }
 
 int main(void)
@@ -284,6 +307,8 @@ int main(void)
     mixed_tower(31, "31 small, 31 large unions of chars");
     mixed_tower(20, "20 small, 42 large unions of chars");
     class_tower();
+    nearly_equal(BASIC, "62 nearly equal runs of 194 _Bool");
+    nearly_equal(ARRAY, "62 nearly equal runs of 194 char[8]");
     for (int which = 0; which < made; which++) {
         count_case(which);
     }

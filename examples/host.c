@@ -1,4 +1,4 @@
-/* A host of the call bridge. It reads the description of a call from standard input, says what types it has, lays the call out, places
+/* A host of the call bridge. It reads the description of a call from standard input, says what types it has, tidies it, lays the call out, places
    made-up values, walks the unnamed arguments as the called function would, gathers the values again, and brings a
    returned value back.
 
@@ -238,6 +238,23 @@ static int bring_back(const call *c)
     return 0;
 }
 
+/* What is left of the description in its tidy form, which could be kept in its place: it describes the same call. */
+static void print_tidy(const call *c)
+{
+    cb_tidied tidied;
+    uint8_t form[CB_MAX_DESCRIPTION];
+    if (refused("tidy", cb_tidy_length(c->description, c->length, &tidied)) ||
+        refused("tidy", cb_tidy(c->description, c->length, form, tidied.length))) {
+        return;
+    }
+    printf("tidy: %zu of %zu bytes, %d of %d types; the arguments are of types", tidied.length, c->length, form[5],
+           c->description[5]);
+    for (size_t i = tidied.length - form[8]; i < tidied.length; i++) {
+        printf(" %d", form[i]);
+    }
+    printf("\n");
+}
+
 int main(void)
 {
     static call c;
@@ -251,6 +268,7 @@ int main(void)
     }
     print_listing(&c);
     print_types(&c);
+    print_tidy(&c);
     if (refused("layout", cb_lay_out(c.description, c.length, &c.layout, c.arguments, CB_MAX_ARGUMENTS))) {
         return 1;
     }

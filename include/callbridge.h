@@ -122,7 +122,8 @@ enum cb_refusal_number {
     CB_WALK_ASTRAY = 18,
     CB_WALK_AT_END = 19,
     CB_OTHER_TYPE = 20,
-    CB_HIDDEN_TOO_WIDE = 27      /* 21 to 26 are no refusals of this library */
+    CB_HIDDEN_TOO_WIDE = 27,     /* 21 to 26 and 28 are no refusals of this library */
+    CB_TOO_MANY_MEMBERS = 29
 };
 
 /* Why a call was refused: a number of enum cb_refusal_number, 0 for none.
@@ -243,6 +244,13 @@ typedef struct cb_layout {
     uint8_t reserved[5];
 } cb_layout;
 
+/* ---- tidying */
+
+/* What cb_tidy_length gives: the bytes of the tidy form, at most CB_MAX_DESCRIPTION. */
+typedef struct cb_tidied {
+    size_t length;
+} cb_tidied;
+
 /* ---- moving */
 
 /* What placing gives: the vector registers used, 0 to 8, which a variadic function wants in al. */
@@ -309,6 +317,18 @@ cb_refusal cb_lay_out(const uint8_t *description, size_t description_length, cb_
 /* The layout as text, without a final 0, at the start of a buffer of CB_LISTING_ROOM bytes; the bytes behind it stay. Answers the
    text's length. A description that is refused gives the line `refused n`, or `refused n type t` where the refusal names a type. */
 size_t cb_write_listing(const uint8_t *description, size_t description_length, uint8_t *out);
+
+/* ---- calls: tidying */
+
+/* How many bytes cb_tidy writes. Refused 1 to 10, then 29 where the separate runs need over 255 members. */
+cb_refusal cb_tidy_length(const uint8_t *description, size_t description_length, cb_tidied *tidied);
+
+/* Writes the tidy form of the description: only the types that the call uses, equal ones once, each numbered when it is first completed
+   going depth-first through the returned type, then the arguments, and each struct or union with a run of its own, in that order. It is
+   a description with the same layout, type numbers apart; two descriptions have the same tidy form exactly where they have the same
+   byte 6, the same counts of arguments and the same types written out. The buffer has exactly the length that cb_tidy_length gives.
+   Refused 1 to 10, then 29 as cb_tidy_length, then 11 for another length. */
+cb_refusal cb_tidy(const uint8_t *description, size_t description_length, uint8_t *out, size_t out_length);
 
 /* ---- calls: moving bytes */
 
@@ -414,7 +434,7 @@ static inline const char *cb_register_name(uint8_t number)
 /* What a refusal means, in a line. */
 static inline const char *cb_refusal_text(cb_refusal refusal)
 {
-    static const char *const texts[28] = {
+    static const char *const texts[30] = {
         "accepted",
         "the description has under 11 bytes",
         "the description does not begin with KCB",
@@ -442,9 +462,11 @@ static inline const char *cb_refusal_text(cb_refusal refusal)
         "",
         "",
         "",
-        "the hidden address is 2^32 or more, where a pointer has 4 bytes"
+        "the hidden address is 2^32 or more, where a pointer has 4 bytes",
+        "",
+        "the structs and unions that are used have over 255 members together"
     };
-    return refusal.number < 28 && texts[refusal.number][0] != 0 ? texts[refusal.number] : "no refusal of this library";
+    return refusal.number < 30 && texts[refusal.number][0] != 0 ? texts[refusal.number] : "no refusal of this library";
 }
 
 /* 1 where the refusal's `type` is the number of a type, else 0. */

@@ -65,11 +65,13 @@ TEXTS = (
     '',
     '',
     'the hidden address is 2^32 or more, where a pointer has 4 bytes',
+    '',
+    'the structs and unions that are used have over 255 members together',
 )
 
 
 class Refused(Exception):
-    """A call was refused, and changed nothing, but for Station.change: its number, 1 to 20 or 27, the header's text for it, and the type that is wrong.
+    """A call was refused, and changed nothing, but for Station.change: its number, 1 to 20, 27 or 29, the header's text for it, and the type that is wrong.
 
     `type` is a number for 6 and 7, the lowest of a type that breaks that rule, and None for every other refusal.
     """
@@ -123,6 +125,7 @@ cb_layout = _struct(
     ('hidden', _byte),
     ('reserved', _byte * 5),
 )
+cb_tidied = _struct('cb_tidied', ('length', _size))
 cb_placed = _struct('cb_placed', ('vector_registers', _size))
 cb_gathered = _struct('cb_gathered', ('hidden', ctypes.c_uint64))
 cb_station = _struct('cb_station', ('length', _size), ('number', ctypes.c_uint32), ('attached', _byte), ('reserved', _byte * 3))
@@ -148,6 +151,8 @@ _FUNCTIONS = {
     'cb_layout_of': (cb_refusal, _in, _size, _pointer(cb_layout)),
     'cb_lay_out': (cb_refusal, _in, _size, _pointer(cb_layout), _pointer(cb_placement), _size),
     'cb_write_listing': (_size, _in, _size, _out),
+    'cb_tidy_length': (cb_refusal, _in, _size, _pointer(cb_tidied)),
+    'cb_tidy': (cb_refusal, _in, _size, _out, _size),
     'cb_place_values': (cb_refusal, _in, _size, ctypes.c_uint64, _in, _size, _out, _size, _out, _size, _pointer(cb_placed)),
     'cb_gather_values': (cb_refusal, _in, _size, _in, _size, _in, _size, _out, _size, _pointer(cb_gathered)),
     'cb_put_returned': (cb_refusal, _in, _size, ctypes.c_uint64, _in, _size, _out, _size),
@@ -396,6 +401,28 @@ def write_listing(description: Bytes) -> str:
     d, out = _bytes(description), _room(LISTING_ROOM)
     length = _library.cb_write_listing(d, len(d), out)
     return out.raw[:length].decode('ascii')
+
+
+# ---- tidying
+
+
+def tidy_length(description: Bytes) -> int:
+    """How many bytes the tidy form has. Refused 1 to 10, then 29 where the separate runs need over 255 members."""
+    d, out = _bytes(description), cb_tidied()
+    _accepted(_library.cb_tidy_length(d, len(d), out))
+    return out.length
+
+
+def tidy(description: Bytes) -> bytes:
+    """The tidy form: only the types that the call uses, equal ones once, each struct or union with a run of its own. Refused as tidy_length.
+
+    Two descriptions have the same one exactly where they describe the same call.
+    """
+    d = _bytes(description)
+    length = tidy_length(d)
+    out = _room(length)
+    _accepted(_library.cb_tidy(d, len(d), out, length))
+    return out.raw[:length]
 
 
 # ---- moving

@@ -90,7 +90,7 @@ class Header(Case):
                 self.assertIn(one, many, name)
 
     def test_texts(self):
-        table = CODE.split('texts[28] = {')[1].split('};')[0]
+        table = CODE.split('texts[30] = {')[1].split('};')[0]
         self.assertEqual(tuple(re.findall(r'"(.*?)"', table)), callbridge.TEXTS)
 
     def test_numbers(self):
@@ -218,6 +218,8 @@ class Types(Case):
             self.refused(number, callbridge.member_offsets, d, 1, type_number=wrong)
             self.refused(number, callbridge.layout_of, d, type_number=wrong)
             self.refused(number, callbridge.lay_out, d, type_number=wrong)
+            self.refused(number, callbridge.tidy_length, d, type_number=wrong)
+            self.refused(number, callbridge.tidy, d, type_number=wrong)
             self.refused(number, callbridge.place_values, d, VALUES, type_number=wrong)
             self.refused(number, callbridge.gather_values, d, bytes(176), b'', type_number=wrong)
             self.refused(number, callbridge.put_returned, d, bytes(8), type_number=wrong)
@@ -270,6 +272,23 @@ class Layouts(Case):
         layout, placements = callbridge.lay_out(described([INT], [0] * 64))
         self.assertEqual((layout.arguments, len(placements), layout.area), (64, 64, 464))
         self.assertEqual(str(placements[63].place), 'stack 456')
+
+
+class Tidying(Case):
+    def test_dead_types_and_equal_ones(self):
+        pair, other = bytes([2, 0, 2, 0]), bytes([2, 2, 2, 0])
+        untidy = described([LONG_DOUBLE, INT, DOUBLE, pair, other], [4, 1, 3], members=bytes([1, 2, 1, 2]))
+        tidied = described([INT, DOUBLE, pair], [2, 0, 2], members=bytes([0, 1]))
+        self.assertEqual(callbridge.tidy(untidy), tidied)
+        self.assertEqual(callbridge.tidy_length(untidy), len(tidied))
+        self.assertEqual(callbridge.tidy(tidied), tidied)
+        self.assertEqual([one.place for one in callbridge.lay_out(untidy)[1]], [one.place for one in callbridge.lay_out(tidied)[1]])
+
+    def test_over_255_separate_members(self):
+        wide = described([INT, bytes([2, 0, 255, 0]), bytes([2, 0, 1, 0])], [1, 2], members=bytes(255))
+        self.assertIsNone(callbridge.check(wide))
+        for call in (callbridge.tidy_length, callbridge.tidy):
+            self.assertIn('over 255 members', self.refused(29, call, wide).text)
 
 
 class Moving(Case):

@@ -50,7 +50,9 @@ enum command {
     GATHER_VALUES = 42,  /* part registers, part stack, part values */
     PUT_RETURNED = 43,   /* u64 hidden, part value, part image */
     TAKE_RETURNED = 44,  /* part image, part value */
-    MEMBER_OFFSETS = 45  /* u8 type, u16 entries of the list */
+    MEMBER_OFFSETS = 45, /* u8 type, u16 entries of the list */
+    TIDY_LENGTH = 46,
+    TIDY = 47            /* u16 bytes of the out buffer */
 };
 
 /* What is lent. Its number is in its canaries. */
@@ -364,6 +366,21 @@ static void take_returned(void)
     answer_gathered(taken);
 }
 
+static void tidy_length(void)
+{
+    cb_tidied *tidied = lend_filled(RECORD, sizeof *tidied);
+    told(cb_tidy_length(BUFFER(DESCRIPTION), tidied));
+    field(tidied->length);
+    answer_canaries(RECORD);
+}
+
+static void tidy(void)
+{
+    lend_filled(OUT, number(2));
+    told(cb_tidy(BUFFER(DESCRIPTION), BUFFER(OUT)));
+    answer_buffer(OUT);
+}
+
 /* The description is lent to each of them, and so answered by each. */
 static void play_description(uint8_t command)
 {
@@ -381,6 +398,8 @@ static void play_description(uint8_t command)
     case GATHER_VALUES: gather_values(); break;
     case PUT_RETURNED: put_returned(); break;
     case TAKE_RETURNED: take_returned(); break;
+    case TIDY_LENGTH: tidy_length(); break;
+    case TIDY: tidy(); break;
     default: stop("no such command");
     }
     answer_buffer(DESCRIPTION);

@@ -19,6 +19,7 @@ typedef struct desk {
     cb_classes classes;
     cb_part part;
     size_t offsets[16];
+    cb_tidied tidied;
     cb_placed placed;
     cb_gathered gathered;
     cb_station station;
@@ -108,6 +109,16 @@ static cb_refusal write_listing(desk *d, unsigned empty)
     return refusal;
 }
 
+static cb_refusal tidy_length(desk *d, unsigned empty)
+{
+    return cb_tidy_length(DESCRIPTION, &d->tidied);
+}
+
+static cb_refusal tidy(desk *d, unsigned empty)
+{
+    return cb_tidy(DESCRIPTION, BUFFER(1, d->text, d->length));
+}
+
 static cb_refusal place_values(desk *d, unsigned empty)
 {
     return cb_place_values(DESCRIPTION, 0x1234, BUFFER(1, d->values, d->values_length), BUFFER(2, d->registers, sizeof d->registers),
@@ -177,6 +188,8 @@ static const struct call {
     {"cb_layout_of", 1, layout_of},
     {"cb_lay_out", 2, lay_out},
     {"cb_write_listing", 1, write_listing},
+    {"cb_tidy_length", 1, tidy_length},
+    {"cb_tidy", 2, tidy},
     {"cb_place_values", 4, place_values},
     {"cb_gather_values", 4, gather_values},
     {"cb_put_returned", 3, put_returned},

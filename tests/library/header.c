@@ -88,6 +88,7 @@ static void sizes(void)
                FIELD(cb_layout, named_general_registers) + FIELD(cb_layout, named_vector_registers) +
                FIELD(cb_layout, named_stack_end) + FIELD(cb_layout, arguments) + FIELD(cb_layout, return_first) +
                FIELD(cb_layout, return_second) + FIELD(cb_layout, hidden) + FIELD(cb_layout, reserved));
+    expect("sizeof(cb_tidied)", sizeof(cb_tidied), FIELD(cb_tidied, length));
     expect("sizeof(cb_placed)", sizeof(cb_placed), FIELD(cb_placed, vector_registers));
     expect("sizeof(cb_gathered)", sizeof(cb_gathered), FIELD(cb_gathered, hidden));
     expect("sizeof(cb_station)", sizeof(cb_station),
@@ -213,6 +214,20 @@ static void lists(void)
            offsetof(cb_placement, first), offsetof(cb_placement, second), offsetof(cb_placement, reserved));
 }
 
+static void tidy(void)
+{
+    LENT(cb_tidied) tidied;
+    uint8_t out[sizeof mixed];
+    FRESH(tidied);
+    FRESH(out);
+    answered("cb_tidy_length", cb_tidy_length(mixed, sizeof mixed, &tidied.value));
+    GUARDED(tidied);
+    expect("tidied.length", tidied.value.length, sizeof mixed);
+    answered("cb_tidy", cb_tidy(mixed, sizeof mixed, out, tidied.value.length));
+    answered("cb_check", cb_check(out, sizeof out));
+    printf("cb_tidied %zu: length %zu\n", sizeof(cb_tidied), offsetof(cb_tidied, length));
+}
+
 static void moves(void)
 {
     LENT(cb_placed) placed;
@@ -295,6 +310,7 @@ static void refused_description(void)
     LENT(cb_classes) classes;
     LENT(cb_part) part;
     LENT(cb_layout) whole;
+    LENT(cb_tidied) tidied;
     LENT(cb_placed) placed;
     LENT(cb_gathered) gathered;
     cb_placement records[4];
@@ -304,6 +320,7 @@ static void refused_description(void)
     FRESH(classes);
     FRESH(part);
     FRESH(whole);
+    FRESH(tidied);
     FRESH(placed);
     FRESH(gathered);
     FRESH(records);
@@ -333,6 +350,10 @@ static void refused_description(void)
     told("cb_lay_out", cb_lay_out(mixed, sizeof mixed, &whole.value, records, 4), CB_WRONG_BUFFER, 0);
     KEPT("cb_lay_out", whole);
     KEPT("cb_lay_out", records);
+    told("cb_tidy_length", cb_tidy_length(mixed, sizeof mixed - 1, &tidied.value), CB_WRONG_LENGTH, 0);
+    KEPT("cb_tidy_length", tidied);
+    told("cb_tidy", cb_tidy(mixed, sizeof mixed, values, sizeof mixed + 1), CB_WRONG_BUFFER, 0);
+    KEPT("cb_tidy", values);
     told("cb_place_values", cb_place_values(mixed, sizeof mixed, 0, values, 59, registers, sizeof registers, stack, 16, &placed.value),
          CB_WRONG_BUFFER, 0);
     KEPT("cb_place_values", placed);
@@ -488,6 +509,7 @@ static void told_of_description(const uint8_t *bad, uint8_t number, uint8_t type
     size_t offsets[2];
     cb_layout whole;
     cb_placement list[2];
+    cb_tidied tidied;
     cb_placed placed;
     cb_gathered gathered;
     uint8_t bytes[8] = {0}, registers[CB_REGISTER_IMAGE], stack[1], image[CB_RETURN_IMAGE];
@@ -498,6 +520,8 @@ static void told_of_description(const uint8_t *bad, uint8_t number, uint8_t type
     told("cb_member_offsets", cb_member_offsets(bad, INTS, 0, offsets, 2), number, type);
     told("cb_layout_of", cb_layout_of(bad, INTS, &whole), number, type);
     told("cb_lay_out", cb_lay_out(bad, INTS, &whole, list, 2), number, type);
+    told("cb_tidy_length", cb_tidy_length(bad, INTS, &tidied), number, type);
+    told("cb_tidy", cb_tidy(bad, INTS, bytes, 8), number, type);
     told("cb_place_values", cb_place_values(bad, INTS, 0, bytes, 8, registers, sizeof registers, stack, 0, &placed), number, type);
     memset(registers, 0, sizeof registers);
     told("cb_gather_values", cb_gather_values(bad, INTS, registers, sizeof registers, stack, 0, bytes, 8, &gathered), number, type);
@@ -570,6 +594,7 @@ int main(void)
     questions();
     layouts();
     lists();
+    tidy();
     moves();
     walks();
     refused_description();

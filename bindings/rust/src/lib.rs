@@ -71,7 +71,7 @@ pub use moving::{
 };
 pub use refusal::Refusal;
 pub use station::{Station, Walk, SEAT};
-pub use types::{check, classes, extent, listing, members, offsets, Class, Extent};
+pub use types::{check, classes, extent, listing, members, offsets, tidy, Class, Extent};
 
 /// The version of the library that is linked.
 pub fn version() -> u32 {

@@ -124,6 +124,12 @@ pub struct Layout {
 }
 
 #[repr(C)]
+#[derive(Clone, Copy, Debug, Default, PartialEq, Eq)]
+pub struct Tidied {
+    pub length: usize,
+}
+
+#[repr(C)]
 #[derive(Clone, Copy, Debug, PartialEq, Eq)]
 pub struct Placed {
     pub vector_registers: usize,
@@ -179,6 +185,8 @@ extern "C" {
         room: usize,
     ) -> Refusal;
     pub fn cb_write_listing(d: *const u8, n: usize, out: *mut u8) -> usize;
+    pub fn cb_tidy_length(d: *const u8, n: usize, tidied: *mut Tidied) -> Refusal;
+    pub fn cb_tidy(d: *const u8, n: usize, out: *mut u8, out_length: usize) -> Refusal;
     pub fn cb_place_values(
         d: *const u8,
         n: usize,

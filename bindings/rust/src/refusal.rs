@@ -4,16 +4,16 @@ use crate::raw;
 use std::fmt;
 use std::num::NonZeroU8;
 
-/// The number of a refusal, 1 to 20 or 27, and for 6 and 7 the type that is wrong.
+/// The number of a refusal, 1 to 20, 27 or 29, and for 6 and 7 the type that is wrong.
 #[derive(Clone, Copy, PartialEq, Eq, Hash)]
 pub struct Refusal {
     number: NonZeroU8,
     type_number: u8,
 }
 
-/// In the order of their numbers, empty for 21 to 26, which are no refusals of this library; the
+/// In the order of their numbers, empty for 21 to 26 and 28, which are no refusals of this library; the
 /// header has the same.
-const TEXTS: [&str; 27] = [
+const TEXTS: [&str; 29] = [
     "the description has under 11 bytes",
     "the description does not begin with KCB",
     "the description's version is not 1",
@@ -41,11 +41,13 @@ const TEXTS: [&str; 27] = [
     "",
     "",
     "the hidden address is 2^32 or more, where a pointer has 4 bytes",
+    "",
+    "the structs and unions that are used have over 255 members together",
 ];
 
 impl Refusal {
-    /// What each refusal means, from number 1 on; 21 to 26 have none.
-    pub const TEXTS: [&'static str; 27] = TEXTS;
+    /// What each refusal means, from number 1 on; 21 to 26 and 28 have none.
+    pub const TEXTS: [&'static str; 29] = TEXTS;
 
     pub fn number(self) -> u8 {
         self.number.get()

@@ -89,6 +89,24 @@ pub fn offsets(description: &[u8], type_number: u8) -> Result<Vec<usize>, Refusa
     Ok(offsets)
 }
 
+/// The tidy form of the description: only the types that the call uses, equal ones once, each with a
+/// run of its own. Two descriptions have the same one exactly where they describe the same call. Refused
+/// 1 to 10, then 29 where the separate runs need over 255 members.
+pub fn tidy(description: &[u8]) -> Result<Vec<u8>, Refusal> {
+    let mut tidied = raw::Tidied::default();
+    // Safety: as in `extent`.
+    let answer =
+        unsafe { raw::cb_tidy_length(description.as_ptr(), description.len(), &mut tidied) };
+    Refusal::of(answer)?;
+    let mut out = vec![0; tidied.length];
+    // Safety: pointers and lengths are those of two slices, of which one is this function's own.
+    let answer = unsafe {
+        raw::cb_tidy(description.as_ptr(), description.len(), out.as_mut_ptr(), out.len())
+    };
+    Refusal::of(answer)?;
+    Ok(out)
+}
+
 /// The layout as text, or the line `refused n`, or `refused n type t` where the refusal names a type.
 pub fn listing(description: &[u8]) -> String {
     let mut out = [0u8; 4096];

@@ -23,8 +23,8 @@ fn values() -> Vec<u8> {
 #[test]
 fn texts_are_those_of_the_header() {
     let header = include_str!("../../../include/callbridge.h");
-    let table = header.split("texts[28] = {").nth(1).expect("the table of texts");
-    let texts: Vec<&str> = table.split('"').skip(1).step_by(2).take(28).collect();
+    let table = header.split("texts[30] = {").nth(1).expect("the table of texts");
+    let texts: Vec<&str> = table.split('"').skip(1).step_by(2).take(30).collect();
     assert_eq!(texts[0], "accepted");
     assert_eq!(texts[1..], callbridge::Refusal::TEXTS);
 }
@@ -173,4 +173,35 @@ fn modules_change_in_one_call() {
     assert!(!station.is_attached() && station.description().is_empty());
     assert_eq!(station.step(&mut walk, &images, 5, &mut [0; 16]).map_err(number), Err(13));
     assert_eq!(station.detach().map_err(number), Err(13));
+}
+
+/// A dead type and a struct that is described twice are left out; a struct of 255 chars and one of a
+/// single char over the same run have 256 members apart.
+#[test]
+fn a_description_is_tidied() {
+    let untidy = [
+        &b"KCB\x01\x00\x05\x00\x02\x02\xff\x02"[..],
+        &[0, 8, 0, 0, 0, 1, 0, 0, 0, 3, 0, 0, 2, 0, 2, 0, 2, 0, 2, 0],
+        &[2, 1, 4, 3],
+    ]
+    .concat();
+    let tidied = callbridge::tidy(&untidy).unwrap();
+    let expected = [
+        &b"KCB\x01\x00\x03\x00\x02\x02\xff\x02"[..],
+        &[0, 3, 0, 0, 0, 1, 0, 0, 2, 0, 2, 0, 0, 1, 2, 2],
+    ]
+    .concat();
+    assert_eq!(tidied, expected);
+    assert_eq!(callbridge::tidy(&tidied), Ok(tidied.clone()));
+    let wide = [
+        &b"KCB\x01\x00\x03\x00\x02\x02\xff\xff"[..],
+        &[0, 1, 0, 0, 2, 0, 255, 0, 2, 0, 1, 0],
+        &[0; 255],
+        &[1, 2],
+    ]
+    .concat();
+    assert_eq!(callbridge::check(&wide), Ok(()));
+    let refusal = callbridge::tidy(&wide).unwrap_err();
+    assert_eq!(refusal.number(), 29);
+    assert!(refusal.text().contains("over 255 members"));
 }

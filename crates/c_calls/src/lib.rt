@@ -11,6 +11,7 @@ pub use returning_calls::take_returned;
 pub use station_calls::attach;
 pub use station_calls::change;
 pub use station_calls::detach;
+pub use tidying_calls::tidy_length;
 pub use type_calls::member_run;
 pub use type_calls::type_classes;
 pub use type_calls::type_extent;
@@ -20,6 +21,7 @@ pub use walk_calls::step;
 
 mod type_calls; // cb_type_extent, cb_type_classes, cb_member_run
 mod layout_calls; // cb_layout_of, cb_lay_out
+mod tidying_calls; // cb_tidy_length
 mod moving_calls; // cb_place_values, cb_gather_values
 mod returning_calls; // cb_put_returned, cb_take_returned
 mod station_calls; // cb_attach, cb_detach, cb_change
@@ -32,6 +34,7 @@ use flat::Part;
 use flat::Placed;
 use flat::Placement;
 use flat::Station;
+use flat::Tidied;
 use flat::Walk;
 use form::Refusal;
 use places::Used;
@@ -56,6 +59,11 @@ pub struct GivenPart {
 
 pub struct GivenLayout {
     pub layout: Layout,
+    pub refusal: Refusal,
+}
+
+pub struct GivenTidied {
+    pub tidied: Tidied,
     pub refusal: Refusal,
 }
 

@@ -19,6 +19,7 @@ use Rattle.layout.specs.Verdict.{verdict}
 use Rattle.layout.specs.Layout.{layoutAnswer}
 use Rattle.layout.specs.Lists.{listRefusal, listAnswer}
 use Rattle.moving.specs.Images.{amd64}
+use Rattle.tidying.specs.Answers.{lengthRefusal, lengthAnswer}
 use Rattle.moving.specs.Orders.{placeRefusal, gatherRefusal}
 use Rattle.moving.specs.Answers.{placeAnswer, gatherAnswer}
 use Rattle.returning.specs.Orders.{putRefusal, takeRefusal}
@@ -42,12 +43,13 @@ use Rattle.flat.specs.Stations.{stationMeant, flatStation, walkMeant, flatWalk}
 use Rattle.c_calls.specs.Outcome.{Outcome, gives, refuses, refusalIn, leftIn}
 use Rattle.c_calls.specs.TypeCalls.{extentGiven, classesGiven, runPart, runRefusal}
 use Rattle.c_calls.specs.LayoutCalls.{layoutGiven, listGiven}
+use Rattle.c_calls.specs.TidyingCalls.{tidiedGiven}
 use Rattle.c_calls.specs.MovingCalls.{placedGiven, gatheredGiven}
 use Rattle.c_calls.specs.ReturningCalls.{putGiven, takenGiven}
 use Rattle.c_calls.specs.StationCalls.{attachGiven, detachGiven, freedStation, changeGiven}
 use Rattle.c_calls.proofs.Given.{freed-means}
 use Rattle.c_calls.specs.WalkCalls.{openGiven, stepGiven, shownPart, shownRefusal}
-use Rattle.callbridge.specs.Interface.{Tells, TellsPart, ExtentTold, ClassesTold, runOf, RunTold, LayoutTold, ListTold, PlacedTold, GatheredTold, PutTold, TakenTold, AttachTold, DetachTold, ChangeTold, OpenTold, StepTold, ShownTold}
+use Rattle.callbridge.specs.Interface.{Tells, TellsPart, ExtentTold, ClassesTold, runOf, RunTold, LayoutTold, ListTold, PlacedTold, GatheredTold, PutTold, TakenTold, AttachTold, DetachTold, ChangeTold, OpenTold, StepTold, ShownTold, TidiedTold}
 
 -- an outcome that is told by a number
 abbrev by-number : {A : Type 0} → List ℕ → ℕ → A → Outcome A
@@ -117,6 +119,10 @@ layout-told d = told _ d (verdict d) _ (through (layoutGiven (argumentsIn d)) (e
 pub list-told : ListTold
 unfolding listGiven listAnswer
 list-told d room = told _ d (listRefusal d room) _ (through (layoutGiven (argumentsIn d)) (eqb (listRefusal d room) 0) _ _)
+
+pub tidied-told : TidiedTold
+unfolding lengthAnswer
+tidied-told d = told _ d (lengthRefusal d) _ (through tidiedGiven (eqb (lengthRefusal d) 0) _ _)
 
 pub placed-told : PlacedTold
 unfolding placeAnswer

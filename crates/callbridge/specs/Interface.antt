@@ -23,6 +23,7 @@ use Rattle.layout.specs.Placements.{placementAt}
 use Rattle.layout.specs.Lists.{listRefusal, listCount, filled}
 use Rattle.moving.specs.Images.{frameOf, amd64}
 use Rattle.moving.specs.Frames.{ownAddress}
+use Rattle.tidying.specs.Answers.{tidied, lengthRefusal, lengthAnswer}
 use Rattle.moving.specs.Orders.{placeRefusal, gatherRefusal}
 use Rattle.moving.specs.Answers.{placeAnswer, gatherAnswer}
 use Rattle.returning.specs.Image.{returnedAddress}
@@ -48,6 +49,7 @@ use Rattle.flat.specs.Meanings.{placementMeant, layoutMeant}
 use Rattle.c_calls.specs.Outcome.{Outcome, refusalIn, leftIn}
 use Rattle.c_calls.specs.TypeCalls.{extentGiven, classesGiven, runPart, runRefusal}
 use Rattle.c_calls.specs.LayoutCalls.{layoutGiven, flatAt, listGiven}
+use Rattle.c_calls.specs.TidyingCalls.{tidiedGiven}
 use Rattle.c_calls.specs.MovingCalls.{placedGiven, gatheredGiven}
 use Rattle.c_calls.specs.ReturningCalls.{putGiven, takenGiven}
 use Rattle.c_calls.specs.StationCalls.{attachGiven, detachGiven, freedStation, changeGiven}
@@ -85,6 +87,10 @@ LayoutTold = (d : List ℕ) → Tells (layoutGiven (argumentsIn d) (layoutAnswer
 
 abbrev pub ListTold : Type 0
 ListTold = (d : List ℕ) (room : ℕ) → Tells (listGiven d room) d (listRefusal d room) (layoutOf (wholeOf d) (argumentsIn d))
+
+-- cb_tidy_length; cb_tidy has no record, and its contract names the number
+abbrev pub TidiedTold : Type 0
+TidiedTold = (d : List ℕ) → Tells (tidiedGiven (lengthAnswer d)) d (lengthRefusal d) (record { length = record { 0 = length (tidied d) } })
 
 -- cb_place_values, cb_gather_values
 abbrev pub PlacedTold : Type 0

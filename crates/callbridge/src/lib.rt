@@ -7,6 +7,7 @@ use flat::Part;
 use flat::Placed;
 use flat::Placement;
 use flat::Station;
+use flat::Tidied;
 use flat::Walk;
 use form::Refusal;
 use types::Extent;
@@ -23,6 +24,7 @@ ghost use Rattle.layout.specs.Layout.{layoutAnswer};
 ghost use Rattle.layout.specs.Lists.{listCount, filled};
 ghost use Rattle.layout.specs.Verdict.{verdict};
 ghost use Rattle.moving.specs.Images.{amd64};
+ghost use Rattle.tidying.specs.Answers.{tidyRefusal, lengthAnswer, tidyAfter};
 ghost use Rattle.moving.specs.Answers.{placeAnswer, registersAfter, stackAfter, gatherAnswer, valuesAfter};
 ghost use Rattle.returning.specs.Answers.{putAnswer, imageAfter, takeAnswer, valueAfter};
 ghost use Rattle.station.specs.Paper.{kcb};
@@ -35,6 +37,7 @@ ghost use Rattle.flat.specs.Stations.{stationMeant, flatStation, walkMeant};
 ghost use Rattle.c_calls.specs.Outcome.{refusalIn, leftIn};
 ghost use Rattle.c_calls.specs.TypeCalls.{extentGiven, classesGiven, runPart, runRefusal};
 ghost use Rattle.c_calls.specs.LayoutCalls.{layoutGiven, listGiven, flatAt};
+ghost use Rattle.c_calls.specs.TidyingCalls.{tidiedGiven};
 ghost use Rattle.c_calls.specs.MovingCalls.{placedGiven, gatheredGiven};
 ghost use Rattle.c_calls.specs.ReturningCalls.{putGiven, takenGiven};
 ghost use Rattle.c_calls.specs.StationCalls.{attachGiven, detachGiven, freedStation, changeGiven};
@@ -136,6 +139,26 @@ pub extern "C" fn cb_write_listing(d: &[u8], out: &mut [u8; 4096]) -> usize
         × (now (out .exit) ≡ listing (now (d .entry)) ++ drop (length (listing (now (d .entry)))) (now (out .entry))) ⌝ }
 {
     listing::write_listing(d, out)
+}
+
+// The length of the tidy form.
+#[no_mangle]
+pub extern "C" fn cb_tidy_length(d: &[u8], tidied: &mut Tidied) -> Refusal
+    ensures { λ r. ⌜ (r ≡ refusalIn (tidiedGiven (lengthAnswer (now (d .entry)))))
+        × (now (tidied .exit) ≡ leftIn (tidiedGiven (lengthAnswer (now (d .entry)))) (now (tidied .entry))) ⌝ }
+{
+    let given = c_calls::tidy_length(d, *tidied);
+    *tidied = given.tidied;
+    given.refusal
+}
+
+// The tidy form of the description.
+#[no_mangle]
+pub extern "C" fn cb_tidy(d: &[u8], out: &mut [u8]) -> Refusal
+    ensures { λ r. ⌜ (r ≡ refusalFor (now (d .entry)) (tidyRefusal (now (d .entry)) (length (now (out .entry)))))
+        × (now (out .exit) ≡ tidyAfter (now (d .entry)) (now (out .entry))) ⌝ }
+{
+    tidying::tidy(d, out)
 }
 
 // Values into both images.

@@ -75,6 +75,12 @@ pub struct Gathered {
     pub hidden: u64,
 }
 
+// cb_tidied: how many bytes the tidy form has.
+#[repr(C)]
+pub struct Tidied {
+    pub length: Bytes,
+}
+
 // cb_station: 0 in `attached` is not attached, any other number is attached.
 #[repr(C)]
 pub struct Station {

@@ -139,11 +139,11 @@ unfolding refusalFor refusalBy refusalAt
 means read d zero new old v e = ap accepted (e refl)
 means read d (suc n) new old v e = refl
 
-told-number : {A : Type 0} {o : Outcome A} {d : List ℕ} {n : ℕ} {new : A} → Tells o d n new → refusalIn o .number ≡ n
+pub told-number : {A : Type 0} {o : Outcome A} {d : List ℕ} {n : ℕ} {new : A} → Tells o d n new → refusalIn o .number ≡ n
 told-number {d = d} {n = n} t = ap (λ (r : Refusal). r .number) (t .refusal) ∙ number-for d n
 
 -- it fills the lent record
-fills : {A X : Type 0} (read : A → X) (d : List ℕ) (rules : List Rule) (v : X) (old : A) (o : Outcome A) (n : ℕ) (new : A) (m : Meaning X)
+pub fills : {A X : Type 0} (read : A → X) (d : List ℕ) (rules : List Rule) (v : X) (old : A) (o : Outcome A) (n : ℕ) (new : A) (m : Meaning X)
     → Tells o d n new → (n ≡ 0 → read new ≡ v) → Answered m rules v → m ≡ outcome n v → Names d (refusalFor d n) → Fills read d rules v old (refusalIn o) (leftIn o old)
 fills {A = A} read d rules v old o n new m t e a f h = record {
   answered = subst (λ x. Answered x rules v) (f ∙ sym (ap₂ (λ (r : Refusal) (x : A). outcome (r .number) (read x)) (t .refusal) (t .left old) ∙ means read d n new old v e)) a;
@@ -271,11 +271,11 @@ gathers-flat d q s v old =
 
 -- ---- returned values
 
-refusal-told : (d : List ℕ) (n : ℕ) (r : Refusal) → r ≡ refusalFor d n → r .number ≡ n
+pub refusal-told : (d : List ℕ) (n : ℕ) (r : Refusal) → r ≡ refusalFor d n → r .number ≡ n
 refusal-told d n r e = ap (λ (x : Refusal). x .number) e ∙ number-for d n
 
 -- an answer that is a refusal alone
-answered-by : (d : List ℕ) (n : ℕ) (r : Refusal) (rules : List Rule) → r ≡ refusalFor d n → Answered {X = Unit {0}} (outcome n tt) rules tt → Answered (ofRefusal r) rules tt
+pub answered-by : (d : List ℕ) (n : ℕ) (r : Refusal) (rules : List Rule) → r ≡ refusalFor d n → Answered {X = Unit {0}} (outcome n tt) rules tt → Answered (ofRefusal r) rules tt
 answered-by d n r rules e a = subst (λ (k : ℕ). Answered {X = Unit {0}} (outcome k tt) rules tt) (sym (refusal-told d n r e)) a
 
 puts-flat : (d : List ℕ) (h : ℕ) (v i : List ℕ) → PutsFlat d h v i (putGiven (putAnswer d h v (length i))) (imageAfter d h v i)
@@ -448,7 +448,7 @@ shows-flat s seat w a =
 -- ---- of the contracts
 
 -- two, three and four equations at once
-along : {A B : Type 0} (P : A → B → Type 0) {a c : A} {b d : B} → a ≡ c → b ≡ d → P c d → P a b
+pub along : {A B : Type 0} (P : A → B → Type 0) {a c : A} {b d : B} → a ≡ c → b ≡ d → P c d → P a b
 along P {b = b} e f p = subst (λ x. P x b) (sym e) (subst (P _) (sym f) p)
 
 along-three : {A B C : Type 0} (P : A → B → C → Type 0) {a c : A} {b d : B} {x y : C} → a ≡ c → b ≡ d → x ≡ y → P c d y → P a b x

@@ -15,3 +15,4 @@ pub mod ValueBytes
 pub mod Demand3
 pub mod Calls
 pub mod Exports
+pub mod Tidying

@@ -48,7 +48,7 @@ holds n (rule m false ∷ rules) z e = rest (eqb m n) (holds n rules z e)
 
 -- any call whose order has 6 and 7 for those two conditions alone
 module _ (d : List ℕ) (rules : List Rule) (six : holding 6 rules ≡ true → wrongRecord d ≡ true) (seven : holding 7 rules ≡ true → tooLarge (modelIn d) d ≡ true) where
-  names : Names d (refusalFor d (first rules))
+  pub names : Names d (refusalFor d (first rules))
   unfolding refusalFor refusalBy refusalAt wrongRecord tooLarge
   names = record {
     six = λ e. rw (eq-eqb (first rules) 6 e) (
@@ -71,7 +71,7 @@ module _ (d : List ℕ) (rules : List Rule) (six : holding 6 rules ≡ true → 
   }
 
 -- a condition, and none behind it
-alone : (b : Bool) → (b || false) ≡ true → b ≡ true
+pub alone : (b : Bool) → (b || false) ≡ true → b ≡ true
 alone true e = refl
 alone false e = e
 

@@ -8,3 +8,4 @@ pub mod Ilp32
 pub mod Demand3
 pub mod Calls
 pub mod Exports
+pub mod Tidying

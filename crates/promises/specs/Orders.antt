@@ -18,6 +18,7 @@ use Rattle.layout.specs.Layout.{layoutOf}
 use Rattle.layout.specs.Lists.{shortList}
 use Rattle.moving.specs.Address.{wrongAddress}
 use Rattle.moving.specs.Images.{amd64}
+use Rattle.tidying.specs.Answers.{tooMany, otherLength}
 use Rattle.moving.specs.Orders.{wrongBool, wrongLength as wrongLengths}
 use Rattle.returning.specs.Returned.{returnLength}
 use Rattle.returning.specs.Orders.{wrongLength as wrongReturnLengths, wrongBool as wrongReturnedBool}
@@ -72,6 +73,14 @@ abbrev pub putOrder : List ℕ → ℕ → List ℕ → ℕ → List Rule
 putOrder d h value imageLength =
     checkOrder d ++ rule 11 (wrongReturnLengths (returnLength d) (length value) imageLength)
     ∷ rule 27 (wrongAddress (modelIn d) (hidden d) h) ∷ rule 12 (wrongReturnedBool d value) ∷ []
+
+-- request 2026-03: "after 10, 29 where the separate runs need over 255 members, then 11 where the lent out buffer is not of the tidy length"; the question for that
+-- length has no buffer
+abbrev pub tidyLengthOrder : List ℕ → List Rule
+tidyLengthOrder d = checkOrder d ++ rule 29 (tooMany d) ∷ []
+
+abbrev pub tidyOrder : List ℕ → ℕ → List Rule
+tidyOrder d room = checkOrder d ++ rule 29 (tooMany d) ∷ rule 11 (otherLength d room) ∷ []
 
 -- "Attach: 11, 14, 15, 1..10"
 abbrev pub attachOrder : Station → List ℕ → List ℕ → List Rule

@@ -12,6 +12,8 @@ use Rattle.questions.proofs.member_offsets
 use Rattle.layout.proofs.check
 use Rattle.layout.proofs.layout_of
 use Rattle.layout.proofs.lay_out
+use Rattle.tidying.proofs.tidy_length
+use Rattle.tidying.proofs.tidy
 use Rattle.moving.proofs.place_values
 use Rattle.moving.proofs.gather_values
 use Rattle.returning.proofs.put_returned
@@ -39,6 +41,8 @@ use Rattle.callbridge.proofs.cb_member_offsets
 use Rattle.callbridge.proofs.cb_layout_of
 use Rattle.callbridge.proofs.cb_lay_out
 use Rattle.callbridge.proofs.cb_write_listing
+use Rattle.callbridge.proofs.cb_tidy_length
+use Rattle.callbridge.proofs.cb_tidy
 use Rattle.callbridge.proofs.cb_place_values
 use Rattle.callbridge.proofs.cb_gather_values
 use Rattle.callbridge.proofs.cb_put_returned
@@ -83,6 +87,12 @@ total-layout-layout-of c g = refl
 
 pub total-layout-lay-out : Total lay_out.ended (λ M. lay_out.clauses {M = M})
 total-layout-lay-out c g = refl
+
+pub total-tidying-tidy-length : Total tidy_length.ended (λ M. tidy_length.clauses {M = M})
+total-tidying-tidy-length c g = refl
+
+pub total-tidying-tidy : Total tidy.ended (λ M. tidy.clauses {M = M})
+total-tidying-tidy c g = refl
 
 pub total-moving-place-values : Total place_values.ended (λ M. place_values.clauses {M = M})
 total-moving-place-values c g = refl
@@ -164,6 +174,12 @@ total-callbridge-cb-lay-out c g = refl
 
 pub total-callbridge-cb-write-listing : Total cb_write_listing.ended (λ M. cb_write_listing.clauses {M = M})
 total-callbridge-cb-write-listing c g = refl
+
+pub total-callbridge-cb-tidy-length : Total cb_tidy_length.ended (λ M. cb_tidy_length.clauses {M = M})
+total-callbridge-cb-tidy-length c g = refl
+
+pub total-callbridge-cb-tidy : Total cb_tidy.ended (λ M. cb_tidy.clauses {M = M})
+total-callbridge-cb-tidy c g = refl
 
 pub total-callbridge-cb-place-values : Total cb_place_values.ended (λ M. cb_place_values.clauses {M = M})
 total-callbridge-cb-place-values c g = refl

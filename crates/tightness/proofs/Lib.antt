@@ -12,6 +12,7 @@ pub mod OfQuestions
 pub mod OfUses
 pub mod OfPlaces
 pub mod OfLayout
+pub mod OfTidying
 pub mod OfImages
 pub mod OfMoving
 pub mod OfReturning

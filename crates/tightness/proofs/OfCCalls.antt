@@ -32,6 +32,9 @@ use Rattle.c_calls.proofs.detach.Symbol as detach-symbol
 use Rattle.c_calls.proofs.change
 use Rattle.c_calls.proofs.change.Met as change-met
 use Rattle.c_calls.proofs.change.Symbol as change-symbol
+use Rattle.c_calls.proofs.tidy_length
+use Rattle.c_calls.proofs.tidy_length.Met as tidy-length-met
+use Rattle.c_calls.proofs.tidy_length.Symbol as tidy-length-symbol
 use Rattle.c_calls.proofs.type_extent
 use Rattle.c_calls.proofs.type_extent.Met as type-extent-met
 use Rattle.c_calls.proofs.type_extent.Symbol as type-extent-symbol
@@ -134,6 +137,12 @@ tight-c-calls-change c r q w v a b = (settle (result change.ended c) (a .ensured
   where
     same-seat : w .1 .0 ≡ v .1 .0
     same-seat = settle bytes (a .ensured) (b .ensured) (λ e f. e .1 .1 ∙ sym (f .1 .1))
+
+pub meets-c-calls-tidy-length : Meets tidy_length.ended (λ M. tidy_length.clauses {M = M}) tidy-length-symbol.routine
+meets-c-calls-tidy-length M = tidy-length-met.met
+
+pub tight-c-calls-tidy-length : Tight tidy_length.ended (λ M. tidy_length.clauses {M = M})
+tight-c-calls-tidy-length c r q w v a b = (settle (result tidy_length.ended c) (a .ensured) (b .ensured) (λ e f i. record { tidied = (e .1 ∙ sym (f .1)) i; refusal = (e .0 ∙ sym (f .0)) i }), refl)
 
 pub meets-c-calls-type-extent : Meets type_extent.ended (λ M. type_extent.clauses {M = M}) type-extent-symbol.routine
 meets-c-calls-type-extent M = type-extent-met.met

@@ -10,6 +10,7 @@ use Rattle.flat.proofs.Part as flat-Part
 use Rattle.flat.proofs.Placed as flat-Placed
 use Rattle.flat.proofs.Placement as flat-Placement
 use Rattle.flat.proofs.Station as flat-Station
+use Rattle.flat.proofs.Tidied as flat-Tidied
 use Rattle.flat.proofs.Walk as flat-Walk
 use Rattle.types.proofs.Extent as types-Extent
 use Rattle.callbridge.proofs.cb_version
@@ -39,6 +40,12 @@ use Rattle.callbridge.proofs.cb_lay_out.Symbol as cb-lay-out-symbol
 use Rattle.callbridge.proofs.cb_write_listing
 use Rattle.callbridge.proofs.cb_write_listing.Met as cb-write-listing-met
 use Rattle.callbridge.proofs.cb_write_listing.Symbol as cb-write-listing-symbol
+use Rattle.callbridge.proofs.cb_tidy_length
+use Rattle.callbridge.proofs.cb_tidy_length.Met as cb-tidy-length-met
+use Rattle.callbridge.proofs.cb_tidy_length.Symbol as cb-tidy-length-symbol
+use Rattle.callbridge.proofs.cb_tidy
+use Rattle.callbridge.proofs.cb_tidy.Met as cb-tidy-met
+use Rattle.callbridge.proofs.cb_tidy.Symbol as cb-tidy-symbol
 use Rattle.callbridge.proofs.cb_place_values
 use Rattle.callbridge.proofs.cb_place_values.Met as cb-place-values-met
 use Rattle.callbridge.proofs.cb_place_values.Symbol as cb-place-values-symbol
@@ -150,6 +157,24 @@ tight-callbridge-cb-write-listing c r q w v a b = (settle (result cb_write_listi
   where
     same-out : w .1 .0 ≡ v .1 .0
     same-out = settle bytes (a .ensured) (b .ensured) (λ e f. e .2 ∙ sym (f .2))
+
+pub meets-callbridge-cb-tidy-length : Meets cb_tidy_length.ended (λ M. cb_tidy_length.clauses {M = M}) cb-tidy-length-symbol.routine
+meets-callbridge-cb-tidy-length M = cb-tidy-length-met.met
+
+pub tight-callbridge-cb-tidy-length : Tight cb_tidy_length.ended (λ M. cb_tidy_length.clauses {M = M})
+tight-callbridge-cb-tidy-length c r q w v a b = (settle (result cb_tidy_length.ended c) (a .ensured) (b .ensured) (λ e f. e .0 ∙ sym (f .0)), λ i. (tt, (same-tidied i, tt)))
+  where
+    same-tidied : w .1 .0 ≡ v .1 .0
+    same-tidied = settle (flat-Tidied.the-row .coded) (a .ensured) (b .ensured) (λ e f. e .1 ∙ sym (f .1))
+
+pub meets-callbridge-cb-tidy : Meets cb_tidy.ended (λ M. cb_tidy.clauses {M = M}) cb-tidy-symbol.routine
+meets-callbridge-cb-tidy M = cb-tidy-met.met
+
+pub tight-callbridge-cb-tidy : Tight cb_tidy.ended (λ M. cb_tidy.clauses {M = M})
+tight-callbridge-cb-tidy c r q w v a b = (settle (result cb_tidy.ended c) (a .ensured) (b .ensured) (λ e f. e .0 ∙ sym (f .0)), λ i. (tt, (same-out i, tt)))
+  where
+    same-out : w .1 .0 ≡ v .1 .0
+    same-out = settle bytes (a .ensured) (b .ensured) (λ e f. e .1 ∙ sym (f .1))
 
 pub meets-callbridge-cb-place-values : Meets cb_place_values.ended (λ M. cb_place_values.clauses {M = M}) cb-place-values-symbol.routine
 meets-callbridge-cb-place-values M = cb-place-values-met.met

@@ -15,6 +15,7 @@ pub mod walk;
 pub mod listing;
 
 pub mod returning;
+pub mod tidying;
 
 pub mod random;
 pub mod draft;
@@ -25,5 +26,6 @@ pub mod damage;
 pub mod broken;
 pub mod history;
 pub mod mixture;
+pub mod untidy;
 pub mod lister;
 pub mod vectors;

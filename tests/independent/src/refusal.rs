@@ -50,6 +50,8 @@ pub enum Refusal {
     OtherType,
     /// "a hidden address in use of 2^32 or more" (02, 2026-11)
     AddressTooWide,
+    /// 02, 2026-03: "the separate runs need over 255 members"
+    TooManyMembers,
 }
 
 impl Refusal {
@@ -77,6 +79,7 @@ impl Refusal {
             Refusal::AtEnd => 19,
             Refusal::OtherType => 20,
             Refusal::AddressTooWide => 27,
+            Refusal::TooManyMembers => 29,
         }
     }
 

@@ -20,8 +20,10 @@ use crate::random::Random;
 use crate::refusal::Told;
 use crate::returning::{putting, taking, value_length, RETURN_IMAGE};
 use crate::station::Station;
+use crate::tidying::{tidy, tidying};
 use crate::types::{asked, run_range};
 use crate::units::Bytes;
+use crate::untidy::{differing, scrambled};
 use crate::walk::Walk;
 use std::fmt::Display;
 
@@ -50,9 +52,9 @@ impl Writer {
     }
 }
 
-/// All six pairs.
+/// All seven pairs.
 pub fn all_pairs(seed: u64) -> Vec<Pair> {
-    let makers = [questions, layouts, moves, histories, listings, returns];
+    let makers = [questions, layouts, moves, histories, listings, returns, tidies];
     let numbered = makers.iter().enumerate();
     let made = numbered.map(|(index, make)| {
         let mut random = Random::new(seed.wrapping_add(index as u64));
@@ -1142,4 +1144,96 @@ fn return_text(one: &Return) -> String {
     };
     let (image, value) = (word_and_hex("image", &image), word_and_hex("value", &value));
     format!("{first}\n{image}\n{second}\n{value}\n")
+}
+
+// ---- tidies
+
+fn tidies(random: &mut Random) -> Writer {
+    let mut writer = Writer::new("tidies");
+    for bytes in in_both_models(THOUGHT.iter().map(|text| description(text)).collect()) {
+        add_tidy(&mut writer, &bytes);
+    }
+    for (_, bytes) in generator::limits().iter().chain(&generator::towers()) {
+        add_tidy(&mut writer, bytes);
+    }
+    for bytes in in_both_models(one_run()) {
+        add_tidy(&mut writer, &bytes);
+        add_tidy_room(&mut writer, &bytes, 0);
+    }
+    for room in [0, 1, 10, 11, 12, 41, 42, 43, 600] {
+        add_tidy_room(&mut writer, &bytes_of_hex(LISTER), room);
+        add_tidy_room(&mut writer, &Draft::new().bytes(), room);
+    }
+    for refusals in refusals_and_pairs() {
+        let bytes = damaged(random, &refusals);
+        let room = random.choose(&[0, 11, 42, 586]);
+        add_tidy_room(&mut writer, &bytes, room);
+    }
+    for one in broken() {
+        add_tidy_room(&mut writer, &one.bytes, 40);
+    }
+    for index in 0..120 {
+        let shape = if index % 20 == 0 { LARGE } else { MIDDLE };
+        let bytes = random_description(random, shape);
+        let other = scrambled(random, &bytes);
+        add_tidy(&mut writer, &bytes);
+        add_tidy(&mut writer, &other);
+        if let Some(different) = differing(random, &bytes) {
+            add_tidy(&mut writer, &different);
+        }
+        if random.one_in(6) {
+            let room = tidy(&bytes).map_or(0, |tidied| tidied.len());
+            add_tidy_room(&mut writer, &bytes, if random.one_in(2) { room + 1 } else { room - 1 });
+        }
+    }
+    writer
+}
+
+/// 63 structs over one run of 255 members: all equal, each shorter by one, and as few as make
+/// 255 and 256 separate members.
+fn one_run() -> Vec<Vec<u8>> {
+    let over = |counts: &[usize]| {
+        let mut draft = Draft::new();
+        let character = draft.basic(1);
+        draft.members = vec![character; 255];
+        for &count in counts {
+            let type_number = draft.record(2, 0, count);
+            draft.argument(type_number);
+        }
+        draft.bytes()
+    };
+    let shorter: Vec<usize> = (0..63).map(|index| 255 - index).collect();
+    vec![
+        over(&[255; 63]),
+        over(&shorter),
+        over(&[200, 55]),
+        over(&[200, 56]),
+        over(&[127, 128, 127]),
+    ]
+}
+
+/// With a buffer of the right length; of 20 bytes where there is none.
+fn add_tidy(writer: &mut Writer, bytes: &[u8]) {
+    let room = tidy(bytes).map_or(20, |tidied| tidied.len());
+    add_tidy_room(writer, bytes, room);
+}
+
+fn add_tidy_room(writer: &mut Writer, bytes: &[u8], room: usize) {
+    writer.part(bytes);
+    writer.pair.input.extend((room as u16).to_le_bytes());
+    writer.pair.output.push_str(&tidy_text(bytes, room));
+    writer.pair.records += 1;
+}
+
+pub fn tidy_text(bytes: &[u8], room: usize) -> String {
+    let first = match tidy(bytes) {
+        Ok(tidied) => format!("length {}", tidied.len()),
+        Err(refusal) => format!("refused {}", Told::from(refusal)),
+    };
+    let mut out = vec![0xEE; room];
+    let second = match tidying(bytes, &mut out) {
+        Ok(()) => "tidy".to_string(),
+        Err(refusal) => format!("refused {}", Told::from(refusal)),
+    };
+    format!("{first}\n{second}\n{}\n", word_and_hex("out", &out))
 }

@@ -23,6 +23,8 @@ pub enum Code {
     PutReturned = 43,
     TakeReturned = 44,
     MemberOffsets = 45,
+    TidyLength = 46,
+    Tidy = 47,
 }
 
 /// What is lent, in the driver's order: its number is in its canaries.

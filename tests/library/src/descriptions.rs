@@ -10,6 +10,7 @@ use independent::places::{self, accepted, Accepted, Place, Register, ReturnPlace
 use independent::random::Random;
 use independent::refusal::{told, Refusal};
 use independent::returning::{putting, taking, value_length, RETURN_IMAGE};
+use independent::tidying::{tidy, tidying};
 use independent::types::{asked, offsets, run_range};
 
 pub fn ask(random: &mut Random, bytes: &[u8], batch: &mut Batch) {
@@ -22,6 +23,7 @@ pub fn ask(random: &mut Random, bytes: &[u8], batch: &mut Batch) {
     ask_listing(bytes, batch);
     ask_moves(random, bytes, batch);
     ask_returned(random, bytes, batch);
+    ask_tidy(random, bytes, batch);
 }
 
 /// The description is lent to each call, which leaves it.
@@ -307,4 +309,22 @@ fn ask_take(random: &mut Random, bytes: &[u8], lengths: [usize; 2], batch: &mut 
     batch.told(told(&answer)).buffer(Thing::Image, &image).buffer(Thing::Values, &value);
     batch.record(Thing::Record, &left(Gathered::FILLED, taken));
     end("cb_take_returned", bytes, batch);
+}
+
+// ---- the tidy form
+
+fn ask_tidy(random: &mut Random, bytes: &[u8], batch: &mut Batch) {
+    let tidied = tidy(bytes).map(|tidied| tidied.len());
+    batch.command(Code::TidyLength).told(told(&tidied));
+    let length = tidied.map(|length| Tidied { length: length as u64 });
+    batch.record(Thing::Record, &left(Tidied::FILLED, length));
+    end("cb_tidy_length", bytes, batch);
+
+    let right = tidied.unwrap_or(bytes.len());
+    for room in [right, length_near(random, right)] {
+        let mut out = vec![FILLING; room];
+        batch.command(Code::Tidy).short(room).told(told(&tidying(bytes, &mut out)));
+        batch.buffer(Thing::Out, &out);
+        end("cb_tidy", bytes, batch);
+    }
 }

@@ -96,6 +96,7 @@ structs! {
     }
     Placed { vector_registers: u64, }
     Gathered { hidden: u64, }
+    Tidied { length: u64, }
     Station { length: u64, number: u32, attached: u8, reserved: [u8; 3], }
     Walk {
         position: u64,
@@ -153,6 +154,7 @@ impl Lent for Classes {}
 impl Lent for Layout {}
 impl Lent for Placed {}
 impl Lent for Gathered {}
+impl Lent for Tidied {}
 impl Lent for Station {}
 impl Lent for Walk {}
 

@@ -1,0 +1,11 @@
+pub mod Same
+pub mod Call
+pub mod Numbering
+pub mod Ordered
+pub mod Marks
+pub mod Tidy
+pub mod Laid
+pub mod Answers
+pub mod Cases
+pub mod Asks
+pub mod Statements
