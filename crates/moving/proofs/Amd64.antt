@@ -15,6 +15,7 @@ use Rattle.addresses.proofs.Runs.{all-run, nodup-run}
 use Rattle.form.specs.Order.{Without}
 use Rattle.form.proofs.Form.{or-none}
 use Rattle.places.specs.Places.{eights}
+use Rattle.places.specs.Images.{stackAt}
 use Rattle.places.proofs.Apart.{all-seated, addresses-packed, addresses-below, addresses-past, length-addresses}
 use Rattle.layout.specs.Arguments.{shapes, hidden, usedFirst, areaOf}
 use Rattle.layout.specs.Layout.{valuesOf, layoutOf}
@@ -36,7 +37,7 @@ use Rattle.moving.proofs.Orders.{gather-fits, place-accepted}
 module _ (d : List ℕ) (accepted : verdict d ≡ 0) where
   length-all : length (addressesOf d) ≡ valuesOf d
   unfolding addressesOf valuesOf
-  length-all = length-addresses 176 eights (shapes d) (usedFirst d) (all-shaped d (right d accepted))
+  length-all = length-addresses stackAt eights (shapes d) (usedFirst d) (all-shaped d (right d accepted))
 
   past : hidden d ≡ true → All (λ k. 8 ≤ k) (addressesOf d)
   unfolding addressesOf
@@ -45,8 +46,8 @@ module _ (d : List ℕ) (accepted : verdict d ≡ 0) where
   frame-sound : Sound (frameOf d)
   unfolding addressesOf areaOf
   frame-sound = record {
-    once = addresses-packed 176 eights (shapes d) (usedFirst d) (all-shaped d (right d accepted)) (all-seated (shapes d)) .once;
-    inside = addresses-below 176 eights (shapes d) (usedFirst d) (all-shaped d (right d accepted)) (all-seated (shapes d));
+    once = addresses-packed stackAt eights (shapes d) (usedFirst d) (all-shaped d (right d accepted)) (all-seated (shapes d)) .once;
+    inside = addresses-below stackAt eights (shapes d) (usedFirst d) (all-shaped d (right d accepted)) (all-seated (shapes d));
     past = by (hidden d) refl;
     apart = single (hidden d);
     within = low (hidden d);
@@ -60,8 +61,8 @@ module _ (d : List ℕ) (accepted : verdict d ≡ 0) where
       single true = nodup-run 0 8
       single false = tt
 
-      low : (b : Bool) → Below (176 + areaOf d) (cond b rdi [])
-      low true = all-run {P = λ k. k < 176 + areaOf d} 0 8 (λ k l m. omega arith)
+      low : (b : Bool) → Below (stackAt + areaOf d) (cond b rdi [])
+      low true = all-run {P = λ k. k < stackAt + areaOf d} 0 8 (λ k l m. omega arith)
       low false = tt
 
 -- ---- its hidden address: rdi's where it is used, and else 0

@@ -9,13 +9,14 @@ use Rattle.addresses.specs.Addresses.{scatter, Below}
 use Rattle.addresses.specs.Copy.{cleared}
 use Rattle.addresses.proofs.Runs.{all-run}
 use Rattle.addresses.proofs.Parts.{scatter-left}
+use Rattle.places.specs.Images.{stackAt}
 use Rattle.layout.specs.Arguments.{hidden, areaOf}
 use Rattle.images.specs.Words.{littleEndian, rdi, withAddress}
 use Rattle.moving.specs.Images.{addressesOf, framed, frameOf}
 use Rattle.moving.specs.Frames.{emptyIn, placedIn}
 
 module _ (h : ℕ) (r s r′ s′ : List ℕ) (long : length r ≡ 176) (e : r′ ≡ cleared r) (f : s′ ≡ cleared s) where
-  both-cleared : r′ ++ s′ ≡ replicate (176 + length s) 0
+  both-cleared : r′ ++ s′ ≡ replicate (stackAt + length s) 0
   unfolding cleared
   both-cleared = rw (e, f, long) (replicate-append-replicate 176 (length s) 0)
 

@@ -25,7 +25,7 @@ use Rattle.uses.proofs.Uses.{accepted-types}
 use Rattle.places.specs.declared.Used.{Used}
 use Rattle.places.specs.Shapes.{Shape, Shaped, kindsOf, shapeOf}
 use Rattle.places.specs.Places.{eights, place, next, after, fresh}
-use Rattle.places.specs.Images.{bytesOf, addresses}
+use Rattle.places.specs.Images.{stackAt, bytesOf, addresses}
 use Rattle.places.specs.Statements.{Free, Seated}
 use Rattle.places.proofs.Apart.{TakenBy, all-seated}
 use Rattle.places.proofs.Slots.{four, free-before, taken-alone, slot-taken, slot-unused}
@@ -100,8 +100,8 @@ module _ (d : List ℕ) (accepted : verdict d ≡ 0) (m : modelIn d ≡ Ilp32) (
       ∙ ap basic (p .code) in
       ap₂ shapeOf m t ∙ pointer-shape
 
-  byte-is : slotByte d i j ≡ getD (bytesOf 176 (place eights (usedAt d i) four) 8) j 0
-  byte-is = ap (λ (s : Shape). getD (bytesOf 176 (place eights (usedAt d i) s) 8) j 0) shape-is
+  byte-is : slotByte d i j ≡ getD (bytesOf stackAt (place eights (usedAt d i) four) 8) j 0
+  byte-is = ap (λ (s : Shape). getD (bytesOf stackAt (place eights (usedAt d i) s) 8) j 0) shape-is
 
   abbrev behind : List Shape
   behind = shapesFrom d (i + 1) (argumentsIn d - (i + 1))
@@ -112,7 +112,7 @@ module _ (d : List ℕ) (accepted : verdict d ≡ 0) (m : modelIn d ≡ Ilp32) (
       shapes-split d i (argumentsIn d) (omega arith)
       ∙ ap (λ (l : List Shape). shapesFrom d 0 i ++ l) (shapes-cons d i (argumentsIn d) there ∙ ap (λ (s : Shape). s ∷ behind) shape-is)
 
-  taken : TakenBy 176 (after eights (usedFirst d) (shapesFrom d 0 i)) (next eights (after eights (usedFirst d) (shapesFrom d 0 i)) four) (slotByte d i j)
+  taken : TakenBy stackAt (after eights (usedFirst d) (shapesFrom d 0 i)) (next eights (after eights (usedFirst d) (shapesFrom d 0 i)) four) (slotByte d i j)
   unfolding usedAt
   taken = rw byte-is (slot-taken (usedAt d i) j low high)
 
@@ -120,7 +120,7 @@ module _ (d : List ℕ) (accepted : verdict d ≡ 0) (m : modelIn d ≡ Ilp32) (
   unfolding addressesOf usedAt
   absent =
       rw all-are
-      (taken-alone 176 eights (shapesFrom d 0 i) four behind (usedFirst d) (rw all-are at (all-shaped d (right d accepted))) (rw all-are at (all-seated (shapes d))) (slotByte d i j) taken
+      (taken-alone stackAt eights (shapesFrom d 0 i) four behind (usedFirst d) (rw all-are at (all-shaped d (right d accepted))) (rw all-are at (all-seated (shapes d))) (slotByte d i j) taken
       (rw byte-is (slot-unused (usedAt d i) j low high)))
 
   -- it lies behind rdi where the hidden address is there
@@ -130,7 +130,7 @@ module _ (d : List ℕ) (accepted : verdict d ≡ 0) (m : modelIn d ≡ Ilp32) (
       by : (b : Bool) → hidden d ≡ b → Absent (slotByte d i j) (cond b rdi [])
       by false e = tt
       by true e =
-          let f : Free 176 (fresh true) (slotByte d i j) = rw e at (free-before 176 eights (shapesFrom d 0 i) (usedFirst d) (slotByte d i j) (taken .was)) in
+          let f : Free stackAt (fresh true) (slotByte d i j) = rw e at (free-before stackAt eights (shapesFrom d 0 i) (usedFirst d) (slotByte d i j) (taken .was)) in
           all-run {P = λ q. slotByte d i j ≢ q} 0 8 (λ k l n z. omega (arith, f .general (omega (arith, z)) (omega (arith, z)), z))
 
 pub pointer-upper : PointerUpper

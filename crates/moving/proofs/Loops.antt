@@ -13,7 +13,7 @@ use Rattle.description.specs.Description.{argumentsIn}
 use Rattle.places.specs.declared.Used.{Used}
 use Rattle.places.specs.Shapes.{Shape, Shaped}
 use Rattle.places.specs.Places.{eights, Place, place, next}
-use Rattle.places.specs.Images.{bytesOf, addresses, total}
+use Rattle.places.specs.Images.{stackAt, bytesOf, addresses, total}
 use Rattle.places.specs.Recorded.{placeOf}
 use Rattle.places.proofs.Apart.{length-bytes, length-addresses}
 use Rattle.layout.specs.Arguments.{shapeAt, shapesFrom, shapes, usedFirst}
@@ -34,19 +34,19 @@ drop-run vals k z h = sym (take-append-drop z (drop k vals)) ∙ ap₂ _++_ (sym
 
 module _ (u : Used) (s : Shape) (ss : List Shape) (img vals : List ℕ) (k : ℕ) (h : Shaped s) where
   scatter-argument : k + s .size ≤ length vals
-      → scatter img (addresses 176 eights u (s ∷ ss)) (drop k vals)
-      ≡ scatter (scatter img (bytesOf 176 (place eights u s) (s .size)) (gather vals (run k (s .size)))) (addresses 176 eights (next eights u s) ss) (drop (k + s .size) vals)
+      → scatter img (addresses stackAt eights u (s ∷ ss)) (drop k vals)
+      ≡ scatter (scatter img (bytesOf stackAt (place eights u s) (s .size)) (gather vals (run k (s .size)))) (addresses stackAt eights (next eights u s) ss) (drop (k + s .size) vals)
   scatter-argument l =
-      ap (λ (vs : List ℕ). scatter img (addresses 176 eights u (s ∷ ss)) vs) (drop-run vals k (s .size) l)
-      ∙ scatter-append (bytesOf 176 (place eights u s) (s .size)) (addresses 176 eights (next eights u s) ss) img (gather vals (run k (s .size))) (drop (k + s .size) vals)
-      (length-bytes 176 eights u s h ∙ sym (length-map (run k (s .size)) (λ p. getD vals p 0) ∙ length-run k (s .size)))
+      ap (λ (vs : List ℕ). scatter img (addresses stackAt eights u (s ∷ ss)) vs) (drop-run vals k (s .size) l)
+      ∙ scatter-append (bytesOf stackAt (place eights u s) (s .size)) (addresses stackAt eights (next eights u s) ss) img (gather vals (run k (s .size))) (drop (k + s .size) vals)
+      (length-bytes stackAt eights u s h ∙ sym (length-map (run k (s .size)) (λ p. getD vals p 0) ∙ length-run k (s .size)))
 
-  gather-argument : scatter vals (run k (s .size + total ss)) (gather img (addresses 176 eights u (s ∷ ss)))
-      ≡ scatter (scatter vals (run k (s .size)) (gather img (bytesOf 176 (place eights u s) (s .size)))) (run (k + s .size) (total ss)) (gather img (addresses 176 eights (next eights u s) ss))
+  gather-argument : scatter vals (run k (s .size + total ss)) (gather img (addresses stackAt eights u (s ∷ ss)))
+      ≡ scatter (scatter vals (run k (s .size)) (gather img (bytesOf stackAt (place eights u s) (s .size)))) (run (k + s .size) (total ss)) (gather img (addresses stackAt eights (next eights u s) ss))
   gather-argument =
-      ap₂ (λ (ps vs : List ℕ). scatter vals ps vs) (run-append k (s .size) (total ss)) (gather-append (bytesOf 176 (place eights u s) (s .size)) (addresses 176 eights (next eights u s) ss) img)
-      ∙ scatter-append (run k (s .size)) (run (k + s .size) (total ss)) vals (gather img (bytesOf 176 (place eights u s) (s .size))) (gather img (addresses 176 eights (next eights u s) ss))
-      (length-run k (s .size) ∙ sym (length-map (bytesOf 176 (place eights u s) (s .size)) (λ p. getD img p 0) ∙ length-bytes 176 eights u s h))
+      ap₂ (λ (ps vs : List ℕ). scatter vals ps vs) (run-append k (s .size) (total ss)) (gather-append (bytesOf stackAt (place eights u s) (s .size)) (addresses stackAt eights (next eights u s) ss) img)
+      ∙ scatter-append (run k (s .size)) (run (k + s .size) (total ss)) vals (gather img (bytesOf stackAt (place eights u s) (s .size))) (gather img (addresses stackAt eights (next eights u s) ss))
+      (length-run k (s .size) ∙ sym (length-map (bytesOf stackAt (place eights u s) (s .size)) (λ p. getD img p 0) ∙ length-bytes stackAt eights u s h))
 
 abbrev rest : List ℕ → ℕ → List Shape
 rest d i = shapesFrom d i (argumentsIn d - i)
@@ -62,7 +62,7 @@ module _ (d vals r₀ s₀ : List ℕ) where
     pub lent : Lent d (length vals) (length r) (length s)
     pub registers : length r ≡ length r₀
     pub stack : length s ≡ length s₀
-    pub same : scatter (r ++ s) (addresses 176 eights u (rest d i)) (drop k vals) ≡ scatter (r₀ ++ s₀) (addressesOf d) vals
+    pub same : scatter (r ++ s) (addresses stackAt eights u (rest d i)) (drop k vals) ≡ scatter (r₀ ++ s₀) (addressesOf d) vals
 
   pub placing-first : (u : Used) → Lent d (length vals) (length r₀) (length s₀) → u ≡ usedFirst d → Placing r₀ s₀ u 0 0
   unfolding addressesOf
@@ -77,7 +77,7 @@ module _ (d vals r₀ s₀ : List ℕ) where
   pub placing-next : (r s : List ℕ) (u : Used) (k i : ℕ) → i < argumentsIn d → Placing r s u k i
       → (z : Step) → z ≡ stepAt d u i → (j : ℕ) → j ≡ k + z .placement .size .0
       → (r′ s′ : List ℕ) → length r′ ≡ length r → length s′ ≡ length s
-      → r′ ++ s′ ≡ scatter (r ++ s) (bytesOf 176 (placeOf (z .placement .place)) (z .placement .size .0)) (gather vals (run k (z .placement .size .0)))
+      → r′ ++ s′ ≡ scatter (r ++ s) (bytesOf stackAt (placeOf (z .placement .place)) (z .placement .size .0)) (gather vals (run k (z .placement .size .0)))
       → Placing r′ s′ (z .used) j (i + 1)
   placing-next r s u k i l h z e j q r′ s′ a b m =
       let x = shapeAt d i in
@@ -91,18 +91,18 @@ module _ (d vals r₀ s₀ : List ℕ) where
         registers = a ∙ h .registers;
         stack = b ∙ h .stack;
         same =
-            ap₂ (λ (img : List ℕ) (w : Used). scatter img (addresses 176 eights w xs) (drop j vals))
-            (m ∙ ap₂ (λ (p : Place) (n : ℕ). scatter (r ++ s) (bytesOf 176 p n) (gather vals (run k n))) (step-place d u k i l (h .turn) z e ok) size)
+            ap₂ (λ (img : List ℕ) (w : Used). scatter img (addresses stackAt eights w xs) (drop j vals))
+            (m ∙ ap₂ (λ (p : Place) (n : ℕ). scatter (r ++ s) (bytesOf stackAt p n) (gather vals (run k n))) (step-place d u k i l (h .turn) z e ok) size)
             (step-used d u k i l (h .turn) z e)
-            ∙ ap (λ (n : ℕ). scatter (scatter (r ++ s) (bytesOf 176 (place eights u x) (x .size)) (gather vals (run k (x .size)))) (addresses 176 eights (next eights u x) xs) (drop n vals)) start
+            ∙ ap (λ (n : ℕ). scatter (scatter (r ++ s) (bytesOf stackAt (place eights u x) (x .size)) (gather vals (run k (x .size)))) (addresses stackAt eights (next eights u x) xs) (drop n vals)) start
             ∙ sym (scatter-argument u x xs (r ++ s) vals k (argument-shaped d (right d ok) i l) (omega (arith, h .turn .start, h .lent .values, value-inside d ok i l)))
-            ∙ ap (λ (ss : List Shape). scatter (r ++ s) (addresses 176 eights u ss) (drop k vals)) (sym (shapes-cons d i (argumentsIn d) l))
+            ∙ ap (λ (ss : List Shape). scatter (r ++ s) (addresses stackAt eights u ss) (drop k vals)) (sym (shapes-cons d i (argumentsIn d) l))
             ∙ h .same;
       }
 
   pub placing-last : (r s : List ℕ) (u : Used) (k i : ℕ) → argumentsIn d ≤ i → Placing r s u k i → r ++ s ≡ scatter (r₀ ++ s₀) (addressesOf d) vals
   placing-last r s u k i l h =
-      ap (λ (ss : List Shape). scatter (r ++ s) (addresses 176 eights u ss) (drop k vals)) (sym (shapes-end d i (argumentsIn d) l)) ∙ h .same
+      ap (λ (ss : List Shape). scatter (r ++ s) (addresses stackAt eights u ss) (drop k vals)) (sym (shapes-end d i (argumentsIn d) l)) ∙ h .same
 
 -- ---- the loop that gathers
 
@@ -111,27 +111,27 @@ module _ (d r s v₀ : List ℕ) where
     pub turn : Turn d u k i
     pub lent : Lent d (length v) (length r) (length s)
     pub values : length v ≡ length v₀
-    pub same : scatter v (run k (total (rest d i))) (gather (r ++ s) (addresses 176 eights u (rest d i))) ≡ gatheredIn (frameOf d) (r ++ s)
+    pub same : scatter v (run k (total (rest d i))) (gather (r ++ s) (addresses stackAt eights u (rest d i))) ≡ gatheredIn (frameOf d) (r ++ s)
 
   pub gathering-first : (u : Used) → Lent d (length v₀) (length r) (length s) → u ≡ usedFirst d → Gathering v₀ u 0 0
   unfolding gatheredIn addressesOf valuesOf
   gathering-first u h e =
-      let long : length (gather (r ++ s) (addresses 176 eights (usedFirst d) (shapes d))) ≡ total (shapes d) =
-      length-map (addresses 176 eights (usedFirst d) (shapes d)) (λ p. getD (r ++ s) p 0) ∙ length-addresses 176 eights (shapes d) (usedFirst d) (all-shaped d (right d (h .accepted))) in
+      let long : length (gather (r ++ s) (addresses stackAt eights (usedFirst d) (shapes d))) ≡ total (shapes d) =
+      length-map (addresses stackAt eights (usedFirst d) (shapes d)) (λ p. getD (r ++ s) p 0) ∙ length-addresses stackAt eights (shapes d) (usedFirst d) (all-shaped d (right d (h .accepted))) in
       record {
         turn = turn-first d u e;
         lent = h;
         values = refl;
         same =
-            ap₂ (λ (w : Used) (ss : List Shape). scatter v₀ (run 0 (total ss)) (gather (r ++ s) (addresses 176 eights w ss))) e (rest-all d)
-            ∙ ap (λ (n : ℕ). scatter v₀ (run 0 n) (gather (r ++ s) (addresses 176 eights (usedFirst d) (shapes d)))) (sym long)
-            ∙ scatter-whole (gather (r ++ s) (addresses 176 eights (usedFirst d) (shapes d))) v₀ (h .values ∙ sym long);
+            ap₂ (λ (w : Used) (ss : List Shape). scatter v₀ (run 0 (total ss)) (gather (r ++ s) (addresses stackAt eights w ss))) e (rest-all d)
+            ∙ ap (λ (n : ℕ). scatter v₀ (run 0 n) (gather (r ++ s) (addresses stackAt eights (usedFirst d) (shapes d)))) (sym long)
+            ∙ scatter-whole (gather (r ++ s) (addresses stackAt eights (usedFirst d) (shapes d))) v₀ (h .values ∙ sym long);
       }
 
   pub gathering-next : (v : List ℕ) (u : Used) (k i : ℕ) → i < argumentsIn d → Gathering v u k i
       → (z : Step) → z ≡ stepAt d u i → (j : ℕ) → j ≡ k + z .placement .size .0
       → (v′ : List ℕ) → length v′ ≡ length v
-      → v′ ≡ scatter v (run k (z .placement .size .0)) (gather (r ++ s) (bytesOf 176 (placeOf (z .placement .place)) (z .placement .size .0)))
+      → v′ ≡ scatter v (run k (z .placement .size .0)) (gather (r ++ s) (bytesOf stackAt (placeOf (z .placement .place)) (z .placement .size .0)))
       → Gathering v′ (z .used) j (i + 1)
   gathering-next v u k i l h z e j q v′ a m =
       let x = shapeAt d i in
@@ -144,15 +144,15 @@ module _ (d r s v₀ : List ℕ) where
         lent = rw a (h .lent);
         values = a ∙ h .values;
         same =
-            ap₂ (λ (w : List ℕ) (y : Used). scatter w (run j (total xs)) (gather (r ++ s) (addresses 176 eights y xs)))
-            (m ∙ ap₂ (λ (p : Place) (n : ℕ). scatter v (run k n) (gather (r ++ s) (bytesOf 176 p n))) (step-place d u k i l (h .turn) z e ok) size)
+            ap₂ (λ (w : List ℕ) (y : Used). scatter w (run j (total xs)) (gather (r ++ s) (addresses stackAt eights y xs)))
+            (m ∙ ap₂ (λ (p : Place) (n : ℕ). scatter v (run k n) (gather (r ++ s) (bytesOf stackAt p n))) (step-place d u k i l (h .turn) z e ok) size)
             (step-used d u k i l (h .turn) z e)
-            ∙ ap (λ (n : ℕ). scatter (scatter v (run k (x .size)) (gather (r ++ s) (bytesOf 176 (place eights u x) (x .size)))) (run n (total xs)) (gather (r ++ s) (addresses 176 eights (next eights u x) xs))) start
+            ∙ ap (λ (n : ℕ). scatter (scatter v (run k (x .size)) (gather (r ++ s) (bytesOf stackAt (place eights u x) (x .size)))) (run n (total xs)) (gather (r ++ s) (addresses stackAt eights (next eights u x) xs))) start
             ∙ sym (gather-argument u x xs (r ++ s) v k (argument-shaped d (right d ok) i l))
-            ∙ ap (λ (ss : List Shape). scatter v (run k (total ss)) (gather (r ++ s) (addresses 176 eights u ss))) (sym (shapes-cons d i (argumentsIn d) l))
+            ∙ ap (λ (ss : List Shape). scatter v (run k (total ss)) (gather (r ++ s) (addresses stackAt eights u ss))) (sym (shapes-cons d i (argumentsIn d) l))
             ∙ h .same;
       }
 
   pub gathering-last : (v : List ℕ) (u : Used) (k i : ℕ) → argumentsIn d ≤ i → Gathering v u k i → v ≡ gatheredIn (frameOf d) (r ++ s)
   gathering-last v u k i l h =
-      ap (λ (ss : List Shape). scatter v (run k (total ss)) (gather (r ++ s) (addresses 176 eights u ss))) (sym (shapes-end d i (argumentsIn d) l)) ∙ h .same
+      ap (λ (ss : List Shape). scatter v (run k (total ss)) (gather (r ++ s) (addresses stackAt eights u ss))) (sym (shapes-end d i (argumentsIn d) l)) ∙ h .same

@@ -10,7 +10,7 @@ use Rattle.description.specs.declared.Model.the-variants.{Ilp32}
 use Rattle.description.specs.Description.{argumentsIn, modelIn, kindAt, aAt, argumentAt}
 use Rattle.form.specs.Order.{NoneHolds}
 use Rattle.places.specs.Places.{eights, place}
-use Rattle.places.specs.Images.{bytesOf}
+use Rattle.places.specs.Images.{stackAt, bytesOf}
 use Rattle.layout.specs.Arguments.{shapeAt, hidden, usedAt}
 use Rattle.moving.specs.Images.{amd64}
 use Rattle.moving.specs.Orders.{placeRefusal, gatherRefusal}
@@ -40,7 +40,7 @@ pub record PointerAt (d : List ℕ) (i : ℕ) : Type 0 where
 
 -- where byte j of the eight bytes of argument i's register or stack slot lies
 abbrev pub slotByte : List ℕ → ℕ → ℕ → ℕ
-slotByte d i j = getD (bytesOf 176 (place eights (usedAt d i) (shapeAt d i)) 8) j 0
+slotByte d i j = getD (bytesOf stackAt (place eights (usedAt d i) (shapeAt d i)) 8) j 0
 
 -- "A pointer in a register or a stack slot has its upper half zero"
 abbrev pub PointerUpper : Type 0

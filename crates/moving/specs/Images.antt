@@ -6,7 +6,7 @@ use Prim.Native.Nat.{ℕ}
 use Rattle.description.specs.Description.{argumentsIn, modelIn}
 use Rattle.form.specs.Order.{rule}
 use Rattle.types.specs.Wrong.{refusalFor}
-use Rattle.places.specs.Images.{addresses, total}
+use Rattle.places.specs.Images.{stackAt, addresses, total}
 use Rattle.places.specs.Places.{eights}
 use Rattle.layout.specs.Arguments.{shapesFrom, shapes, hidden, usedFirst, usedAt, areaOf}
 use Rattle.layout.specs.Verdict.{checkOrder}
@@ -19,7 +19,7 @@ use Rattle.moving.specs.Orders.{wrongLength}
 
 -- the address of each value byte, "argument after argument"
 unfoldable pub addressesOf : List ℕ → List ℕ
-addressesOf d = addresses 176 eights (usedFirst d) (shapes d)
+addressesOf d = addresses stackAt eights (usedFirst d) (shapes d)
 
 -- where the value of argument i begins: "packed, argument after argument, size bytes each, no gaps"
 unfoldable pub valueStart : List ℕ → ℕ → ℕ

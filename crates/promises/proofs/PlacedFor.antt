@@ -6,7 +6,7 @@ use Prim.Native.Nat.{ℕ, _+_}
 use borrow.Author.Tests.{eq-eqb}
 use lib.ListN.{length, replicate, take-append-drop}
 use Rattle.addresses.specs.Addresses.{run, scatter, All}
-use Rattle.places.specs.Images.{addresses, total}
+use Rattle.places.specs.Images.{stackAt, addresses, total}
 use Rattle.places.specs.Places.{eights}
 use Rattle.layout.specs.Arguments.{shapes, hidden, usedFirst}
 use Rattle.layout.specs.Layout.{valuesOf}
@@ -25,15 +25,15 @@ use Rattle.promises.specs.Demand3.{placedImages}
 
 -- before the first value, the images are the same
 blank-same : (b : Bool) (h n : ℕ)
-    → scatter (replicate (176 + n) 0) (cond b (run 0 8) []) (littleEndian (length (cond b (run 0 8) [])) h) ≡ scatter (replicate (176 + n) 0) (cond b (run 0 8) []) (littleEndian 8 h)
+    → scatter (replicate (stackAt + n) 0) (cond b (run 0 8) []) (littleEndian (length (cond b (run 0 8) [])) h) ≡ scatter (replicate (stackAt + n) 0) (cond b (run 0 8) []) (littleEndian 8 h)
 blank-same true h n = refl
 blank-same false h n = refl
 
 placed-is : (d : List ℕ) (h : ℕ) (values : List ℕ) → placedIn (frameOf d) h values ≡ imagesFor kcb d (littleEndian 8 h) values
 unfolding placedIn emptyIn addressesOf imagesFor blank kcb
 placed-is d h values =
-    ap (λ (img : List ℕ). scatter img (addresses 176 eights (usedFirst d) (shapes d)) values)
-    (ap (λ (n : ℕ). scatter (replicate (176 + n) 0) (cond (hidden d) (run 0 8) []) (littleEndian (length (cond (hidden d) (run 0 8) [])) h)) (sym (kcb-area d))
+    ap (λ (img : List ℕ). scatter img (addresses stackAt eights (usedFirst d) (shapes d)) values)
+    (ap (λ (n : ℕ). scatter (replicate (stackAt + n) 0) (cond (hidden d) (run 0 8) []) (littleEndian (length (cond (hidden d) (run 0 8) [])) h)) (sym (kcb-area d))
     ∙ blank-same (hidden d) h (paperArea kcb d))
 
 module _ (d : List ℕ) (h : ℕ) (values r s : List ℕ) (accepted : placeRefusal amd64 d h values (length r) (length s) ≡ 0) where

@@ -12,7 +12,7 @@ use Rattle.description.specs.Description.{argumentsIn}
 use Rattle.places.specs.declared.Used.{Used}
 use Rattle.places.specs.Shapes.{Shape, Shaped}
 use Rattle.places.specs.Places.{eights, Place, onStack, place, after, area}
-use Rattle.places.specs.Images.{bytesOf, addresses, total, valueOffset}
+use Rattle.places.specs.Images.{stackAt, bytesOf, addresses, total, valueOffset}
 use Rattle.places.specs.Statements.{OnePlaceEach}
 use Rattle.places.proofs.Apart.{all-seated, addresses-past, apart, address-at}
 use Rattle.layout.specs.Arguments.{shapeAt, shapesFrom, shapes, hidden, usedFirst, usedAt, areaOf}
@@ -41,27 +41,27 @@ module _ (d : List ℕ) (accepted : verdict d ≡ 0) where
   shaped : All Shaped (shapes d)
   shaped = all-shaped d (accepted-uses d accepted)
 
-  laid : OnePlaceEach 176 eights (usedFirst d) (shapes d)
-  laid = apart 176 eights (shapes d) (usedFirst d) shaped (all-seated (shapes d))
+  laid : OnePlaceEach stackAt eights (usedFirst d) (shapes d)
+  laid = apart stackAt eights (shapes d) (usedFirst d) shaped (all-seated (shapes d))
 
   pub each : length (addressesOf d) ≡ valuesOf d
   unfolding addressesOf valuesOf
   each = laid .each
 
-  pub inside : (k : ℕ) → k < valuesOf d → lies d k < 176 + areaOf d
+  pub inside : (k : ℕ) → k < valuesOf d → lies d k < stackAt + areaOf d
   unfolding addressesOf valuesOf areaOf
-  inside k l = all-at (λ n. n < 176 + area eights (usedFirst d) (shapes d)) (addresses 176 eights (usedFirst d) (shapes d)) (laid .inside) k (subst (λ n. k < n) (sym (laid .each)) l)
+  inside k l = all-at (λ n. n < stackAt + area eights (usedFirst d) (shapes d)) (addresses stackAt eights (usedFirst d) (shapes d)) (laid .inside) k (subst (λ n. k < n) (sym (laid .each)) l)
 
   pub once : (k l : ℕ) → k < valuesOf d → l < valuesOf d → lies d k ≡ lies d l → k ≡ l
   unfolding addressesOf valuesOf
   once k l p q e =
-      nodup-inj (addresses 176 eights (usedFirst d) (shapes d)) (laid .once) k l (subst (λ n. k < n) (sym (laid .each)) p) (subst (λ n. l < n) (sym (laid .each)) q) e
+      nodup-inj (addresses stackAt eights (usedFirst d) (shapes d)) (laid .once) k l (subst (λ n. k < n) (sym (laid .each)) p) (subst (λ n. l < n) (sym (laid .each)) q) e
 
   pub past : hidden d ≡ true → (k : ℕ) → k < valuesOf d → 8 ≤ lies d k
   unfolding addressesOf valuesOf
   past h k l =
       let one : _≡_ {A = ℕ} (cond (hidden d) 1 0) 1 = rw h refl in
-      all-at (λ n. 8 ≤ n) (addresses 176 eights (usedFirst d) (shapes d)) (addresses-past eights (shapes d) (usedFirst d) shaped (omega (arith, one))) k (subst (λ n. k < n) (sym (laid .each)) l)
+      all-at (λ n. 8 ≤ n) (addresses stackAt eights (usedFirst d) (shapes d)) (addresses-past eights (shapes d) (usedFirst d) shaped (omega (arith, one))) k (subst (λ n. k < n) (sym (laid .each)) l)
 
   module _ (i : ℕ) (there : i < argumentsIn d) where
     used-here : after eights (usedFirst d) (take i (shapes d)) ≡ usedAt d i
@@ -79,20 +79,20 @@ module _ (d : List ℕ) (accepted : verdict d ≡ 0) where
     within : i < length (shapes d)
     within = let l = length-shapes d (argumentsIn d) 0 in omega (arith, l)
 
-    pub recorded : (j : ℕ) → j < placementAt d i .size .0 → lies d (valueStart d i + j) ≡ getD (bytesOf 176 (placeAt d i) (placementAt d i .size .0)) j 0
+    pub recorded : (j : ℕ) → j < placementAt d i .size .0 → lies d (valueStart d i + j) ≡ getD (bytesOf stackAt (placeAt d i) (placementAt d i .size .0)) j 0
     unfolding addressesOf placementAt
     recorded j l =
-        ap (λ n. getD (addresses 176 eights (usedFirst d) (shapes d)) (n + j) 0) (sym start-here)
-        ∙ address-at 176 eights (shapes d) (usedFirst d) (record { kinds = []; size = 0; align = 1 }) shaped i j within (subst (λ (s : Shape). j < s .size) (sym shape-here) l)
-        ∙ ap₂ (λ (u : Used) (s : Shape). getD (bytesOf 176 (place eights u s) (s .size)) j 0) used-here shape-here
-        ∙ ap (λ (p : Place). getD (bytesOf 176 p (shapeAt d i .size)) j 0) (sym (place-said d accepted i there))
+        ap (λ n. getD (addresses stackAt eights (usedFirst d) (shapes d)) (n + j) 0) (sym start-here)
+        ∙ address-at stackAt eights (shapes d) (usedFirst d) (record { kinds = []; size = 0; align = 1 }) shaped i j within (subst (λ (s : Shape). j < s .size) (sym shape-here) l)
+        ∙ ap₂ (λ (u : Used) (s : Shape). getD (bytesOf stackAt (place eights u s) (s .size)) j 0) used-here shape-here
+        ∙ ap (λ (p : Place). getD (bytesOf stackAt p (shapeAt d i .size)) j 0) (sym (place-said d accepted i there))
 
     first-run : (p n : ℕ) → 1 ≤ n → getD (run p n) 0 0 ≡ p
     first-run p zero h = absurd (omega arith)
     first-run p (suc n) h = refl
 
-    pub stack-there : (o : ℕ) → placeAt d i ≡ onStack o → lies d (valueStart d i) ≡ 176 + o
+    pub stack-there : (o : ℕ) → placeAt d i ≡ onStack o → lies d (valueStart d i) ≡ stackAt + o
     unfolding placementAt
     stack-there o e =
         let some : 1 ≤ shapeAt d i .size = value-some d accepted i there in
-        ap (lies d) (omega arith) ∙ recorded 0 (omega (arith, some)) ∙ ap (λ (p : Place). getD (bytesOf 176 p (shapeAt d i .size)) 0 0) e ∙ first-run (176 + o) (shapeAt d i .size) some
+        ap (lies d) (omega arith) ∙ recorded 0 (omega (arith, some)) ∙ ap (λ (p : Place). getD (bytesOf stackAt p (shapeAt d i .size)) 0 0) e ∙ first-run (stackAt + o) (shapeAt d i .size) some

@@ -14,7 +14,7 @@ use lib.ListN.{length, getD, take, replicate}
 use Rattle.addresses.specs.Addresses.{All}
 use Rattle.description.specs.Description.{IsBytes, argumentsIn}
 use Rattle.places.specs.Places.{onStack}
-use Rattle.places.specs.Images.{bytesOf}
+use Rattle.places.specs.Images.{stackAt, bytesOf}
 use Rattle.layout.specs.Arguments.{hidden, areaOf}
 use Rattle.layout.specs.Verdict.{verdict}
 use Rattle.layout.specs.Layout.{valuesOf}
@@ -44,9 +44,9 @@ pub record C1-C2-Places : Type 0 where
   pub each : (d : List ℕ) → verdict d ≡ 0 → length (addressesOf d) ≡ valuesOf d
   -- that of byte j of argument i is in the place that its record says
   pub recorded : (d : List ℕ) (i j : ℕ) → verdict d ≡ 0 → i < argumentsIn d → j < placementAt d i .size .0
-      → lies d (valueStart d i + j) ≡ getD (bytesOf 176 (placeAt d i) (placementAt d i .size .0)) j 0
+      → lies d (valueStart d i + j) ≡ getD (bytesOf stackAt (placeAt d i) (placementAt d i .size .0)) j 0
   -- within the images
-  pub inside : (d : List ℕ) (k : ℕ) → verdict d ≡ 0 → k < valuesOf d → lies d k < 176 + areaOf d
+  pub inside : (d : List ℕ) (k : ℕ) → verdict d ≡ 0 → k < valuesOf d → lies d k < stackAt + areaOf d
   -- "no two share one"
   pub once : (d : List ℕ) (k l : ℕ) → verdict d ≡ 0 → k < valuesOf d → l < valuesOf d → lies d k ≡ lies d l → k ≡ l
   -- and none is in rdi where the hidden address is
@@ -58,7 +58,7 @@ pub record C3-Alignment : Type 0 where
   pub aligned : (d : List ℕ) (i o : ℕ) → verdict d ≡ 0 → i < argumentsIn d → placeAt d i ≡ onStack o
       → (o % placementAt d i .align .0 ≡ 0) × (o % 8 ≡ 0)
   -- the first byte of the value lies there in the stack image
-  pub there : (d : List ℕ) (i o : ℕ) → verdict d ≡ 0 → i < argumentsIn d → placeAt d i ≡ onStack o → lies d (valueStart d i) ≡ 176 + o
+  pub there : (d : List ℕ) (i o : ℕ) → verdict d ≡ 0 → i < argumentsIn d → placeAt d i ≡ onStack o → lies d (valueStart d i) ≡ stackAt + o
 
 -- ---- C4: "For one description and one hidden address, different lists never give the same register and stack images": `NoSharedImage`
 
