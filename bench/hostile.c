@@ -244,6 +244,12 @@ static void lay_out(int which)
     cb_lay_out(cases[which].bytes, cases[which].length, &cases[which].layout, list, CB_MAX_ARGUMENTS);
 }
 
+static void need(int which)
+{
+    cb_stack_need found;
+    cb_needs_stack(cases[which].bytes, cases[which].length, &found);
+}
+
 static void place(int which)
 {
     hostile *h = &cases[which];
@@ -281,6 +287,7 @@ static void count_case(int which)
     cb_tidy_length(h->bytes, h->length, &h->tidied);
     count("cb_check", which, 1, check);
     count("cb_member_offsets", which, 1, offsets);
+    count("cb_needs_stack", which, 1, need);
     count("cb_lay_out", which, 1, lay_out);
     count("cb_place_values", which, 1, place);
     count("cb_step", which, 1, step);

@@ -244,6 +244,13 @@ typedef struct cb_layout {
     uint8_t reserved[5];
 } cb_layout;
 
+/* What cb_needs_stack gives. */
+typedef struct cb_stack_need {
+    size_t looked;      /* arguments looked at: the position of the first on the stack plus one, or all where there is none */
+    uint8_t needed;     /* 1 where an argument goes to the stack, else 0 */
+    uint8_t reserved[7];
+} cb_stack_need;
+
 /* ---- tidying */
 
 /* What cb_tidy_length gives: the bytes of the tidy form, at most CB_MAX_DESCRIPTION. */
@@ -310,7 +317,11 @@ cb_refusal cb_member_offsets(const uint8_t *description, size_t description_leng
 /* The layout of the call. Refused 1 to 10. */
 cb_refusal cb_layout_of(const uint8_t *description, size_t description_length, cb_layout *layout);
 
-/* The same, and one placement for each argument, in order, into the first entries of a list of so many records; the entries behind
+/* Whether an argument goes to the stack, told at the first that does: the arguments behind it are not placed. It is 1 exactly where the
+   area of cb_layout_of is not 0, and where that call refuses only a too large area. Refused 1 to 9; 10 is not given here. */
+cb_refusal cb_needs_stack(const uint8_t *description, size_t description_length, cb_stack_need *need);
+
+/* As cb_layout_of, and one placement for each argument, in order, into the first entries of a list of so many records; the entries behind
    them stay. Refused 1 to 10, then 11 for a list that is shorter than the arguments. */
 cb_refusal cb_lay_out(const uint8_t *description, size_t description_length, cb_layout *layout, cb_placement *list, size_t list_length);
 

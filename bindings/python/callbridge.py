@@ -23,7 +23,7 @@ import os
 import threading
 from typing import List, NamedTuple, Optional, Tuple, Union
 
-__version__ = '3.1.0'
+__version__ = '3.2.0'
 
 INTERFACE = 3  # CB_VERSION of the header that this module is written for
 MAX_ARGUMENTS = 64
@@ -125,6 +125,7 @@ cb_layout = _struct(
     ('hidden', _byte),
     ('reserved', _byte * 5),
 )
+cb_stack_need = _struct('cb_stack_need', ('looked', _size), ('needed', _byte), ('reserved', _byte * 7))
 cb_tidied = _struct('cb_tidied', ('length', _size))
 cb_placed = _struct('cb_placed', ('vector_registers', _size))
 cb_gathered = _struct('cb_gathered', ('hidden', ctypes.c_uint64))
@@ -149,6 +150,7 @@ _FUNCTIONS = {
     'cb_member_run': (cb_refusal, _in, _size, _byte, _pointer(cb_part)),
     'cb_member_offsets': (cb_refusal, _in, _size, _byte, _pointer(_size), _size),
     'cb_layout_of': (cb_refusal, _in, _size, _pointer(cb_layout)),
+    'cb_needs_stack': (cb_refusal, _in, _size, _pointer(cb_stack_need)),
     'cb_lay_out': (cb_refusal, _in, _size, _pointer(cb_layout), _pointer(cb_placement), _size),
     'cb_write_listing': (_size, _in, _size, _out),
     'cb_tidy_length': (cb_refusal, _in, _size, _pointer(cb_tidied)),
@@ -368,6 +370,13 @@ class Layout(NamedTuple):
     hidden: bool
 
 
+class StackNeed(NamedTuple):
+    """Whether an argument goes to the stack, and how many arguments were looked at: up to the first that does, or all of them."""
+
+    needed: bool
+    looked: int
+
+
 def _registers(first: int, second: int) -> Tuple[Register, ...]:
     return tuple(Register(number) for number in (first, second) if number != _NONE)
 
@@ -387,6 +396,13 @@ def layout_of(description: Bytes) -> Layout:
     d, out = _bytes(description), cb_layout()
     _accepted(_library.cb_layout_of(d, len(d), out))
     return _layout(out)
+
+
+def needs_stack(description: Bytes) -> StackNeed:
+    """Whether an argument goes to the stack, told at the first that does: as `layout_of(description).area != 0`. Refused 1 to 9, and never 10."""
+    d, out = _bytes(description), cb_stack_need()
+    _accepted(_library.cb_needs_stack(d, len(d), out))
+    return StackNeed(out.needed != 0, out.looked)
 
 
 def lay_out(description: Bytes) -> Tuple[Layout, List[Placement]]:

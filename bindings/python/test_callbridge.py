@@ -217,6 +217,7 @@ class Types(Case):
             self.refused(number, callbridge.member_run, d, 1, type_number=wrong)
             self.refused(number, callbridge.member_offsets, d, 1, type_number=wrong)
             self.refused(number, callbridge.layout_of, d, type_number=wrong)
+            self.refused(number, callbridge.needs_stack, d, type_number=wrong)
             self.refused(number, callbridge.lay_out, d, type_number=wrong)
             self.refused(number, callbridge.tidy_length, d, type_number=wrong)
             self.refused(number, callbridge.tidy, d, type_number=wrong)
@@ -272,6 +273,18 @@ class Layouts(Case):
         layout, placements = callbridge.lay_out(described([INT], [0] * 64))
         self.assertEqual((layout.arguments, len(placements), layout.area), (64, 64, 464))
         self.assertEqual(str(placements[63].place), 'stack 456')
+
+    def test_the_stack_is_needed(self):
+        for arguments, need in (([], (False, 0)), ([1] * 6 + [2], (False, 7)), ([1] * 7 + [2], (True, 7)), ([0] + [1] * 63, (True, 1)), ([2, 0, 0], (True, 2))):
+            d = described([LONG_DOUBLE, INT, DOUBLE], arguments)
+            self.assertEqual(callbridge.needs_stack(d), need)
+            self.assertEqual(callbridge.layout_of(d).area != 0, need[0])
+        self.assertEqual(callbridge.needs_stack(MIXED), (True, 3))
+
+    def test_a_too_large_area_needs_the_stack(self):
+        d = described([INT, bytes([1, 0, 0, 4]), bytes([2, 0, 1, 0])], [0] + [2] * 5, members=bytes([1]))
+        self.refused(10, callbridge.layout_of, d)
+        self.assertEqual(callbridge.needs_stack(d), (True, 2))
 
 
 class Tidying(Case):

@@ -52,7 +52,8 @@ enum command {
     TAKE_RETURNED = 44,  /* part image, part value */
     MEMBER_OFFSETS = 45, /* u8 type, u16 entries of the list */
     TIDY_LENGTH = 46,
-    TIDY = 47            /* u16 bytes of the out buffer */
+    TIDY = 47,           /* u16 bytes of the out buffer */
+    NEEDS_STACK = 48
 };
 
 /* What is lent. Its number is in its canaries. */
@@ -366,6 +367,16 @@ static void take_returned(void)
     answer_gathered(taken);
 }
 
+static void needs_stack(void)
+{
+    cb_stack_need *need = lend_filled(RECORD, sizeof *need);
+    told(cb_needs_stack(BUFFER(DESCRIPTION), need));
+    field(need->looked);
+    field(need->needed);
+    RESERVED(need);
+    answer_canaries(RECORD);
+}
+
 static void tidy_length(void)
 {
     cb_tidied *tidied = lend_filled(RECORD, sizeof *tidied);
@@ -400,6 +411,7 @@ static void play_description(uint8_t command)
     case TAKE_RETURNED: take_returned(); break;
     case TIDY_LENGTH: tidy_length(); break;
     case TIDY: tidy(); break;
+    case NEEDS_STACK: needs_stack(); break;
     default: stop("no such command");
     }
     answer_buffer(DESCRIPTION);

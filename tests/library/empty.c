@@ -19,6 +19,7 @@ typedef struct desk {
     cb_classes classes;
     cb_part part;
     size_t offsets[16];
+    cb_stack_need need;
     cb_tidied tidied;
     cb_placed placed;
     cb_gathered gathered;
@@ -93,6 +94,11 @@ static cb_refusal member_offsets(desk *d, unsigned empty)
 static cb_refusal layout_of(desk *d, unsigned empty)
 {
     return cb_layout_of(DESCRIPTION, &d->layout);
+}
+
+static cb_refusal needs_stack(desk *d, unsigned empty)
+{
+    return cb_needs_stack(DESCRIPTION, &d->need);
 }
 
 static cb_refusal lay_out(desk *d, unsigned empty)
@@ -186,6 +192,7 @@ static const struct call {
     {"cb_member_run", 1, member_run},
     {"cb_member_offsets", 2, member_offsets},
     {"cb_layout_of", 1, layout_of},
+    {"cb_needs_stack", 1, needs_stack},
     {"cb_lay_out", 2, lay_out},
     {"cb_write_listing", 1, write_listing},
     {"cb_tidy_length", 1, tidy_length},

@@ -88,6 +88,8 @@ static void sizes(void)
                FIELD(cb_layout, named_general_registers) + FIELD(cb_layout, named_vector_registers) +
                FIELD(cb_layout, named_stack_end) + FIELD(cb_layout, arguments) + FIELD(cb_layout, return_first) +
                FIELD(cb_layout, return_second) + FIELD(cb_layout, hidden) + FIELD(cb_layout, reserved));
+    expect("sizeof(cb_stack_need)", sizeof(cb_stack_need),
+           FIELD(cb_stack_need, looked) + FIELD(cb_stack_need, needed) + FIELD(cb_stack_need, reserved));
     expect("sizeof(cb_tidied)", sizeof(cb_tidied), FIELD(cb_tidied, length));
     expect("sizeof(cb_placed)", sizeof(cb_placed), FIELD(cb_placed, vector_registers));
     expect("sizeof(cb_gathered)", sizeof(cb_gathered), FIELD(cb_gathered, hidden));
@@ -214,6 +216,26 @@ static void lists(void)
            offsetof(cb_placement, first), offsetof(cb_placement, second), offsetof(cb_placement, reserved));
 }
 
+static void needed(const uint8_t *description, size_t length, size_t looked, size_t is_needed)
+{
+    LENT(cb_stack_need) need;
+    FRESH(need);
+    answered("cb_needs_stack", cb_needs_stack(description, length, &need.value));
+    GUARDED(need);
+    expect("need.looked", need.value.looked, looked);
+    expect("need.needed", need.value.needed, is_needed);
+    RESERVED(need.value);
+}
+
+static void needs(void)
+{
+    needed(mixed, sizeof mixed, 3, 1);
+    needed(wide, sizeof wide, 1, 1);
+    needed(memory, sizeof memory, 1, 0);
+    printf("cb_stack_need %zu: looked %zu needed %zu reserved %zu\n", sizeof(cb_stack_need), offsetof(cb_stack_need, looked),
+           offsetof(cb_stack_need, needed), offsetof(cb_stack_need, reserved));
+}
+
 static void tidy(void)
 {
     LENT(cb_tidied) tidied;
@@ -310,6 +332,7 @@ static void refused_description(void)
     LENT(cb_classes) classes;
     LENT(cb_part) part;
     LENT(cb_layout) whole;
+    LENT(cb_stack_need) need;
     LENT(cb_tidied) tidied;
     LENT(cb_placed) placed;
     LENT(cb_gathered) gathered;
@@ -320,6 +343,7 @@ static void refused_description(void)
     FRESH(classes);
     FRESH(part);
     FRESH(whole);
+    FRESH(need);
     FRESH(tidied);
     FRESH(placed);
     FRESH(gathered);
@@ -347,6 +371,8 @@ static void refused_description(void)
     KEPT("cb_member_offsets, of an int", offsets);
     told("cb_layout_of", cb_layout_of(mixed, sizeof mixed - 1, &whole.value), CB_WRONG_LENGTH, 0);
     KEPT("cb_layout_of", whole);
+    told("cb_needs_stack", cb_needs_stack(mixed, sizeof mixed - 1, &need.value), CB_WRONG_LENGTH, 0);
+    KEPT("cb_needs_stack", need);
     told("cb_lay_out", cb_lay_out(mixed, sizeof mixed, &whole.value, records, 4), CB_WRONG_BUFFER, 0);
     KEPT("cb_lay_out", whole);
     KEPT("cb_lay_out", records);
@@ -509,6 +535,7 @@ static void told_of_description(const uint8_t *bad, uint8_t number, uint8_t type
     size_t offsets[2];
     cb_layout whole;
     cb_placement list[2];
+    cb_stack_need need;
     cb_tidied tidied;
     cb_placed placed;
     cb_gathered gathered;
@@ -519,6 +546,7 @@ static void told_of_description(const uint8_t *bad, uint8_t number, uint8_t type
     told("cb_member_run", cb_member_run(bad, INTS, 0, &run), number, type);
     told("cb_member_offsets", cb_member_offsets(bad, INTS, 0, offsets, 2), number, type);
     told("cb_layout_of", cb_layout_of(bad, INTS, &whole), number, type);
+    told("cb_needs_stack", cb_needs_stack(bad, INTS, &need), number, type);
     told("cb_lay_out", cb_lay_out(bad, INTS, &whole, list, 2), number, type);
     told("cb_tidy_length", cb_tidy_length(bad, INTS, &tidied), number, type);
     told("cb_tidy", cb_tidy(bad, INTS, bytes, 8), number, type);
@@ -594,6 +622,7 @@ int main(void)
     questions();
     layouts();
     lists();
+    needs();
     tidy();
     moves();
     walks();

@@ -176,7 +176,25 @@ pub fn layout(description: &[u8]) -> Result<Layout, Refusal> {
     Ok(layout_from(&layout))
 }
 
-/// The same, and one placement for each argument, in order.
+/// Whether an argument goes to the stack, and how many arguments were looked at to know it: up to the
+/// first that does, or all of them.
+#[derive(Clone, Copy, Debug, PartialEq, Eq)]
+pub struct StackNeed {
+    pub needed: bool,
+    pub looked: usize,
+}
+
+/// Whether the call needs the stack, told at the first argument that goes there: as `area != 0` of its
+/// layout. Refused 1 to 9; a call whose area is too large needs the stack.
+pub fn needs_stack(description: &[u8]) -> Result<StackNeed, Refusal> {
+    let mut need = raw::StackNeed::default();
+    // Safety: as in `layout`.
+    let answer = unsafe { raw::cb_needs_stack(description.as_ptr(), description.len(), &mut need) };
+    Refusal::of(answer)?;
+    Ok(StackNeed { needed: need.needed != 0, looked: need.looked })
+}
+
+/// As `layout`, and one placement for each argument, in order.
 pub fn lay_out(description: &[u8]) -> Result<(Layout, Vec<Placement>), Refusal> {
     let mut layout = NO_LAYOUT;
     let mut list = [NO_PLACEMENT; 64];

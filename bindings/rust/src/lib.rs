@@ -65,7 +65,9 @@ mod station;
 mod types;
 
 pub use builder::{Basic, Builder, VOID};
-pub use layout::{lay_out, layout, Layout, Place, Placement, Register, Returned};
+pub use layout::{
+    lay_out, layout, needs_stack, Layout, Place, Placement, Register, Returned, StackNeed,
+};
 pub use moving::{
     gather, place, put_returned, take_returned, Images, REGISTER_IMAGE, RETURN_IMAGE,
 };

@@ -125,6 +125,14 @@ pub struct Layout {
 
 #[repr(C)]
 #[derive(Clone, Copy, Debug, Default, PartialEq, Eq)]
+pub struct StackNeed {
+    pub looked: usize,
+    pub needed: u8,
+    pub reserved: [u8; 7],
+}
+
+#[repr(C)]
+#[derive(Clone, Copy, Debug, Default, PartialEq, Eq)]
 pub struct Tidied {
     pub length: usize,
 }
@@ -177,6 +185,7 @@ extern "C" {
         room: usize,
     ) -> Refusal;
     pub fn cb_layout_of(d: *const u8, n: usize, layout: *mut Layout) -> Refusal;
+    pub fn cb_needs_stack(d: *const u8, n: usize, need: *mut StackNeed) -> Refusal;
     pub fn cb_lay_out(
         d: *const u8,
         n: usize,

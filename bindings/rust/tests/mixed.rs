@@ -1,6 +1,6 @@
 //! The example of the README, examples/mixed.kcb, through every call.
 
-use callbridge::{Basic, Builder, Class, Images, Place, Register, Returned, Station};
+use callbridge::{Basic, Builder, Class, Images, Place, Register, Returned, StackNeed, Station};
 
 const MIXED: &[u8] = include_bytes!("../../../examples/mixed.kcb");
 
@@ -173,6 +173,31 @@ fn modules_change_in_one_call() {
     assert!(!station.is_attached() && station.description().is_empty());
     assert_eq!(station.step(&mut walk, &images, 5, &mut [0; 16]).map_err(number), Err(13));
     assert_eq!(station.detach().map_err(number), Err(13));
+}
+
+/// The third argument of the lister's example goes to the stack, and the seventh of seven longs. Five
+/// structs of 4,096 bytes have too large an area, which needs the stack all the same.
+#[test]
+fn the_stack_is_needed_from_the_first_argument_there() {
+    let need = |needed, looked| Ok(StackNeed { needed, looked });
+    assert_eq!(callbridge::needs_stack(MIXED), need(true, 3));
+    let mut builder = Builder::new();
+    let long = builder.basic(Basic::Long);
+    for _ in 0..6 {
+        builder.argument(long);
+    }
+    assert_eq!(callbridge::needs_stack(&builder.finish().unwrap()), need(false, 6));
+    builder.argument(long).argument(long);
+    assert_eq!(callbridge::needs_stack(&builder.finish().unwrap()), need(true, 7));
+    let wide = [
+        &b"KCB\x01\x00\x03\x00\x05\x05\xff\x01"[..],
+        &[0, 4, 0, 0, 1, 0, 0, 2, 2, 0, 1, 0],
+        &[1, 2, 2, 2, 2, 2],
+    ]
+    .concat();
+    assert_eq!(callbridge::layout(&wide).map_err(number).err(), Some(10));
+    assert_eq!(callbridge::needs_stack(&wide), need(true, 1));
+    assert_eq!(callbridge::needs_stack(&wide[1..]).map_err(number), Err(2));
 }
 
 /// A dead type and a struct that is described twice are left out; a struct of 255 chars and one of a

@@ -35,6 +35,7 @@ fn structs_are_those_of_the_library() {
             arguments return_first return_second hidden reserved
         }
         "cb_placement" Placement { size align offset type_number first second reserved }
+        "cb_stack_need" StackNeed { looked needed reserved }
         "cb_tidied" Tidied { length }
         "cb_placed" Placed { vector_registers }
         "cb_gathered" Gathered { hidden }

@@ -1,6 +1,7 @@
 pub mod Outcome
 pub mod TypeCalls
 pub mod LayoutCalls
+pub mod StackCalls
 pub mod TidyingCalls
 pub mod MovingCalls
 pub mod ReturningCalls

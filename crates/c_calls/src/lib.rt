@@ -8,6 +8,7 @@ pub use moving_calls::gather_values;
 pub use moving_calls::place_values;
 pub use returning_calls::put_returned;
 pub use returning_calls::take_returned;
+pub use stack_calls::needs_stack;
 pub use station_calls::attach;
 pub use station_calls::change;
 pub use station_calls::detach;
@@ -21,6 +22,7 @@ pub use walk_calls::step;
 
 mod type_calls; // cb_type_extent, cb_type_classes, cb_member_run
 mod layout_calls; // cb_layout_of, cb_lay_out
+mod stack_calls; // cb_needs_stack
 mod tidying_calls; // cb_tidy_length
 mod moving_calls; // cb_place_values, cb_gather_values
 mod returning_calls; // cb_put_returned, cb_take_returned
@@ -33,6 +35,7 @@ use flat::Layout;
 use flat::Part;
 use flat::Placed;
 use flat::Placement;
+use flat::StackNeed;
 use flat::Station;
 use flat::Tidied;
 use flat::Walk;
@@ -59,6 +62,11 @@ pub struct GivenPart {
 
 pub struct GivenLayout {
     pub layout: Layout,
+    pub refusal: Refusal,
+}
+
+pub struct GivenNeed {
+    pub need: StackNeed,
     pub refusal: Refusal,
 }
 

@@ -18,6 +18,8 @@ use Rattle.questions.specs.Runs.{classesAnswer, runAnswer}
 use Rattle.layout.specs.Verdict.{verdict}
 use Rattle.layout.specs.Layout.{layoutAnswer}
 use Rattle.layout.specs.Lists.{listRefusal, listAnswer}
+use Rattle.layout.specs.StackNeeds.{stackAnswer}
+use Rattle.uses.specs.Uses.{usesRefusal}
 use Rattle.moving.specs.Images.{amd64}
 use Rattle.tidying.specs.Answers.{lengthRefusal, lengthAnswer}
 use Rattle.moving.specs.Orders.{placeRefusal, gatherRefusal}
@@ -43,13 +45,14 @@ use Rattle.flat.specs.Stations.{stationMeant, flatStation, walkMeant, flatWalk}
 use Rattle.c_calls.specs.Outcome.{Outcome, gives, refuses, refusalIn, leftIn}
 use Rattle.c_calls.specs.TypeCalls.{extentGiven, classesGiven, runPart, runRefusal}
 use Rattle.c_calls.specs.LayoutCalls.{layoutGiven, listGiven}
+use Rattle.c_calls.specs.StackCalls.{needGiven}
 use Rattle.c_calls.specs.TidyingCalls.{tidiedGiven}
 use Rattle.c_calls.specs.MovingCalls.{placedGiven, gatheredGiven}
 use Rattle.c_calls.specs.ReturningCalls.{putGiven, takenGiven}
 use Rattle.c_calls.specs.StationCalls.{attachGiven, detachGiven, freedStation, changeGiven}
 use Rattle.c_calls.proofs.Given.{freed-means}
 use Rattle.c_calls.specs.WalkCalls.{openGiven, stepGiven, shownPart, shownRefusal}
-use Rattle.callbridge.specs.Interface.{Tells, TellsPart, ExtentTold, ClassesTold, runOf, RunTold, LayoutTold, ListTold, PlacedTold, GatheredTold, PutTold, TakenTold, AttachTold, DetachTold, ChangeTold, OpenTold, StepTold, ShownTold, TidiedTold}
+use Rattle.callbridge.specs.Interface.{Tells, TellsPart, ExtentTold, ClassesTold, runOf, RunTold, LayoutTold, ListTold, PlacedTold, GatheredTold, PutTold, TakenTold, AttachTold, DetachTold, ChangeTold, OpenTold, StepTold, ShownTold, NeedTold, TidiedTold}
 
 -- an outcome that is told by a number
 abbrev by-number : {A : Type 0} → List ℕ → ℕ → A → Outcome A
@@ -119,6 +122,10 @@ layout-told d = told _ d (verdict d) _ (through (layoutGiven (argumentsIn d)) (e
 pub list-told : ListTold
 unfolding listGiven listAnswer
 list-told d room = told _ d (listRefusal d room) _ (through (layoutGiven (argumentsIn d)) (eqb (listRefusal d room) 0) _ _)
+
+pub need-told : NeedTold
+unfolding stackAnswer
+need-told d = told _ d (usesRefusal d) _ (through needGiven (eqb (usesRefusal d) 0) _ _)
 
 pub tidied-told : TidiedTold
 unfolding lengthAnswer

@@ -11,6 +11,7 @@ use Rattle.form.specs.declared.Refusal.{Refusal}
 use Rattle.form.specs.Reading.{refusalOf}
 use Rattle.types.specs.Wrong.{refusalFor}
 use Rattle.types.specs.Decode.{tyAt}
+use Rattle.uses.specs.Uses.{usesRefusal}
 use Rattle.classes.specs.declared.Class.the-variants.{NoClass}
 use Rattle.classes.specs.Classes.{codeOf}
 use Rattle.classify.specs.Classify.{classesOf}
@@ -20,6 +21,7 @@ use Rattle.layout.specs.Arguments.{usedAt, returnPlace}
 use Rattle.layout.specs.Verdict.{verdict}
 use Rattle.layout.specs.Layout.{layoutOf as wholeOf, layoutAnswer}
 use Rattle.layout.specs.Placements.{placementAt}
+use Rattle.layout.specs.StackNeeds.{stackNeed, stackAnswer}
 use Rattle.layout.specs.Lists.{listRefusal, listCount, filled}
 use Rattle.moving.specs.Images.{frameOf, amd64}
 use Rattle.moving.specs.Frames.{ownAddress}
@@ -46,9 +48,11 @@ use Rattle.flat.specs.Records.{layoutOf}
 use Rattle.flat.specs.Parts.{nowhere, ofDescription}
 use Rattle.flat.specs.Stations.{stationMeant, flatStation, walkMeant, flatWalk}
 use Rattle.flat.specs.Meanings.{placementMeant, layoutMeant}
+use Rattle.flat.specs.StackNeeds.{flatNeed}
 use Rattle.c_calls.specs.Outcome.{Outcome, refusalIn, leftIn}
 use Rattle.c_calls.specs.TypeCalls.{extentGiven, classesGiven, runPart, runRefusal}
 use Rattle.c_calls.specs.LayoutCalls.{layoutGiven, flatAt, listGiven}
+use Rattle.c_calls.specs.StackCalls.{needGiven}
 use Rattle.c_calls.specs.TidyingCalls.{tidiedGiven}
 use Rattle.c_calls.specs.MovingCalls.{placedGiven, gatheredGiven}
 use Rattle.c_calls.specs.ReturningCalls.{putGiven, takenGiven}
@@ -87,6 +91,10 @@ LayoutTold = (d : List ℕ) → Tells (layoutGiven (argumentsIn d) (layoutAnswer
 
 abbrev pub ListTold : Type 0
 ListTold = (d : List ℕ) (room : ℕ) → Tells (listGiven d room) d (listRefusal d room) (layoutOf (wholeOf d) (argumentsIn d))
+
+-- cb_needs_stack: 1 to 9, and no more
+abbrev pub NeedTold : Type 0
+NeedTold = (d : List ℕ) → Tells (needGiven (stackAnswer d)) d (usesRefusal d) (flatNeed (stackNeed d))
 
 -- cb_tidy_length; cb_tidy has no record, and its contract names the number
 abbrev pub TidiedTold : Type 0

@@ -6,6 +6,7 @@ use flat::Layout;
 use flat::Part;
 use flat::Placed;
 use flat::Placement;
+use flat::StackNeed;
 use flat::Station;
 use flat::Tidied;
 use flat::Walk;
@@ -23,6 +24,7 @@ ghost use Rattle.questions.specs.Offsets.{offsetsRefusal, offsetsAfter};
 ghost use Rattle.layout.specs.Layout.{layoutAnswer};
 ghost use Rattle.layout.specs.Lists.{listCount, filled};
 ghost use Rattle.layout.specs.Verdict.{verdict};
+ghost use Rattle.layout.specs.StackNeeds.{stackAnswer};
 ghost use Rattle.moving.specs.Images.{amd64};
 ghost use Rattle.tidying.specs.Answers.{tidyRefusal, lengthAnswer, tidyAfter};
 ghost use Rattle.moving.specs.Answers.{placeAnswer, registersAfter, stackAfter, gatherAnswer, valuesAfter};
@@ -37,6 +39,7 @@ ghost use Rattle.flat.specs.Stations.{stationMeant, flatStation, walkMeant};
 ghost use Rattle.c_calls.specs.Outcome.{refusalIn, leftIn};
 ghost use Rattle.c_calls.specs.TypeCalls.{extentGiven, classesGiven, runPart, runRefusal};
 ghost use Rattle.c_calls.specs.LayoutCalls.{layoutGiven, listGiven, flatAt};
+ghost use Rattle.c_calls.specs.StackCalls.{needGiven};
 ghost use Rattle.c_calls.specs.TidyingCalls.{tidiedGiven};
 ghost use Rattle.c_calls.specs.MovingCalls.{placedGiven, gatheredGiven};
 ghost use Rattle.c_calls.specs.ReturningCalls.{putGiven, takenGiven};
@@ -130,6 +133,17 @@ pub extern "C" fn cb_lay_out(d: &[u8], layout: &mut Layout, list: &mut [Placemen
         i += 1;
     }
     head.refusal
+}
+
+// Whether an argument goes to the stack, told at the first that does.
+#[no_mangle]
+pub extern "C" fn cb_needs_stack(d: &[u8], need: &mut StackNeed) -> Refusal
+    ensures { λ r. ⌜ (r ≡ refusalIn (needGiven (stackAnswer (now (d .entry)))))
+        × (now (need .exit) ≡ leftIn (needGiven (stackAnswer (now (d .entry)))) (now (need .entry))) ⌝ }
+{
+    let given = c_calls::needs_stack(d, *need);
+    *need = given.need;
+    given.refusal
 }
 
 // The layout as text; the answer is its length.

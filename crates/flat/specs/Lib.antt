@@ -3,3 +3,4 @@ pub mod Records
 pub mod Meanings
 pub mod Parts
 pub mod Stations
+pub mod StackNeeds

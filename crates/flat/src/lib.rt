@@ -2,12 +2,14 @@
 // (specs/Numbers, specs/Meanings). No record has a byte that is no field: the reserved ones are written as zero and never looked at.
 pub use records::layout_of;
 pub use records::placement_of;
+pub use stack_needs::flat_need;
 pub use stations::flat_station;
 pub use stations::flat_walk;
 pub use stations::station_of;
 pub use stations::walk_of;
 
 mod records; // the flat record of one argument, and of a call as a whole
+mod stack_needs; // whether a call needs the stack
 mod stations; // the station and the walk as flat records, and back
 
 use places::Used;
@@ -73,6 +75,16 @@ pub struct Placed {
 #[repr(C)]
 pub struct Gathered {
     pub hidden: u64,
+}
+
+// cb_stack_need: how many arguments were looked at, and 1 where one goes to the stack.
+#[repr(C)]
+pub struct StackNeed {
+    pub looked: usize,
+    pub needed: u8,
+    pub reserved_1: u8,
+    pub reserved_2: u16,
+    pub reserved_4: u32,
 }
 
 // cb_tidied: how many bytes the tidy form has.

@@ -6,3 +6,5 @@ pub mod Bounds
 pub mod Steps
 pub mod Loop
 pub mod Lists
+pub mod Stacked
+pub mod Needed

@@ -5,3 +5,4 @@ pub mod Arguments
 pub mod Placements
 pub mod Asks
 pub mod Lists
+pub mod StackNeeds

@@ -7,6 +7,9 @@ pub use deciding::used_after;
 pub use lent_list::Begun;
 pub use lent_list::begin_with;
 pub use lent_list::lay_out;
+pub use needing::StackAnswer;
+pub use needing::StackNeed;
+pub use needing::needs_stack;
 pub use placements::Placement;
 pub use placements::Step;
 pub use placements::place_argument;
@@ -14,6 +17,7 @@ pub use placements::place_argument;
 mod placements; // the record of one argument, and what is used after some of them
 mod deciding; // the verdict 1 to 10, and the layout of any bytes
 mod lent_list; // one record for each argument, into a list that the caller lends; 11
+mod needing; // whether the stack is needed, at the first argument that goes there
 
 use form::Refusal;
 use places::ReturnPlace;

@@ -102,7 +102,7 @@ pub fn place_argument(d: &[u8], used: Used, i: usize, table: &[u32; 64]) -> Step
 }
 
 // The bytes of argument i, and what is used after it, as its record says, without the record.
-fn use_argument(d: &[u8], used: Used, i: usize, table: &[u32; 64]) -> Turn
+pub fn use_argument(d: &[u8], used: Used, i: usize, table: &[u32; 64]) -> Turn
     requires { ⌜ AskArgument (now d) i used × Tabled (now d) (now table) ⌝ }
     ensures { λ r. ⌜ r ≡ turnAt (now (d .entry)) used i ⌝ }
 {

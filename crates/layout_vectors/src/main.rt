@@ -1,10 +1,11 @@
-// Lays out the descriptions that stand in tests/vectors/layouts.in, each for a list of so many records; layouts.out has what an
-// independent reading of the rules answers.
+// Lays out the descriptions that stand in tests/vectors/layouts.in, each for a list of so many records, and says whether the call needs the
+// stack; layouts.out has what an independent reading of the rules answers.
 use form::Refusal;
 use layout::Begun;
 use layout::Layout;
 use layout::LayoutAnswer;
 use layout::Placement;
+use layout::StackAnswer;
 use libc::STDIN_FILENO;
 use libc::STDOUT_FILENO;
 use places::Place;
@@ -209,7 +210,7 @@ fn print_refusal(refusal: Refusal) {
     print(b"\n");
 }
 
-fn answer(d: &[u8], room: usize) {
+fn answer_layout(d: &[u8], room: usize) {
     let mut table = [0u32; 64];
     let begun = layout::begin_with(d, room, &mut table);
     let answer = begun.answer;
@@ -217,6 +218,27 @@ fn answer(d: &[u8], room: usize) {
         LayoutAnswer::Laid(layout) => print_laid(d, room, begun, layout, &table),
         LayoutAnswer::Refused(refusal) => print_refusal(refusal),
     }
+}
+
+fn answer_need(d: &[u8]) {
+    let answer = layout::needs_stack(d);
+    match answer {
+        StackAnswer::Known(need) => {
+            if need.needed {
+                print(b"needs yes ");
+            } else {
+                print(b"needs no ");
+            }
+            print_number(b"", need.looked as u64);
+            print(b"\n");
+        }
+        StackAnswer::Refused(refusal) => print_refusal(refusal),
+    }
+}
+
+fn answer(d: &[u8], room: usize) {
+    answer_layout(d, room);
+    answer_need(d);
 }
 
 fn wide(byte: u8) -> usize

@@ -15,4 +15,5 @@ pub mod ValueBytes
 pub mod Demand3
 pub mod Calls
 pub mod Exports
+pub mod NeedsStack
 pub mod Tidying

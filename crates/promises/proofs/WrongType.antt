@@ -18,6 +18,7 @@ use Rattle.types.specs.Wrong.{refusalFor}
 use Rattle.types.proofs.Large.{large-first, large-least}
 use Rattle.questions.specs.Questions.{questionRefusal}
 use Rattle.questions.specs.Offsets.{offsetsRefusal}
+use Rattle.uses.specs.Uses.{usesRefusal}
 use Rattle.layout.specs.Verdict.{verdict}
 use Rattle.layout.specs.Lists.{listRefusal}
 use Rattle.moving.specs.Orders.{placeRefusal, gatherRefusal}
@@ -28,7 +29,7 @@ use Rattle.station.specs.Attachment.{described, attachRefusal, detachRefusal}
 use Rattle.station.proofs.Changes.{change-order}
 use Rattle.station.proofs.Kcb.{kcb-refusal}
 use Rattle.walk.specs.Orders.{openRefusal, stepRefusal, showRefusal}
-use Rattle.promises.specs.Orders.{formOrder, checkOrder, questionOrder, offsetsOrder, layoutOrder, placeOrder, gatherOrder, putOrder, takeOrder, attachOrder, detachOrder, openOrder, stepOrder, showOrder, changeOrder}
+use Rattle.promises.specs.Orders.{formOrder, checkOrder, needOrder, questionOrder, offsetsOrder, layoutOrder, placeOrder, gatherOrder, putOrder, takeOrder, attachOrder, detachOrder, openOrder, stepOrder, showOrder, changeOrder}
 use Rattle.promises.specs.WrongType.{Names, refusalRead, WrongType}
 
 -- whether a condition numbered n holds
@@ -109,13 +110,14 @@ detach-names s seat d = record {
 }
 
 pub wrong-type : WrongType
-unfolding kcb verdict questionRefusal offsetsRefusal listRefusal placeRefusal gatherRefusal putRefusal takeRefusal attachRefusal openRefusal stepRefusal showRefusal
+unfolding kcb verdict usesRefusal questionRefusal offsetsRefusal listRefusal placeRefusal gatherRefusal putRefusal takeRefusal attachRefusal openRefusal stepRefusal showRefusal
 wrong-type = record {
   read-form = read-names;
   check = λ d. names d (checkOrder d) (alone (wrongRecord d)) (alone (tooLarge (modelIn d) d));
   question = λ d t. names d (questionOrder d t) (alone (wrongRecord d)) (alone (tooLarge (modelIn d) d));
   member-offsets = λ d t room. names d (offsetsOrder d t room) (alone (wrongRecord d)) (alone (tooLarge (modelIn d) d));
   lay-out = λ d room. names d (layoutOrder d room) (alone (wrongRecord d)) (alone (tooLarge (modelIn d) d));
+  needs-stack = λ d. names d (needOrder d) (alone (wrongRecord d)) (alone (tooLarge (modelIn d) d));
   place-values = λ d h values registers stack. names d (placeOrder d h values registers stack) (alone (wrongRecord d)) (alone (tooLarge (modelIn d) d));
   gather-values = λ d values registers stack. names d (gatherOrder d values registers stack) (alone (wrongRecord d)) (alone (tooLarge (modelIn d) d));
   put-returned = λ d h value image. names d (putOrder d h value image) (alone (wrongRecord d)) (alone (tooLarge (modelIn d) d));

@@ -8,4 +8,5 @@ pub mod Ilp32
 pub mod Demand3
 pub mod Calls
 pub mod Exports
+pub mod NeedsStack
 pub mod Tidying

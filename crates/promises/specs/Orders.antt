@@ -43,6 +43,10 @@ usesOrder d = typesOrder d ++ rule 8 (wrongUse d) ∷ rule 9 (narrowUnnamed d) �
 abbrev pub checkOrder : List ℕ → List Rule
 checkOrder d = usesOrder d ++ rule 10 (wideArea d) ∷ []
 
+-- request 2026-10, whether the stack is needed: "1..9 as before; 10 is not given here"
+abbrev pub needOrder : List ℕ → List Rule
+needOrder d = usesOrder d
+
 -- "A question about one type (size, alignment, classes, run): 1..7, then 8 for a type number not below T; arrays are answered"
 abbrev pub questionOrder : List ℕ → ℕ → List Rule
 questionOrder d t = typesOrder d ++ rule 8 (notBelow d t) ∷ []

@@ -18,6 +18,7 @@ use Rattle.types.specs.Decode.{tyAt}
 use Rattle.types.specs.Wrong.{refusalFor}
 use Rattle.questions.specs.Questions.{questionRefusal}
 use Rattle.questions.specs.Offsets.{offsetsRefusal}
+use Rattle.uses.specs.Uses.{usesRefusal}
 use Rattle.layout.specs.Verdict.{verdict}
 use Rattle.layout.specs.Lists.{listRefusal}
 use Rattle.moving.specs.Images.{amd64}
@@ -55,6 +56,7 @@ pub record WrongType : Type 0 where
   pub question : (d : List ℕ) (t : ℕ) → Names d (refusalFor d (questionRefusal d t))
   pub member-offsets : (d : List ℕ) (t room : ℕ) → Names d (refusalFor d (offsetsRefusal d t room))
   pub lay-out : (d : List ℕ) (room : ℕ) → Names d (refusalFor d (listRefusal d room))
+  pub needs-stack : (d : List ℕ) → Names d (refusalFor d (usesRefusal d))
   pub place-values : (d : List ℕ) (h : ℕ) (values : List ℕ) (registersLength stackLength : ℕ) → Names d (refusalFor d (placeRefusal amd64 d h values registersLength stackLength))
   pub gather-values : (d : List ℕ) (valuesLength registersLength stackLength : ℕ) → Names d (refusalFor d (gatherRefusal amd64 d valuesLength registersLength stackLength))
   pub put-returned : (d : List ℕ) (h : ℕ) (value : List ℕ) (imageLength : ℕ) → Names d (refusalFor d (putRefusal d h value imageLength))

@@ -11,6 +11,7 @@ use Rattle.questions.proofs.member_run
 use Rattle.questions.proofs.member_offsets
 use Rattle.layout.proofs.check
 use Rattle.layout.proofs.layout_of
+use Rattle.layout.proofs.needs_stack
 use Rattle.layout.proofs.lay_out
 use Rattle.tidying.proofs.tidy_length
 use Rattle.tidying.proofs.tidy
@@ -39,6 +40,7 @@ use Rattle.callbridge.proofs.cb_type_classes
 use Rattle.callbridge.proofs.cb_member_run
 use Rattle.callbridge.proofs.cb_member_offsets
 use Rattle.callbridge.proofs.cb_layout_of
+use Rattle.callbridge.proofs.cb_needs_stack
 use Rattle.callbridge.proofs.cb_lay_out
 use Rattle.callbridge.proofs.cb_write_listing
 use Rattle.callbridge.proofs.cb_tidy_length
@@ -84,6 +86,9 @@ total-layout-check c g = refl
 
 pub total-layout-layout-of : Total layout_of.ended (λ M. layout_of.clauses {M = M})
 total-layout-layout-of c g = refl
+
+pub total-layout-needs-stack : Total needs_stack.ended (λ M. needs_stack.clauses {M = M})
+total-layout-needs-stack c g = refl
 
 pub total-layout-lay-out : Total lay_out.ended (λ M. lay_out.clauses {M = M})
 total-layout-lay-out c g = refl
@@ -168,6 +173,9 @@ total-callbridge-cb-member-offsets c g = refl
 
 pub total-callbridge-cb-layout-of : Total cb_layout_of.ended (λ M. cb_layout_of.clauses {M = M})
 total-callbridge-cb-layout-of c g = refl
+
+pub total-callbridge-cb-needs-stack : Total cb_needs_stack.ended (λ M. cb_needs_stack.clauses {M = M})
+total-callbridge-cb-needs-stack c g = refl
 
 pub total-callbridge-cb-lay-out : Total cb_lay_out.ended (λ M. cb_lay_out.clauses {M = M})
 total-callbridge-cb-lay-out c g = refl

@@ -23,6 +23,9 @@ use Rattle.c_calls.proofs.put_returned.Symbol as put-returned-symbol
 use Rattle.c_calls.proofs.take_returned
 use Rattle.c_calls.proofs.take_returned.Met as take-returned-met
 use Rattle.c_calls.proofs.take_returned.Symbol as take-returned-symbol
+use Rattle.c_calls.proofs.needs_stack
+use Rattle.c_calls.proofs.needs_stack.Met as needs-stack-met
+use Rattle.c_calls.proofs.needs_stack.Symbol as needs-stack-symbol
 use Rattle.c_calls.proofs.attach
 use Rattle.c_calls.proofs.attach.Met as attach-met
 use Rattle.c_calls.proofs.attach.Symbol as attach-symbol
@@ -110,6 +113,12 @@ tight-c-calls-take-returned c r q w v a b = (settle (result take_returned.ended 
   where
     same-value : w .1 .1 .0 ≡ v .1 .1 .0
     same-value = settle bytes (a .ensured) (b .ensured) (λ e f. e .1 .1 ∙ sym (f .1 .1))
+
+pub meets-c-calls-needs-stack : Meets needs_stack.ended (λ M. needs_stack.clauses {M = M}) needs-stack-symbol.routine
+meets-c-calls-needs-stack M = needs-stack-met.met
+
+pub tight-c-calls-needs-stack : Tight needs_stack.ended (λ M. needs_stack.clauses {M = M})
+tight-c-calls-needs-stack c r q w v a b = (settle (result needs_stack.ended c) (a .ensured) (b .ensured) (λ e f i. record { need = (e .1 ∙ sym (f .1)) i; refusal = (e .0 ∙ sym (f .0)) i }), refl)
 
 pub meets-c-calls-attach : Meets attach.ended (λ M. attach.clauses {M = M}) attach-symbol.routine
 meets-c-calls-attach M = attach-met.met

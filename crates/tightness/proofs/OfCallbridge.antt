@@ -9,6 +9,7 @@ use Rattle.flat.proofs.Layout as flat-Layout
 use Rattle.flat.proofs.Part as flat-Part
 use Rattle.flat.proofs.Placed as flat-Placed
 use Rattle.flat.proofs.Placement as flat-Placement
+use Rattle.flat.proofs.StackNeed as flat-StackNeed
 use Rattle.flat.proofs.Station as flat-Station
 use Rattle.flat.proofs.Tidied as flat-Tidied
 use Rattle.flat.proofs.Walk as flat-Walk
@@ -37,6 +38,9 @@ use Rattle.callbridge.proofs.cb_layout_of.Symbol as cb-layout-of-symbol
 use Rattle.callbridge.proofs.cb_lay_out
 use Rattle.callbridge.proofs.cb_lay_out.Met as cb-lay-out-met
 use Rattle.callbridge.proofs.cb_lay_out.Symbol as cb-lay-out-symbol
+use Rattle.callbridge.proofs.cb_needs_stack
+use Rattle.callbridge.proofs.cb_needs_stack.Met as cb-needs-stack-met
+use Rattle.callbridge.proofs.cb_needs_stack.Symbol as cb-needs-stack-symbol
 use Rattle.callbridge.proofs.cb_write_listing
 use Rattle.callbridge.proofs.cb_write_listing.Met as cb-write-listing-met
 use Rattle.callbridge.proofs.cb_write_listing.Symbol as cb-write-listing-symbol
@@ -148,6 +152,15 @@ tight-callbridge-cb-lay-out c r q w v a b = (settle (result cb_lay_out.ended c) 
 
     same-list : w .1 .1 .0 ≡ v .1 .1 .0
     same-list = settle (codedList (flat-Placement.the-row .coded)) (a .ensured) (b .ensured) (λ e f. e .1 .1 ∙ sym (f .1 .1))
+
+pub meets-callbridge-cb-needs-stack : Meets cb_needs_stack.ended (λ M. cb_needs_stack.clauses {M = M}) cb-needs-stack-symbol.routine
+meets-callbridge-cb-needs-stack M = cb-needs-stack-met.met
+
+pub tight-callbridge-cb-needs-stack : Tight cb_needs_stack.ended (λ M. cb_needs_stack.clauses {M = M})
+tight-callbridge-cb-needs-stack c r q w v a b = (settle (result cb_needs_stack.ended c) (a .ensured) (b .ensured) (λ e f. e .0 ∙ sym (f .0)), λ i. (tt, (same-need i, tt)))
+  where
+    same-need : w .1 .0 ≡ v .1 .0
+    same-need = settle (flat-StackNeed.the-row .coded) (a .ensured) (b .ensured) (λ e f. e .1 ∙ sym (f .1))
 
 pub meets-callbridge-cb-write-listing : Meets cb_write_listing.ended (λ M. cb_write_listing.clauses {M = M}) cb-write-listing-symbol.routine
 meets-callbridge-cb-write-listing M = cb-write-listing-met.met

@@ -17,6 +17,9 @@ use Rattle.flat.proofs.placement_of.Symbol as placement-of-symbol
 use Rattle.flat.proofs.layout_of
 use Rattle.flat.proofs.layout_of.Met as layout-of-met
 use Rattle.flat.proofs.layout_of.Symbol as layout-of-symbol
+use Rattle.flat.proofs.flat_need
+use Rattle.flat.proofs.flat_need.Met as flat-need-met
+use Rattle.flat.proofs.flat_need.Symbol as flat-need-symbol
 use Rattle.flat.proofs.station_of
 use Rattle.flat.proofs.station_of.Met as station-of-met
 use Rattle.flat.proofs.station_of.Symbol as station-of-symbol
@@ -59,6 +62,12 @@ meets-flat-layout-of M = layout-of-met.met
 
 pub tight-flat-layout-of : Tight layout_of.ended (λ M. layout_of.clauses {M = M})
 tight-flat-layout-of c r q w v a b = (equal (result layout_of.ended c) (a .ensured) (b .ensured), refl)
+
+pub meets-flat-flat-need : Meets flat_need.ended (λ M. flat_need.clauses {M = M}) flat-need-symbol.routine
+meets-flat-flat-need M = flat-need-met.met
+
+pub tight-flat-flat-need : Tight flat_need.ended (λ M. flat_need.clauses {M = M})
+tight-flat-flat-need c r q w v a b = (equal (result flat_need.ended c) (a .ensured) (b .ensured), refl)
 
 pub meets-flat-station-of : Meets station_of.ended (λ M. station_of.clauses {M = M}) station-of-symbol.routine
 meets-flat-station-of M = station-of-met.met

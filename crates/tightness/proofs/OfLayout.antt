@@ -25,6 +25,9 @@ use Rattle.layout.proofs.begin_with.Symbol as begin-with-symbol
 use Rattle.layout.proofs.lay_out
 use Rattle.layout.proofs.lay_out.Met as lay-out-met
 use Rattle.layout.proofs.lay_out.Symbol as lay-out-symbol
+use Rattle.layout.proofs.needs_stack
+use Rattle.layout.proofs.needs_stack.Met as needs-stack-met
+use Rattle.layout.proofs.needs_stack.Symbol as needs-stack-symbol
 use Rattle.layout.proofs.place_argument
 use Rattle.layout.proofs.place_argument.Met as place-argument-met
 use Rattle.layout.proofs.place_argument.Symbol as place-argument-symbol
@@ -79,6 +82,12 @@ tight-layout-lay-out c r q w v a b = (settle (result lay_out.ended c) (a .ensure
   where
     same-list : w .1 .0 ≡ v .1 .0
     same-list = settle (codedList (layout-Placement.the-row .coded)) (a .ensured) (b .ensured) (λ e f. e .1 ∙ sym (f .1))
+
+pub meets-layout-needs-stack : Meets needs_stack.ended (λ M. needs_stack.clauses {M = M}) needs-stack-symbol.routine
+meets-layout-needs-stack M = needs-stack-met.met
+
+pub tight-layout-needs-stack : Tight needs_stack.ended (λ M. needs_stack.clauses {M = M})
+tight-layout-needs-stack c r q w v a b = (equal (result needs_stack.ended c) (a .ensured) (b .ensured), refl)
 
 pub meets-layout-place-argument : Meets place_argument.ended (λ M. place_argument.clauses {M = M}) place-argument-symbol.routine
 meets-layout-place-argument M = place-argument-met.met

@@ -6,6 +6,7 @@ use crate::subject::Subject;
 use independent::cases::hex_of_bytes;
 use independent::listing::listing;
 use independent::moving::gathering;
+use independent::needing::{needs_stack, StackNeed};
 use independent::places::ReturnPlace;
 use independent::refusal::Refusal;
 use independent::returning::taking;
@@ -55,6 +56,7 @@ pub fn judge_sizes(subject: &Subject, answer: &Answer) -> Judgement {
 pub fn judge(subject: &Subject, answer: &Answer) -> Judgement {
     let mut judgement = judge_sizes(subject, answer);
     judge_caller(subject, answer, &mut judgement);
+    judge_need(subject, answer, &mut judgement);
     judge_callee(subject, answer, &mut judgement);
     judge_return(subject, answer, &mut judgement);
     if subject.accepted.types.description().is_variadic() {
@@ -103,6 +105,35 @@ fn judge_caller(subject: &Subject, answer: &Answer, judgement: &mut Judgement) {
         &answer.taken,
         &subject.returned,
         &subject.return_mask,
+    );
+}
+
+/// Whether the stack is needed, and the first argument that tells it: the first whose value
+/// is lost where every byte of the stack that a callee finds is another.
+fn judge_need(subject: &Subject, answer: &Answer, judgement: &mut Judgement) {
+    let others: Vec<u8> = answer.stack.iter().map(|byte| !byte).collect();
+    let mut left = vec![0; subject.values.len()];
+    let gathered = gathering(subject.description, &answer.registers, &others, &mut left);
+    judgement.equal(
+        "gathering without the stack",
+        gathered.is_ok().to_string(),
+        "true".to_string(),
+    );
+    let mut end = 0;
+    let placements = &subject.accepted.layout.placements;
+    let lost = placements.iter().position(|placement| {
+        let value = end..end + placement.size.0;
+        end = value.end;
+        let mask = &subject.value_mask[value.clone()];
+        masked(&left[value.clone()], mask) != masked(&subject.values[value], mask)
+    });
+    let looked = lost.map_or(placements.len(), |position| position + 1);
+    let found = StackNeed { needed: lost.is_some(), looked };
+    let said = needs_stack(subject.description);
+    judgement.equal(
+        "need of the stack",
+        format!("{:?}", Ok::<_, Refusal>(found)),
+        format!("{said:?}"),
     );
 }
 

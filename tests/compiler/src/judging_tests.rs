@@ -64,8 +64,9 @@ fn differences(text: &str, change: impl Fn(&mut Answer)) -> usize {
 fn each_kind_of_wrong_answer_is_a_difference() {
     let text = "struct{long, double}: int, struct{float, int}, ..., long_double, double, int128";
     assert_eq!(differences(text, |_| {}), 0);
-    // The registers, and what is gathered from them.
-    assert_eq!(differences(text, |answer| answer.registers[0] ^= 1), 2);
+    // The registers, what is gathered from them, and, before the first argument on the stack, that
+    // it is lost without the stack.
+    assert_eq!(differences(text, |answer| answer.registers[0] ^= 1), 3);
     assert_eq!(differences(text, |answer| answer.registers[48] ^= 1), 2);
     assert_eq!(differences(text, |answer| answer.stack[9] ^= 1), 2);
     assert_eq!(differences(text, |answer| answer.rax ^= 1), 1);
@@ -100,12 +101,12 @@ fn masked_bytes_make_no_difference() {
 #[test]
 fn upper_halves_of_pointers_in_registers_are_judged() {
     let six = "pointer: pointer, pointer, pointer, pointer, pointer, struct{pointer}, pointer";
-    for (model, halves, slot) in [("", 2, 2), ("ilp32 ", 1, 0)] {
+    for (model, upper, inside, slot, returned) in [("", 3, 3, 2, 2), ("ilp32 ", 1, 0, 0, 1)] {
         let text = &format!("{model}{six}");
-        assert_eq!(differences(text, |answer| answer.registers[7] ^= 1), halves);
-        assert_eq!(differences(text, |answer| answer.registers[5 * 8 + 4] ^= 1), slot);
+        assert_eq!(differences(text, |answer| answer.registers[7] ^= 1), upper);
+        assert_eq!(differences(text, |answer| answer.registers[5 * 8 + 4] ^= 1), inside);
         assert_eq!(differences(text, |answer| answer.stack[4] ^= 1), slot);
-        assert_eq!(differences(text, |answer| answer.after[7] ^= 1), halves);
+        assert_eq!(differences(text, |answer| answer.after[7] ^= 1), returned);
     }
     let memory = "ilp32 struct{char[17]}: int";
     assert_eq!(differences(memory, |answer| answer.registers[3] ^= 1), 0);

@@ -16,6 +16,7 @@ pub mod listing;
 
 pub mod returning;
 pub mod tidying;
+pub mod needing;
 
 pub mod random;
 pub mod draft;

@@ -222,7 +222,7 @@ fn taken_at_first(return_place: &ReturnPlace) -> Taken {
 }
 
 /// "Arguments follow left to right."
-fn laid_out(types: &Types) -> Layout {
+pub fn laid_out(types: &Types) -> Layout {
     let description = types.description();
     let return_place = return_place(types);
     let mut now = taken_at_first(&return_place);
@@ -257,8 +257,8 @@ pub struct Accepted<'a> {
     pub layout: Layout,
 }
 
-/// Refusals 1 to 10, "as numbered, each over the whole description".
-pub fn accepted(bytes: &[u8]) -> Result<Accepted<'_>, Refusal> {
+/// Refusals 1 to 9.
+pub fn usable(bytes: &[u8]) -> Result<Types<'_>, Refusal> {
     let types = types(bytes)?;
     if has_wrong_type_number(types.description()) {
         return Err(Refusal::WrongTypeNumber);
@@ -266,6 +266,12 @@ pub fn accepted(bytes: &[u8]) -> Result<Accepted<'_>, Refusal> {
     if has_unnamed_small(&types) {
         return Err(Refusal::UnnamedSmall);
     }
+    Ok(types)
+}
+
+/// Refusals 1 to 10, "as numbered, each over the whole description".
+pub fn accepted(bytes: &[u8]) -> Result<Accepted<'_>, Refusal> {
+    let types = usable(bytes)?;
     let layout = laid_out(&types);
     if layout.area > LARGEST_AREA {
         return Err(Refusal::AreaTooLarge);

@@ -14,6 +14,7 @@ use crate::history::{
 };
 use crate::listing::listing;
 use crate::moving::{gathering, placing, REGISTER_IMAGE};
+use crate::needing::needs_stack;
 use crate::notation::{self, description};
 use crate::places::{accepted, layout, Place, Placement};
 use crate::random::Random;
@@ -176,6 +177,19 @@ fn words<T: Display>(numbers: impl Iterator<Item = T>) -> String {
 
 // ---- layouts
 
+/// Where the first argument on the stack is the first, the last or none; with a hidden
+/// address; and with an area that is too large.
+const NEEDS: [&str; 8] = [
+    "void: long_double, int, double",
+    "void: long, long, long, long, long, long, double",
+    "void: long, long, long, long, long, long, long",
+    "void: double, double, double, double, double, double, double, double, ..., double, long",
+    "struct{char[17]}: int128, int128, long",
+    "struct{char[17]}: int128, int128, int128, long",
+    "void: int, struct{char[4096]}, struct{char[4096]}, struct{char[4096]}, struct{char[4096]}, int128, long_double",
+    "void: struct{long[2]}, struct{long[2]}, long, struct{long[2]}, long",
+];
+
 fn layouts(random: &mut Random) -> Writer {
     let mut writer = Writer::new("layouts");
     for bytes in in_both_models(vec![bytes_of_hex(LISTER)]) {
@@ -186,6 +200,9 @@ fn layouts(random: &mut Random) -> Writer {
     }
     for bytes in limits().iter().chain(&towers()) {
         lay_out(&mut writer, bytes, 255);
+    }
+    for bytes in in_both_models(NEEDS.iter().map(|text| description(text)).collect()) {
+        lay_out(&mut writer, &bytes, 64);
     }
     for lent in [0, 1, 4, 5, 6, 255] {
         lay_out(&mut writer, &bytes_of_hex(LISTER), lent);
@@ -233,8 +250,17 @@ fn lay_out(writer: &mut Writer, bytes: &[u8], lent: u8) {
 
 pub fn layout_text(bytes: &[u8], lent: u8) -> String {
     let mut list = vec![empty_placement(); lent as usize];
-    match layout(bytes, &mut list) {
+    let laid = match layout(bytes, &mut list) {
         Ok(layout) => format!("{}values {}\n", listing(bytes), layout.values_length()),
+        Err(refusal) => format!("refused {}\n", Told::from(refusal)),
+    };
+    laid + &need_text(bytes)
+}
+
+/// Whether the stack is needed, and the arguments looked at.
+fn need_text(bytes: &[u8]) -> String {
+    match needs_stack(bytes) {
+        Ok(need) => format!("needs {} {}\n", if need.needed { "yes" } else { "no" }, need.looked),
         Err(refusal) => format!("refused {}\n", Told::from(refusal)),
     }
 }

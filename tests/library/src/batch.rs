@@ -25,6 +25,7 @@ pub enum Code {
     MemberOffsets = 45,
     TidyLength = 46,
     Tidy = 47,
+    NeedsStack = 48,
 }
 
 /// What is lent, in the driver's order: its number is in its canaries.

@@ -6,6 +6,7 @@ use independent::classes::{classes_of, Class};
 use independent::history::{any_address, random_values};
 use independent::listing::listing;
 use independent::moving::{gathering, placing, REGISTER_IMAGE};
+use independent::needing::needs_stack;
 use independent::places::{self, accepted, Accepted, Place, Register, ReturnPlace, ReturnRegister};
 use independent::random::Random;
 use independent::refusal::{told, Refusal};
@@ -20,6 +21,7 @@ pub fn ask(random: &mut Random, bytes: &[u8], batch: &mut Batch) {
     end("cb_check", bytes, batch);
     ask_questions(random, bytes, batch);
     ask_layouts(random, bytes, batch);
+    ask_need(bytes, batch);
     ask_listing(bytes, batch);
     ask_moves(random, bytes, batch);
     ask_returned(random, bytes, batch);
@@ -309,6 +311,19 @@ fn ask_take(random: &mut Random, bytes: &[u8], lengths: [usize; 2], batch: &mut 
     batch.told(told(&answer)).buffer(Thing::Image, &image).buffer(Thing::Values, &value);
     batch.record(Thing::Record, &left(Gathered::FILLED, taken));
     end("cb_take_returned", bytes, batch);
+}
+
+// ---- the need of the stack
+
+fn ask_need(bytes: &[u8], batch: &mut Batch) {
+    let need = needs_stack(bytes).map(|need| StackNeed {
+        looked: need.looked as u64,
+        needed: u8::from(need.needed),
+        reserved: [0; 7],
+    });
+    batch.command(Code::NeedsStack).told(told(&need));
+    batch.record(Thing::Record, &left(StackNeed::FILLED, need));
+    end("cb_needs_stack", bytes, batch);
 }
 
 // ---- the tidy form

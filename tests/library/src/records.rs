@@ -96,6 +96,7 @@ structs! {
     }
     Placed { vector_registers: u64, }
     Gathered { hidden: u64, }
+    StackNeed { looked: u64, needed: u8, reserved: [u8; 7], }
     Tidied { length: u64, }
     Station { length: u64, number: u32, attached: u8, reserved: [u8; 3], }
     Walk {
@@ -154,6 +155,7 @@ impl Lent for Classes {}
 impl Lent for Layout {}
 impl Lent for Placed {}
 impl Lent for Gathered {}
+impl Lent for StackNeed {}
 impl Lent for Tidied {}
 impl Lent for Station {}
 impl Lent for Walk {}
