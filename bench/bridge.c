@@ -4,7 +4,7 @@
 
 static cb_layout layout[SHAPES];
 static cb_placement list[CB_MAX_ARGUMENTS];
-static uint8_t registers[SHAPES][CB_REGISTER_IMAGE], stack[SHAPES][CB_MAX_AREA], out[VALUES_ROOM];
+static uint8_t registers[SHAPES][CB_REGISTER_IMAGE], upper[SHAPES][CB_UPPER_IMAGE], stack[SHAPES][CB_MAX_AREA], out[VALUES_ROOM];
 static uint8_t seat[SHAPES][CB_SEAT_LENGTH];
 static cb_station station[SHAPES];
 static cb_walk started[SHAPES];
@@ -14,7 +14,7 @@ static void place(int which)
     const shape *s = &shapes[which];
     cb_placed placed;
     cb_place_values(s->description, s->length, 0, packed[which], packed_length[which], registers[which], CB_REGISTER_IMAGE,
-                    stack[which], layout[which].area, &placed);
+                    upper[which], CB_UPPER_IMAGE, stack[which], layout[which].area, &placed);
 }
 
 static int prepare(int which)
@@ -52,8 +52,8 @@ static void gather(int which)
 {
     const shape *s = &shapes[which];
     cb_gathered gathered;
-    cb_gather_values(s->description, s->length, registers[which], CB_REGISTER_IMAGE, stack[which], layout[which].area, out, packed_length[which],
-                     &gathered);
+    cb_gather_values(s->description, s->length, registers[which], CB_REGISTER_IMAGE, upper[which], CB_UPPER_IMAGE, stack[which],
+                     layout[which].area, out, packed_length[which], &gathered);
 }
 
 static void step(int which, cb_walk *walk, int argument)

@@ -5,7 +5,7 @@
 #include <stdio.h>
 #include <string.h>
 
-enum { CASES = 19, BASIC = 0, ARRAY = 1, STRUCT = 2, UNION = 3, CHAR = 1, INT = 3, FLOAT = 6, DOUBLE = 7, NOTHING = 255 };
+enum { CASES = 22, BASIC = 0, ARRAY = 1, STRUCT = 2, UNION = 3, CHAR = 1, INT = 3, FLOAT = 6, DOUBLE = 7, M256 = 16, NOTHING = 255 };
 
 typedef struct hostile {
     const char *name;
@@ -86,10 +86,10 @@ static void overlapping_tower(uint8_t kind, const char *name)
     end(name, 64);
 }
 
-/* The same behind as many chars as there is room for: 255 members in the last union, 63 of them different. */
-static void full_tower(void)
+/* The same behind as many of type 0 as there is room for: 255 members in the last union, 63 of them different. */
+static void full_tower(uint8_t code, const char *name)
 {
-    begin(CHAR);
+    begin(code);
     for (int i = 0; i < 192; i++) {
         add_member(0);
     }
@@ -97,7 +97,7 @@ static void full_tower(void)
         add_member(k - 1);
         add_type(UNION, 0, 192 + k);
     }
-    end("union {192 chars, 0 .. k-1}", 64);
+    end(name, 64);
 }
 
 /* The same over eight chars, which lie in both eightbytes at seven offsets: what is worked out at the most offsets. */
@@ -151,16 +151,16 @@ static void wide(uint8_t kind, uint8_t code, int arguments, const char *name)
 }
 
 /* 255 members in 63 runs that overlap as far as they can: run k begins one later than the one before. */
-static void shifted(void)
+static void shifted(uint8_t code, const char *name)
 {
-    begin(CHAR);
+    begin(code);
     for (int i = 0; i < 255; i++) {
         add_member(0);
     }
     for (int k = 1; k < 64; k++) {
         add_type(UNION, k - 1, 255 - (k - 1));
     }
-    end("63 shifted runs of 255 chars", 64);
+    end(name, 64);
 }
 
 /* Unions of one char below unions of nine, each of all types before it: the classes differ from member to member at every offset. */
@@ -223,7 +223,8 @@ static void class_tower(void)
 /* ---- what is counted */
 
 static cb_placement list[CB_MAX_ARGUMENTS];
-static uint8_t values[CB_MAX_ARGUMENTS * CB_MAX_TYPE], registers[CB_REGISTER_IMAGE], stack[CB_MAX_AREA], seat[CB_SEAT_LENGTH], out[CB_MAX_TYPE];
+static uint8_t values[CB_MAX_ARGUMENTS * CB_MAX_TYPE], registers[CB_REGISTER_IMAGE], upper[CB_UPPER_IMAGE], stack[CB_MAX_AREA];
+static uint8_t seat[CB_SEAT_LENGTH], out[CB_MAX_TYPE];
 static cb_station station;
 static cb_walk walk;
 
@@ -254,7 +255,8 @@ static void place(int which)
 {
     hostile *h = &cases[which];
     cb_placed placed;
-    cb_place_values(h->bytes, h->length, 0, values, h->layout.values, registers, CB_REGISTER_IMAGE, stack, h->layout.area, &placed);
+    cb_place_values(h->bytes, h->length, 0, values, h->layout.values, registers, CB_REGISTER_IMAGE, upper, CB_UPPER_IMAGE, stack,
+                    h->layout.area, &placed);
 }
 
 static void tidy(int which)
@@ -299,7 +301,7 @@ int main(void)
 {
     double_tower();
     overlapping_tower(UNION, "union {0 .. k-1}");
-    full_tower();
+    full_tower(CHAR, "union {192 chars, 0 .. k-1}");
     wide_tower();
     overlapping_tower(STRUCT, "struct {0 .. k-1}");
     chain(STRUCT, "struct {k-1}");
@@ -309,13 +311,16 @@ int main(void)
     wide(UNION, CHAR, 64, "63 unions of 255 chars");
     wide(UNION, FLOAT, 64, "63 unions of 255 floats");
     wide(UNION, DOUBLE, 64, "63 unions of 255 doubles");
-    shifted();
+    shifted(CHAR, "63 shifted runs of 255 chars");
     mixed_tower(8, "8 small, 54 large unions of chars");
     mixed_tower(31, "31 small, 31 large unions of chars");
     mixed_tower(20, "20 small, 42 large unions of chars");
     class_tower();
     nearly_equal(BASIC, "62 nearly equal runs of 194 _Bool");
     nearly_equal(ARRAY, "62 nearly equal runs of 194 char[8]");
+    wide(UNION, M256, 64, "63 unions of 255 __m256");
+    full_tower(M256, "union {192 __m256, 0 .. k-1}");
+    shifted(M256, "63 shifted runs of 255 __m256");
     for (int which = 0; which < made; which++) {
         count_case(which);
     }

@@ -20,6 +20,7 @@ typedef struct call {
     cb_placement arguments[CB_MAX_ARGUMENTS];
     uint8_t values[CB_MAX_ARGUMENTS * CB_MAX_TYPE];
     uint8_t registers[CB_REGISTER_IMAGE];
+    uint8_t upper[CB_UPPER_IMAGE];
     uint8_t stack[CB_MAX_AREA];
 } call;
 
@@ -63,6 +64,9 @@ static void print_types(const call *c)
         }
         printf("type %u: %zu bytes, aligned to %zu, %s %s", type, extent.size, extent.align, class_name(classes.first),
                class_name(classes.second));
+        if (classes.third != CB_NO_CLASS) {
+            printf(" %s %s", class_name(classes.third), class_name(classes.fourth));
+        }
         if (members.image == CB_DESCRIPTION) {
             printf(", members");
             for (size_t i = 0; i < members.length; i++) {
@@ -91,8 +95,9 @@ static void print_registers(uint8_t first, uint8_t second)
 
 static void print_layout(const call *c)
 {
-    printf("%zu arguments, %zu general and %zu vector registers, %zu bytes of stack, %zu bytes of values\n", c->layout.arguments,
-           c->layout.general_registers, c->layout.vector_registers, c->layout.area, c->layout.values);
+    printf("%zu arguments, %zu general and %zu vector registers, %zu bytes of stack aligned to %zu, %zu bytes of values\n",
+           c->layout.arguments, c->layout.general_registers, c->layout.vector_registers, c->layout.area, c->layout.area_alignment,
+           c->layout.values);
     for (size_t i = 0; i < c->layout.arguments; i++) {
         printf("argument %zu: type %u, %zu bytes:", i, c->arguments[i].type, c->arguments[i].size);
         if (c->arguments[i].first == CB_NONE) {
@@ -127,15 +132,20 @@ static int place(call *c)
 {
     cb_placed placed;
     cb_refusal refusal = cb_place_values(c->description, c->length, 0x1000, c->values, c->layout.values, c->registers,
-                                         sizeof c->registers, c->stack, c->layout.area, &placed);
+                                         sizeof c->registers, c->upper, sizeof c->upper, c->stack, c->layout.area, &placed);
     if (refused("place", refusal)) {
         return 1;
     }
     printf("placed, al = %zu\n", placed.vector_registers);
     for (size_t i = 0; i < c->layout.arguments; i++) {
         if (c->arguments[i].first != CB_NONE) {
+            size_t upper = cb_upper_offset(c->arguments[i].first);
             printf("  %s:", cb_register_name(c->arguments[i].first));
-            print_bytes(c->registers + cb_register_offset(c->arguments[i].first), 8);
+            print_bytes(c->registers + cb_register_offset(c->arguments[i].first), upper == CB_NO_OFFSET ? 8 : 16);
+            if (upper != CB_NO_OFFSET) {
+                printf("  and its upper half:");
+                print_bytes(c->upper + upper, 16);
+            }
         }
     }
     return 0;
@@ -210,8 +220,8 @@ static int gather(const call *c)
 {
     static uint8_t values[sizeof c->values];
     cb_gathered gathered;
-    cb_refusal refusal = cb_gather_values(c->description, c->length, c->registers, sizeof c->registers, c->stack, c->layout.area,
-                                          values, c->layout.values, &gathered);
+    cb_refusal refusal = cb_gather_values(c->description, c->length, c->registers, sizeof c->registers, c->upper, sizeof c->upper,
+                                          c->stack, c->layout.area, values, c->layout.values, &gathered);
     if (refused("gather", refusal)) {
         return 1;
     }
@@ -223,14 +233,14 @@ static int gather(const call *c)
 /* What the module's function would leave, and how the host finds it: a value of the returned type's size. */
 static int bring_back(const call *c)
 {
-    uint8_t value[CB_MAX_TYPE], back[CB_MAX_TYPE], image[CB_RETURN_IMAGE];
+    uint8_t value[CB_MAX_TYPE], back[CB_MAX_TYPE], image[CB_RETURN_IMAGE], upper[CB_RETURN_UPPER];
     size_t size = c->layout.hidden ? 0 : c->layout.return_size;
     cb_gathered taken;
     for (size_t i = 0; i < size; i++) {
         value[i] = (uint8_t)(0x80 + i);
     }
-    if (refused("put", cb_put_returned(c->description, c->length, 0, value, size, image, sizeof image)) ||
-        refused("take", cb_take_returned(c->description, c->length, image, sizeof image, back, size, &taken))) {
+    if (refused("put", cb_put_returned(c->description, c->length, 0, value, size, image, sizeof image, upper, sizeof upper)) ||
+        refused("take", cb_take_returned(c->description, c->length, image, sizeof image, upper, sizeof upper, back, size, &taken))) {
         return 1;
     }
     printf("returned:");

@@ -1,7 +1,8 @@
 /* callbridge.h: the call bridge for C and C++ hosts (System V AMD64, LP64 and ILP32; C99 or later).
 
    The library reads a description (KCB) of one call of a module's function, says which register or stack slot holds each argument,
-   moves the argument bytes into a register image and a stack image and out again, and walks the unnamed arguments as va_arg does.
+   moves the argument bytes into a register image, an upper image (bytes 16 to 31 of ymm0 to ymm7) and a stack image and out again, and
+   walks the unnamed arguments as va_arg does.
 
    Every call that can be refused answers a cb_refusal. Its number is 0 (CB_ACCEPTED) where the call did its work; otherwise each
    struct and each buffer that was lent holds what it held before (a refused call may store those same bytes again). One call is an
@@ -42,8 +43,9 @@ extern "C" {
 
 /* The version of this interface. It counts up where a program must be built anew; compare it with cb_version(). In version 1 a
    cb_refusal had no type; in version 2 structs had padding, a cb_layout had no return_size, `attached` had to be 0 or 1, and a refused
-   call left a cb_part as it was. */
-#define CB_VERSION 3
+   call left a cb_part as it was; in version 3 there were no vectors of 32 bytes: no upper images, two classes in a cb_classes, no
+   area_alignment in a cb_layout. */
+#define CB_VERSION 4
 
 /* Sizes that the description's rules fix. */
 #define CB_MAX_ARGUMENTS 64      /* arguments of one call: a list of so many placements is always long enough */
@@ -52,7 +54,9 @@ extern "C" {
 #define CB_MAX_AREA 16384        /* bytes of the stack image */
 #define CB_SEAT_LENGTH 586       /* bytes of a seat, exactly */
 #define CB_REGISTER_IMAGE 176    /* bytes of the register image, exactly: rdi, rsi, rdx, rcx, r8, r9 at 8 bytes, xmm0 to xmm7 at 16 */
+#define CB_UPPER_IMAGE 128       /* bytes of the upper image, exactly: bytes 16 to 31 of ymm0 to ymm7, at 16 */
 #define CB_RETURN_IMAGE 80       /* bytes of the return image, exactly: rax, rdx at 8 bytes, xmm0, xmm1, st0, st1 at 16 */
+#define CB_RETURN_UPPER 16       /* bytes of the upper return image, exactly: bytes 16 to 31 of ymm0 */
 #define CB_LISTING_ROOM 4096     /* bytes of the buffer of cb_write_listing, exactly */
 
 /* ---- the bytes of a description: docs/FORMAT.md and kcb(5) say what each is; cb_begin, below, builds one */
@@ -61,7 +65,7 @@ extern "C" {
 #define CB_MAX_TYPES 64          /* types of one description */
 #define CB_MAX_MEMBERS 255       /* members of all its structs and unions together: a list of so many offsets is always long enough */
 #define CB_MAX_ELEMENTS 4096     /* elements of one array */
-#define CB_MAX_VALUES 16560      /* bytes of all values of one call, packed: no more than both images have */
+#define CB_MAX_VALUES 16688      /* bytes of all values of one call, packed: no more than the three images have */
 #define CB_VOID 255              /* byte 9 where nothing is returned: no type has this number */
 
 /* Byte 6: either, both or neither. */
@@ -95,7 +99,8 @@ enum cb_code {
     CB_COMPLEX_FLOAT = 12,
     CB_COMPLEX_DOUBLE = 13,
     CB_COMPLEX_LONG_DOUBLE = 14,
-    CB_POINTER = 15              /* to whatever: 8 bytes, under ILP32 4 */
+    CB_POINTER = 15,             /* to whatever: 8 bytes, under ILP32 4 */
+    CB_M256 = 16
 };
 
 /* ---- refusals */
@@ -155,11 +160,13 @@ enum cb_class {
     CB_MEMORY = 7
 };
 
-/* What cb_type_classes gives: an enum cb_class for each of two eightbytes. A lone class, CB_MEMORY and CB_COMPLEX_X87 stand first
-   with CB_NO_CLASS second. */
+/* What cb_type_classes gives: an enum cb_class for each of four eightbytes. A lone class, CB_MEMORY and CB_COMPLEX_X87 stand first
+   with CB_NO_CLASS behind; third and fourth are CB_SSEUP for a vector of 32 bytes (CB_SSE and three CB_SSEUP), else CB_NO_CLASS. */
 typedef struct cb_classes {
     uint8_t first;
     uint8_t second;
+    uint8_t third;
+    uint8_t fourth;
 } cb_classes;
 
 /* What a part is a part of. */
@@ -207,11 +214,20 @@ enum cb_register {
     CB_XMM5H = 37,
     CB_XMM6H = 38,
     CB_XMM7H = 39,
+    CB_XMM0Y = 48,      /* CB_XMM0Y + k is all 32 bytes of ymm of number k */
+    CB_XMM1Y = 49,
+    CB_XMM2Y = 50,
+    CB_XMM3Y = 51,
+    CB_XMM4Y = 52,
+    CB_XMM5Y = 53,
+    CB_XMM6Y = 54,
+    CB_XMM7Y = 55,
     CB_NONE = 255
 };
 
 /* One argument: its size and alignment in bytes, its type's number, and its place.
    In registers: first and second are an enum cb_register for each eightbyte, second is CB_NONE where there is one eightbyte, offset is 0.
+   A vector of 32 bytes has CB_XMM0Y + k first and CB_NONE second: bytes 0 to 15 in the register image, 16 to 31 in the upper image.
    On the stack: first and second are CB_NONE, and offset is its first byte in the stack image. */
 typedef struct cb_placement {
     size_t size;
@@ -224,14 +240,16 @@ typedef struct cb_placement {
 } cb_placement;
 
 /* A call as a whole.
-   Return place: two registers of enum cb_register, return_second CB_NONE for a value in one register; CB_ST0 for a long double, CB_ST0
-   and CB_ST1 for a complex one. Both are CB_NONE for void, hidden 0, and for a value in memory, hidden 1: then the host passes the
+   Return place: two registers of enum cb_register, return_second CB_NONE for a value in one register, CB_XMM0Y for a vector of 32 bytes;
+   CB_ST0 for a long double, CB_ST0 and CB_ST1 for a complex one. Both are CB_NONE for void, hidden 0, and for a value in memory, hidden 1: then the host passes the
    address of return_size bytes (in rdi), and it comes back in rax. */
 typedef struct cb_layout {
     size_t general_registers;        /* used, 0 to 6, the hidden address included */
     size_t vector_registers;         /* used, 0 to 8 */
     size_t stack_end;                /* where the last stack argument's room ends, a multiple of 8 */
-    size_t area;                     /* bytes of the stack image: stack_end rounded up to 16 */
+    size_t area;                     /* bytes of the stack image: stack_end rounded up to area_alignment */
+    size_t area_alignment;           /* of the stack image's first byte in the real stack: 32 where an argument that is aligned to 32
+                                        lies there, else 16 */
     size_t values;                   /* bytes of all values, packed */
     size_t return_size;              /* bytes of the returned value, 0 for void */
     size_t named_general_registers;  /* the first three after the named arguments alone: where a walk starts */
@@ -343,32 +361,36 @@ cb_refusal cb_tidy(const uint8_t *description, size_t description_length, uint8_
 
 /* ---- calls: moving bytes */
 
-/* Places the values, packed argument after argument, into both images, and zeros everywhere else in them. The hidden address goes
-   into rdi where one is passed, and is not looked at otherwise. The lengths are the layout's `values`, CB_REGISTER_IMAGE and the
-   layout's `area`. Refused 1 to 10, then 11 for another length, then 27 for a hidden address of 2^32 or more that is passed under
+/* Places the values, packed argument after argument, into the three images, and zeros everywhere else in them. The hidden address goes
+   into rdi where one is passed, and is not looked at otherwise. The lengths are the layout's `values`, CB_REGISTER_IMAGE,
+   CB_UPPER_IMAGE, also where no vector of 32 bytes is passed, and the layout's `area`. Refused 1 to 10, then 11 for another length, then 27 for a hidden address of 2^32 or more that is passed under
    ILP32, then 12 for a _Bool argument's byte that is not 0 or 1. */
 cb_refusal cb_place_values(const uint8_t *description, size_t description_length, uint64_t hidden,
                            const uint8_t *values, size_t values_length,
                            uint8_t *registers, size_t registers_length,
+                           uint8_t *upper, size_t upper_length,
                            uint8_t *stack, size_t stack_length, cb_placed *placed);
 
 /* The reverse: gathers the values again, packed, and the hidden address. Refused 1 to 10, then 11 as cb_place_values. */
 cb_refusal cb_gather_values(const uint8_t *description, size_t description_length,
                             const uint8_t *registers, size_t registers_length,
+                            const uint8_t *upper, size_t upper_length,
                             const uint8_t *stack, size_t stack_length,
                             uint8_t *values, size_t values_length, cb_gathered *gathered);
 
-/* Puts a returned value into the return image, and zeros everywhere else in it: what the called function leaves. A value in memory has
-   length 0 here: rax holds the hidden address, which is looked at in no other case. Any other has the layout's `return_size`, which
-   is 0 for void. Of each long double ten bytes are put, the other six are zero. Refused 1 to 10, then 11 for another length, or one
-   of the image that is not CB_RETURN_IMAGE, then 27 for a hidden address of 2^32 or more that is returned under ILP32, then 12 for a
-   returned _Bool's byte that is not 0 or 1. */
+/* Puts a returned value into the return image and the upper return image, and zeros everywhere else in them: what the called function
+   leaves. A value in memory has length 0 here: rax holds the hidden address, which is looked at in no other case. Any other has the
+   layout's `return_size`, which is 0 for void. Of each long double ten bytes are put, the other six are zero. Refused 1 to 10, then 11
+   for another length, or images whose lengths are not CB_RETURN_IMAGE and CB_RETURN_UPPER, then 27 for a hidden address of 2^32 or more
+   that is returned under ILP32, then 12 for a returned _Bool's byte that is not 0 or 1. */
 cb_refusal cb_put_returned(const uint8_t *description, size_t description_length, uint64_t hidden,
-                           const uint8_t *value, size_t value_length, uint8_t *image, size_t image_length);
+                           const uint8_t *value, size_t value_length, uint8_t *image, size_t image_length,
+                           uint8_t *upper, size_t upper_length);
 
-/* The reverse: takes the returned value out of the image, zeros for the six last bytes of a long double, and the hidden address.
+/* The reverse: takes the returned value out of the images, zeros for the six last bytes of a long double, and the hidden address.
    Refused 1 to 10, then 11 as cb_put_returned. */
 cb_refusal cb_take_returned(const uint8_t *description, size_t description_length, const uint8_t *image, size_t image_length,
+                            const uint8_t *upper, size_t upper_length,
                             uint8_t *value, size_t value_length, cb_gathered *taken);
 
 /* ---- calls: station and walk. A seat has CB_SEAT_LENGTH bytes, and belongs to one station. */
@@ -414,7 +436,7 @@ cb_refusal cb_show(const cb_station *station, const uint8_t *seat, size_t seat_l
 
 #define CB_NO_OFFSET ((size_t)-1)
 
-/* Where a register stands in the register image; CB_NO_OFFSET for one that is not there. */
+/* Where a register stands in the register image, CB_XMM0Y + k with its bytes 0 to 15; CB_NO_OFFSET for one that is not there. */
 static inline size_t cb_register_offset(uint8_t number)
 {
     if (number <= CB_R9) {
@@ -426,20 +448,31 @@ static inline size_t cb_register_offset(uint8_t number)
     if (CB_XMM0H <= number && number <= CB_XMM7H) {
         return 48 + 16 * (size_t)(number - CB_XMM0H) + 8;
     }
+    if (CB_XMM0Y <= number && number <= CB_XMM7Y) {
+        return 48 + 16 * (size_t)(number - CB_XMM0Y);
+    }
     return CB_NO_OFFSET;
+}
+
+/* Where bytes 16 to 31 of a vector of 32 bytes stand in the upper image; CB_NO_OFFSET for what is none. */
+static inline size_t cb_upper_offset(uint8_t number)
+{
+    return CB_XMM0Y <= number && number <= CB_XMM7Y ? 16 * (size_t)(number - CB_XMM0Y) : CB_NO_OFFSET;
 }
 
 /* A register's name, as the listing has it; "" for CB_NONE and for numbers that are no register. */
 static inline const char *cb_register_name(uint8_t number)
 {
-    static const char *const names[40] = {
+    static const char *const names[56] = {
         "rdi",   "rsi",   "rdx",   "rcx",   "r8",    "r9",    "rax",   "",
         "st0",   "st1",   "",      "",      "",      "",      "",      "",
         "xmm0",  "xmm1",  "xmm2",  "xmm3",  "xmm4",  "xmm5",  "xmm6",  "xmm7",
         "",      "",      "",      "",      "",      "",      "",      "",
-        "xmm0h", "xmm1h", "xmm2h", "xmm3h", "xmm4h", "xmm5h", "xmm6h", "xmm7h"
+        "xmm0h", "xmm1h", "xmm2h", "xmm3h", "xmm4h", "xmm5h", "xmm6h", "xmm7h",
+        "",      "",      "",      "",      "",      "",      "",      "",
+        "xmm0y", "xmm1y", "xmm2y", "xmm3y", "xmm4y", "xmm5y", "xmm6y", "xmm7y"
     };
-    return number < 40 ? names[number] : "";
+    return number < 56 ? names[number] : "";
 }
 
 /* What a refusal means, in a line. */
@@ -653,7 +686,7 @@ static inline cb_builder cb_begin_ilp32(void)
 /* The number of a basic type, by its enum cb_code. */
 static inline uint8_t cb_basic(cb_builder *builder, unsigned code)
 {
-    if (code > CB_POINTER) {
+    if (code > CB_M256) {
         return cb_mistake(builder, CB_WRONG_TYPE_RECORD, builder->type_count);
     }
     return cb_add_type(builder, CB_BASIC, (uint8_t)code, 0);

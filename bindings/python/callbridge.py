@@ -1,8 +1,8 @@
 """The call bridge for Python: where the arguments of a System V AMD64 call go, by description.
 
 A *description* (KCB) is a byte string that says which types one call of a foreign function takes and returns. This module says which register or
-stack slot holds each argument, moves the bytes of all values into a register image and a stack image and back, brings a returned value back, and
-walks unnamed arguments as va_arg does. Descriptions may come from strangers: what breaks the rules raises Refused, and changes nothing.
+stack slot holds each argument, moves the bytes of all values into a register image, an upper image (bytes 16 to 31 of ymm0 to ymm7) and a stack
+image and back, brings a returned value back, and walks unnamed arguments as va_arg does. Descriptions may come from strangers: what breaks the rules raises Refused, and changes nothing.
 
     >>> import callbridge
     >>> description = b'KCB' + bytes([1, 0, 2, 0, 2, 2, 255, 0, 0, 3, 0, 0, 0, 7, 0, 0, 0, 1])    # void f(int, double)
@@ -23,14 +23,16 @@ import os
 import threading
 from typing import List, NamedTuple, Optional, Tuple, Union
 
-__version__ = '3.2.0'
+__version__ = '4.0.0'
 
-INTERFACE = 3  # CB_VERSION of the header that this module is written for
+INTERFACE = 4  # CB_VERSION of the header that this module is written for
 MAX_ARGUMENTS = 64
 MAX_DESCRIPTION = 586
 SEAT_LENGTH = 586
 REGISTER_IMAGE = 176  # bytes: rdi, rsi, rdx, rcx, r8, r9 at 8, xmm0 to xmm7 at 16
+UPPER_IMAGE = 128  # bytes: bytes 16 to 31 of ymm0 to ymm7, at 16
 RETURN_IMAGE = 80  # bytes: rax, rdx at 8, xmm0, xmm1, st0, st1 at 16
+RETURN_UPPER = 16  # bytes: bytes 16 to 31 of ymm0
 LISTING_ROOM = 4096
 
 Bytes = Union[bytes, bytearray, memoryview]
@@ -96,7 +98,7 @@ def _struct(name, *fields):
 _byte, _size, _pointer = ctypes.c_uint8, ctypes.c_size_t, ctypes.POINTER
 cb_refusal = _struct('cb_refusal', ('number', _byte), ('type', _byte))
 cb_extent = _struct('cb_extent', ('size', _size), ('align', _size))
-cb_classes = _struct('cb_classes', ('first', _byte), ('second', _byte))
+cb_classes = _struct('cb_classes', ('first', _byte), ('second', _byte), ('third', _byte), ('fourth', _byte))
 cb_part = _struct('cb_part', ('offset', _size), ('length', _size), ('image', _byte), ('reserved', _byte * 7))
 cb_placement = _struct(
     'cb_placement',
@@ -114,6 +116,7 @@ cb_layout = _struct(
     ('vector_registers', _size),
     ('stack_end', _size),
     ('area', _size),
+    ('area_alignment', _size),
     ('values', _size),
     ('return_size', _size),
     ('named_general_registers', _size),
@@ -155,10 +158,10 @@ _FUNCTIONS = {
     'cb_write_listing': (_size, _in, _size, _out),
     'cb_tidy_length': (cb_refusal, _in, _size, _pointer(cb_tidied)),
     'cb_tidy': (cb_refusal, _in, _size, _out, _size),
-    'cb_place_values': (cb_refusal, _in, _size, ctypes.c_uint64, _in, _size, _out, _size, _out, _size, _pointer(cb_placed)),
-    'cb_gather_values': (cb_refusal, _in, _size, _in, _size, _in, _size, _out, _size, _pointer(cb_gathered)),
-    'cb_put_returned': (cb_refusal, _in, _size, ctypes.c_uint64, _in, _size, _out, _size),
-    'cb_take_returned': (cb_refusal, _in, _size, _in, _size, _out, _size, _pointer(cb_gathered)),
+    'cb_place_values': (cb_refusal, _in, _size, ctypes.c_uint64, _in, _size, _out, _size, _out, _size, _out, _size, _pointer(cb_placed)),
+    'cb_gather_values': (cb_refusal, _in, _size, _in, _size, _in, _size, _in, _size, _out, _size, _pointer(cb_gathered)),
+    'cb_put_returned': (cb_refusal, _in, _size, ctypes.c_uint64, _in, _size, _out, _size, _out, _size),
+    'cb_take_returned': (cb_refusal, _in, _size, _in, _size, _in, _size, _out, _size, _pointer(cb_gathered)),
     'cb_new_station': (cb_station,),
     'cb_attach': (cb_refusal, _pointer(cb_station), _out, _size, _in, _size),
     'cb_detach': (cb_refusal, _pointer(cb_station), _out, _size),
@@ -254,11 +257,11 @@ def type_extent(description: Bytes, type_number: int) -> Extent:
     return Extent(out.size, out.align)
 
 
-def type_classes(description: Bytes, type_number: int) -> Tuple[Class, Class]:
-    """The classes of the type's two eightbytes. Refused as type_extent."""
+def type_classes(description: Bytes, type_number: int) -> Tuple[Class, Class, Class, Class]:
+    """The classes of the type's first four eightbytes. Refused as type_extent."""
     d, out = _bytes(description), cb_classes()
     _accepted(_library.cb_type_classes(d, len(d), _number(type_number, 8, 'the type'), out))
-    return Class(out.first), Class(out.second)
+    return Class(out.first), Class(out.second), Class(out.third), Class(out.fourth)
 
 
 def member_run(description: Bytes, type_number: int) -> Optional[Tuple[int, ...]]:
@@ -283,7 +286,7 @@ def member_offsets(description: Bytes, type_number: int) -> Optional[Tuple[int, 
 
 
 class Register(enum.IntEnum):
-    """Registers by the header's numbers. RAX, ST0 and ST1 hold returned values only; XMM0H is the upper half of XMM0."""
+    """Registers by the header's numbers. RAX, ST0 and ST1 hold returned values only; XMM0H is the upper half of XMM0, XMM0Y all 32 bytes of ymm0."""
 
     RDI = 0
     RSI = 1
@@ -310,6 +313,14 @@ class Register(enum.IntEnum):
     XMM5H = 37
     XMM6H = 38
     XMM7H = 39
+    XMM0Y = 48
+    XMM1Y = 49
+    XMM2Y = 50
+    XMM3Y = 51
+    XMM4Y = 52
+    XMM5Y = 53
+    XMM6Y = 54
+    XMM7Y = 55
 
     def __str__(self) -> str:
         return self.name.lower()
@@ -318,12 +329,19 @@ class Register(enum.IntEnum):
 
     @property
     def offset(self) -> Optional[int]:
-        """Where it stands in the register image; None for rax, st0 and st1, which are not there."""
+        """Where it stands in the register image, XMM0Y with its bytes 0 to 15; None for rax, st0 and st1, which are not there."""
         if self <= Register.R9:
             return 8 * self
+        if self >= Register.XMM0Y:
+            return 48 + 16 * (self - Register.XMM0Y)
         if self >= Register.XMM0H:
             return 56 + 16 * (self - Register.XMM0H)
         return 48 + 16 * (self - Register.XMM0) if self >= Register.XMM0 else None
+
+    @property
+    def upper_offset(self) -> Optional[int]:
+        """Where bytes 16 to 31 of XMM0Y to XMM7Y stand in the upper image; None for the others."""
+        return 16 * (self - Register.XMM0Y) if self >= Register.XMM0Y else None
 
 
 _NONE = 255
@@ -352,14 +370,15 @@ class Layout(NamedTuple):
     """A call as a whole.
 
     `returned` has the registers of the returned value: none for void, `hidden` false, and for a value in memory, `hidden` true, whose address the
-    host passes in rdi. `area` is the length of the stack image, `values` that of all values, packed, `return_size` that of the returned value, in
-    memory too, and 0 for void; the three `named_` numbers are where a walk starts.
+    host passes in rdi. `area` is the length of the stack image, which begins at a multiple of `area_alignment`, 16 or 32; `values` is that of all
+    values, packed, `return_size` that of the returned value, in memory too, and 0 for void; the three `named_` numbers are where a walk starts.
     """
 
     general_registers: int
     vector_registers: int
     stack_end: int
     area: int
+    area_alignment: int
     values: int
     return_size: int
     named_general_registers: int
@@ -382,7 +401,7 @@ def _registers(first: int, second: int) -> Tuple[Register, ...]:
 
 
 def _layout(of) -> Layout:
-    numbers = [getattr(of, name) for name in Layout._fields[:10]]
+    numbers = [getattr(of, name) for name in Layout._fields[:11]]
     return Layout(*numbers, _registers(of.return_first, of.return_second), of.hidden != 0)
 
 
@@ -445,9 +464,10 @@ def tidy(description: Bytes) -> bytes:
 
 
 class Placed(NamedTuple):
-    """Both images, and the vector registers used, which a variadic function wants in al."""
+    """The three images, and the vector registers used, which a variadic function wants in al."""
 
     registers: bytes
+    upper: bytes
     stack: bytes
     vector_registers: int
 
@@ -459,52 +479,60 @@ class Gathered(NamedTuple):
     hidden: int
 
 
+class ReturnImages(NamedTuple):
+    """What a called function leaves: the return image and the upper return image."""
+
+    image: bytes
+    upper: bytes
+
+
 def place_values(description: Bytes, values: Bytes, hidden: int = 0) -> Placed:
-    """Places the values, packed argument after argument, and zeros everywhere else in both images.
+    """Places the values, packed argument after argument, and zeros everywhere else in the three images.
 
     The hidden address goes into rdi where one is passed, and is not looked at otherwise. Refused 1 to 10, then 11 for another length of values than
     the layout's, then 27 for a hidden address of 2^32 or more that is passed in ILP32, then 12 for a _Bool argument's byte that is not 0 or 1.
     """
     d, v, address = _bytes(description), _bytes(values), _number(hidden, 64, 'the hidden address')
     area = layout_of(d).area
-    registers, stack, out = _room(REGISTER_IMAGE), _room(area), cb_placed()
-    _accepted(_library.cb_place_values(d, len(d), address, v, len(v), registers, REGISTER_IMAGE, stack, area, out))
-    return Placed(registers.raw[:REGISTER_IMAGE], stack.raw[:area], out.vector_registers)
+    registers, upper, stack, out = _room(REGISTER_IMAGE), _room(UPPER_IMAGE), _room(area), cb_placed()
+    _accepted(_library.cb_place_values(d, len(d), address, v, len(v), registers, REGISTER_IMAGE, upper, UPPER_IMAGE, stack, area, out))
+    return Placed(registers.raw[:REGISTER_IMAGE], upper.raw[:UPPER_IMAGE], stack.raw[:area], out.vector_registers)
 
 
-def gather_values(description: Bytes, registers: Bytes, stack: Bytes) -> Gathered:
+def gather_values(description: Bytes, registers: Bytes, upper: Bytes, stack: Bytes) -> Gathered:
     """The reverse: the values, packed, and the hidden address. Refused 1 to 10, then 11 for an image of another length than the call's."""
-    d, r, s = _bytes(description), _bytes(registers), _bytes(stack)
+    d, r, u, s = _bytes(description), _bytes(registers), _bytes(upper), _bytes(stack)
     length = layout_of(d).values
     values, out = _room(length), cb_gathered()
-    _accepted(_library.cb_gather_values(d, len(d), r, len(r), s, len(s), values, length, out))
+    _accepted(_library.cb_gather_values(d, len(d), r, len(r), u, len(u), s, len(s), values, length, out))
     return Gathered(values.raw[:length], out.hidden)
 
 
 def _returned_length(description: bytes) -> int:
-    """Bytes of the returned value in the return image: 0 for void and for a value in memory."""
+    """Bytes of the returned value in the return images: 0 for void and for a value in memory."""
     layout = layout_of(description)
     return 0 if layout.hidden else layout.return_size
 
 
-def put_returned(description: Bytes, value: Bytes, hidden: int = 0) -> bytes:
-    """The return image that the called function leaves: the value, and zeros everywhere else.
+def put_returned(description: Bytes, value: Bytes, hidden: int = 0) -> ReturnImages:
+    """The return images that the called function leaves: the value, and zeros everywhere else.
 
     void has no byte here, and neither has a value in memory: rax then holds the hidden address. Of each long double ten bytes are put, the other six
     are zero. Refused 1 to 10, then 11 for a length other than the returned type's, then 27 for a hidden address of 2^32 or more that is
     returned in ILP32, then 12 for a returned _Bool's byte that is not 0 or 1.
     """
-    d, v, image = _bytes(description), _bytes(value), _room(RETURN_IMAGE)
-    _accepted(_library.cb_put_returned(d, len(d), _number(hidden, 64, 'the hidden address'), v, len(v), image, RETURN_IMAGE))
-    return image.raw[:RETURN_IMAGE]
+    d, v, image, upper = _bytes(description), _bytes(value), _room(RETURN_IMAGE), _room(RETURN_UPPER)
+    address = _number(hidden, 64, 'the hidden address')
+    _accepted(_library.cb_put_returned(d, len(d), address, v, len(v), image, RETURN_IMAGE, upper, RETURN_UPPER))
+    return ReturnImages(image.raw[:RETURN_IMAGE], upper.raw[:RETURN_UPPER])
 
 
-def take_returned(description: Bytes, image: Bytes) -> Gathered:
-    """The reverse: the returned value out of the return image, and the hidden address. Refused 1 to 10, then 11 for another length of the image."""
-    d, i = _bytes(description), _bytes(image)
+def take_returned(description: Bytes, image: Bytes, upper: Bytes) -> Gathered:
+    """The reverse: the returned value out of the return images, and the hidden address. Refused 1 to 10, then 11 for another length of an image."""
+    d, i, u = _bytes(description), _bytes(image), _bytes(upper)
     length = _returned_length(d)
     value, out = _room(length), cb_gathered()
-    _accepted(_library.cb_take_returned(d, len(d), i, len(i), value, length, out))
+    _accepted(_library.cb_take_returned(d, len(d), i, len(i), u, len(u), value, length, out))
     return Gathered(value.raw[:length], out.hidden)
 
 
@@ -600,7 +628,7 @@ class Walk:
         return self._walk.overflow
 
     def step(self, registers: Bytes, stack: Bytes, type_number: int) -> bytes:
-        """The bytes of the next argument, of the type with this number, out of the two images; moves on.
+        """The bytes of the next argument, of the type with this number, out of two of the images; moves on. No unnamed one is in the upper image.
 
         Refused 11 for the length of an image, 13 where nothing is attached, 17 for a walk of another attachment, 19 at the end, 20 for another type.
         """

@@ -28,7 +28,7 @@ CODE = re.sub(r'/\*.*?\*/', '', HEADER, flags=re.S)
 # int 7, struct {1.5, 9}, a long double, 2.5, an __int128.
 VALUES = struct.pack('<idq', 7, 1.5, 9) + (0x3FFF8000000000000000).to_bytes(16, 'little') + struct.pack('<d', 2.5) + (1 << 100).to_bytes(16, 'little')
 INT, DOUBLE, LONG_DOUBLE, BOOL = bytes([0, 3, 0, 0]), bytes([0, 7, 0, 0]), bytes([0, 8, 0, 0]), bytes([0, 0, 0, 0])
-POINTER = bytes([0, 15, 0, 0])
+POINTER, VECTOR = bytes([0, 15, 0, 0]), bytes([0, 16, 0, 0])
 
 
 def described(types, arguments, returns=255, members=b'', named=None):
@@ -96,7 +96,7 @@ class Header(Case):
     def test_numbers(self):
         defined = dict(re.findall(r'#define CB_(\w+) +(\d+)', CODE))
         self.assertEqual(int(defined['VERSION']), callbridge.INTERFACE)
-        for name in ('MAX_ARGUMENTS', 'MAX_DESCRIPTION', 'SEAT_LENGTH', 'REGISTER_IMAGE', 'RETURN_IMAGE', 'LISTING_ROOM'):
+        for name in ('MAX_ARGUMENTS', 'MAX_DESCRIPTION', 'SEAT_LENGTH', 'REGISTER_IMAGE', 'UPPER_IMAGE', 'RETURN_IMAGE', 'RETURN_UPPER', 'LISTING_ROOM'):
             self.assertEqual(int(defined[name]), getattr(callbridge, name), name)
         for kind, own in (('cb_class', Class), ('cb_register', Register)):
             listed = re.search(r'enum %s \{(.*?)\};' % kind, CODE, flags=re.S).group(1)
@@ -149,7 +149,7 @@ class Raw(Case):
     def test_reserved_bytes(self):
         layout, placements = rubbish(callbridge.cb_layout), rubbish(callbridge.cb_placement * 6)
         self.assertEqual(self.library.cb_lay_out(MIXED, len(MIXED), layout, placements, 4).number, 11)
-        self.assertEqual((bytes(layout), bytes(placements)), (b'\xa5' * 88, b'\xa5' * 192))
+        self.assertEqual((bytes(layout), bytes(placements)), (b'\xa5' * 96, b'\xa5' * 192))
         self.assertEqual(self.library.cb_lay_out(MIXED, len(MIXED), layout, placements, 6).number, 0)
         self.assertEqual((bytes(layout.reserved), bytes(placements)[160:]), (bytes(5), b'\xa5' * 32))
         self.assertEqual([bytes(one.reserved) for one in placements[:5]], [bytes(5)] * 5)
@@ -187,15 +187,17 @@ class Raw(Case):
     def test_an_empty_buffer_may_be_null(self):
         self.assertEqual(self.library.cb_check(None, 0).number, 1)
         nothing, registers, placed = described([], []), ctypes.create_string_buffer(b'x' * 176, 176), rubbish(callbridge.cb_placed)
-        refusal = self.library.cb_place_values(nothing, len(nothing), 7, None, 0, registers, 176, None, 0, placed)
-        self.assertEqual((refusal.number, placed.vector_registers, registers.raw), (0, 0, bytes(176)))
+        upper = ctypes.create_string_buffer(b'x' * 128, 128)
+        self.assertEqual(self.library.cb_place_values(nothing, len(nothing), 7, None, 0, registers, 176, None, 0, None, 0, placed).number, 11)
+        refusal = self.library.cb_place_values(nothing, len(nothing), 7, None, 0, registers, 176, upper, 128, None, 0, placed)
+        self.assertEqual((refusal.number, placed.vector_registers, registers.raw, upper.raw), (0, 0, bytes(176), bytes(128)))
 
 
 class Types(Case):
     def test_questions(self):
         self.assertIsNone(callbridge.check(MIXED))
         self.assertEqual(callbridge.type_extent(MIXED, 3), (16, 8))
-        self.assertEqual(callbridge.type_classes(MIXED, 3), (Class.SSE, Class.INTEGER))
+        self.assertEqual(callbridge.type_classes(MIXED, 3), (Class.SSE, Class.INTEGER, Class.NO_CLASS, Class.NO_CLASS))
         self.assertEqual(callbridge.member_run(MIXED, 3), (1, 2))
         self.assertIsNone(callbridge.member_run(MIXED, 0))
         self.assertEqual(callbridge.member_offsets(MIXED, 3), (0, 8))
@@ -222,9 +224,9 @@ class Types(Case):
             self.refused(number, callbridge.tidy_length, d, type_number=wrong)
             self.refused(number, callbridge.tidy, d, type_number=wrong)
             self.refused(number, callbridge.place_values, d, VALUES, type_number=wrong)
-            self.refused(number, callbridge.gather_values, d, bytes(176), b'', type_number=wrong)
+            self.refused(number, callbridge.gather_values, d, bytes(176), bytes(128), b'', type_number=wrong)
             self.refused(number, callbridge.put_returned, d, bytes(8), type_number=wrong)
-            self.refused(number, callbridge.take_returned, d, bytes(80), type_number=wrong)
+            self.refused(number, callbridge.take_returned, d, bytes(80), bytes(16), type_number=wrong)
             self.refused(number, Station().attach, d, type_number=wrong)
         refusal = self.refused(1, callbridge.check, b'')
         self.assertEqual(str(refusal), 'refused 1: the description has under 11 bytes')
@@ -253,7 +255,7 @@ class Layouts(Case):
     def test_places(self):
         layout, placements = callbridge.lay_out(MIXED)
         self.assertEqual(callbridge.layout_of(MIXED), layout)
-        self.assertEqual(layout, (4, 2, 16, 16, 60, 8, 2, 1, 16, 5, (Register.XMM0,), False))
+        self.assertEqual(layout, (4, 2, 16, 16, 16, 60, 8, 2, 1, 16, 5, (Register.XMM0,), False))
         self.assertEqual([str(one.place) for one in placements], ['rdi', 'xmm0 rsi', 'stack 0', 'xmm1', 'rdx rcx'])
         self.assertEqual([one[:3] for one in placements], [(0, 4, 4), (3, 16, 8), (4, 16, 16), (1, 8, 8), (5, 16, 16)])
         self.assertEqual(placements[2].place, ((), 0))
@@ -267,7 +269,8 @@ class Layouts(Case):
     def test_registers(self):
         self.assertEqual([one.offset for one in (Register.RDI, Register.R9, Register.XMM0, Register.XMM7, Register.XMM0H, Register.XMM7H)], [0, 40, 48, 160, 56, 168])
         self.assertEqual([one.offset for one in (Register.RAX, Register.ST0, Register.ST1)], [None] * 3)
-        self.assertEqual(f'{Register.XMM3H} {Register.R8}', 'xmm3h r8')
+        self.assertEqual([(one.offset, one.upper_offset) for one in (Register.XMM0Y, Register.XMM7Y, Register.XMM7)], [(48, 0), (160, 112), (160, None)])
+        self.assertEqual(f'{Register.XMM3H} {Register.R8} {Register.XMM5Y}', 'xmm3h r8 xmm5y')
 
     def test_sixty_four_arguments(self):
         layout, placements = callbridge.lay_out(described([INT], [0] * 64))
@@ -309,31 +312,47 @@ class Moving(Case):
         placed = callbridge.place_values(MIXED, VALUES)
         self.assertEqual((len(placed.registers), len(placed.stack), placed.vector_registers), (176, 16, 2))
         self.assertEqual((placed.registers[:8], placed.registers[48:56]), (bytes([7, 0, 0, 0, 0, 0, 0, 0]), struct.pack('<d', 1.5)))
-        self.assertEqual(callbridge.gather_values(MIXED, placed.registers, placed.stack), (VALUES, 0))
+        self.assertEqual(callbridge.gather_values(MIXED, placed.registers, placed.upper, placed.stack), (VALUES, 0))
         self.refused(11, callbridge.place_values, MIXED, VALUES[1:])
-        self.refused(11, callbridge.gather_values, MIXED, placed.registers[1:], placed.stack)
-        self.refused(11, callbridge.gather_values, MIXED, placed.registers, placed.stack + b'0')
+        self.refused(11, callbridge.gather_values, MIXED, placed.registers[1:], placed.upper, placed.stack)
+        self.refused(11, callbridge.gather_values, MIXED, placed.registers, placed.upper[1:], placed.stack)
+        self.refused(11, callbridge.gather_values, MIXED, placed.registers, placed.upper, placed.stack + b'0')
         self.refused(12, callbridge.place_values, described([BOOL], [0]), b'\2')
 
     def test_no_argument_and_no_stack(self):
         nothing = described([INT], [])
         self.assertEqual(callbridge.layout_of(nothing).return_size, 0)
         placed = callbridge.place_values(nothing, b'')
-        self.assertEqual(placed, (bytes(176), b'', 0))
-        self.assertEqual(callbridge.gather_values(nothing, placed.registers, b''), (b'', 0))
-        self.assertEqual(callbridge.put_returned(nothing, b''), bytes(80))
-        self.assertEqual(callbridge.take_returned(nothing, bytes(80)), (b'', 0))
+        self.assertEqual(placed, (bytes(176), bytes(128), b'', 0))
+        self.assertEqual(callbridge.gather_values(nothing, placed.registers, placed.upper, b''), (b'', 0))
+        self.assertEqual(callbridge.put_returned(nothing, b''), (bytes(80), bytes(16)))
+        self.assertEqual(callbridge.take_returned(nothing, bytes(80), bytes(16)), (b'', 0))
+
+    def test_vectors_of_32_bytes(self):
+        d = described([VECTOR, DOUBLE], [1, 0, 0], returns=0, named=2)
+        self.assertEqual(callbridge.type_classes(d, 0), (Class.SSE, Class.SSEUP, Class.SSEUP, Class.SSEUP))
+        layout, placements = callbridge.lay_out(d)
+        self.assertEqual([str(one.place) for one in placements], ['xmm0', 'xmm1y', 'stack 0'])
+        self.assertEqual((layout.vector_registers, layout.area, layout.area_alignment, layout.returned), (2, 32, 32, (Register.XMM0Y,)))
+        values = bytes(range(1, 73))
+        placed = callbridge.place_values(d, values)
+        self.assertEqual((placed.registers[64:80], placed.upper, placed.stack), (values[8:24], bytes(16) + values[24:40] + bytes(96), values[40:]))
+        self.assertEqual(callbridge.gather_values(d, placed.registers, placed.upper, placed.stack), (values, 0))
+        images = callbridge.put_returned(d, values[:32])
+        self.assertEqual((images.image[16:32], images.upper), (values[:16], values[16:32]))
+        self.assertEqual(callbridge.take_returned(d, *images), (values[:32], 0))
+        self.refused(11, callbridge.take_returned, d, images.image, b'')
 
     def test_a_returned_value_comes_back(self):
         level = struct.pack('<d', 0.25)
-        image = callbridge.put_returned(MIXED, level)
-        self.assertEqual(image, bytes(16) + level + bytes(56))
-        self.assertEqual(callbridge.take_returned(MIXED, image), (level, 0))
+        image, upper = callbridge.put_returned(MIXED, level)
+        self.assertEqual((image, upper), (bytes(16) + level + bytes(56), bytes(16)))
+        self.assertEqual(callbridge.take_returned(MIXED, image, upper), (level, 0))
         self.refused(11, callbridge.put_returned, MIXED, b'')
-        self.refused(11, callbridge.take_returned, MIXED, image[1:])
+        self.refused(11, callbridge.take_returned, MIXED, image[1:], upper)
         self.refused(12, callbridge.put_returned, described([BOOL], [], returns=0), b'\3')
         ten = described([LONG_DOUBLE], [], returns=0)
-        self.assertEqual(callbridge.take_returned(ten, callbridge.put_returned(ten, bytes(range(1, 17)))), (bytes(range(1, 11)) + bytes(6), 0))
+        self.assertEqual(callbridge.take_returned(ten, *callbridge.put_returned(ten, bytes(range(1, 17)))), (bytes(range(1, 11)) + bytes(6), 0))
 
     def test_a_value_in_memory(self):
         large = described([DOUBLE, bytes([2, 0, 3, 0])], [0], returns=1, members=bytes([0, 0, 0]))
@@ -342,9 +361,9 @@ class Moving(Case):
         address = 0xFEDCBA9876543210
         placed = callbridge.place_values(large, bytes(8), address)
         self.assertEqual(placed.registers[:8], address.to_bytes(8, 'little'))
-        self.assertEqual(callbridge.gather_values(large, placed.registers, placed.stack).hidden, address)
-        image = callbridge.put_returned(large, b'', address)
-        self.assertEqual(callbridge.take_returned(large, image), (b'', address))
+        self.assertEqual(callbridge.gather_values(large, placed.registers, placed.upper, placed.stack).hidden, address)
+        images = callbridge.put_returned(large, b'', address)
+        self.assertEqual(callbridge.take_returned(large, *images), (b'', address))
 
     def test_ilp32(self):
         pointers = bytearray(described([POINTER, bytes([2, 0, 3, 0])], [0] * 7, returns=1, members=bytes([0] * 3)))
@@ -364,13 +383,13 @@ class Moving(Case):
         low = (1 << 32) - 1
         placed = callbridge.place_values(large, bytes(1), low)
         self.assertEqual(placed.registers[:8], low.to_bytes(8, 'little'))
-        self.assertEqual(callbridge.take_returned(large, callbridge.put_returned(large, b'', low)), (b'', low))
+        self.assertEqual(callbridge.take_returned(large, *callbridge.put_returned(large, b'', low)), (b'', low))
         refusal = self.refused(27, callbridge.place_values, large, b'\2', 1 << 32)  # and not 12
         self.assertEqual(refusal.text, 'the hidden address is 2^32 or more, where a pointer has 4 bytes')
         self.refused(12, callbridge.place_values, large, b'\2', low)
         self.refused(27, callbridge.put_returned, large, b'', 1 << 32)
         wide = bytes([0, 0, 0, 0, 1]) + bytes(171)  # gathering answers all 64 bits
-        self.assertEqual(callbridge.gather_values(large, wide, b''), (b'\0', 1 << 32))
+        self.assertEqual(callbridge.gather_values(large, wide, bytes(128), b''), (b'\0', 1 << 32))
 
 
 class Walks(Case):
@@ -492,7 +511,7 @@ class Anything(Case):
             values = bytes(one & 1 for one in noise(chance, layout.values))
             self.assertEqual(sum(one.size for one in placements), layout.values)
             placed = callbridge.place_values(d, values, 99)
-            self.assertEqual(callbridge.gather_values(d, placed.registers, placed.stack), (values, 99 if layout.hidden else 0))
+            self.assertEqual(callbridge.gather_values(d, placed.registers, placed.upper, placed.stack), (values, 99 if layout.hidden else 0))
             station = Station()
             station.attach(d)
             at = sum(one.size for one in placements[: d[7]])

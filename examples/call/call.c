@@ -6,6 +6,11 @@
 
 static const cb_refusal accepted = {CB_ACCEPTED, 0}, wrong_size = {CB_WRONG_BUFFER, 0};
 
+/* jump.S has the same numbers. */
+_Static_assert(offsetof(call_frame, wide) == 40 && offsetof(call_frame, registers) == 48 && offsetof(call_frame, upper) == 224 &&
+                   offsetof(call_frame, returned) == 352 && offsetof(call_frame, returned_upper) == 432,
+               "the frame is as jump.S finds it");
+
 int call_refused(cb_refusal refusal)
 {
     if (refusal.number != CB_ACCEPTED) {
@@ -18,6 +23,15 @@ int call_refused(cb_refusal refusal)
 size_t call_x87(const cb_layout *layout)
 {
     return (size_t)(layout->return_first == CB_ST0) + (size_t)(layout->return_second == CB_ST1);
+}
+
+size_t call_wide(const cb_layout *layout, const cb_placement *arguments)
+{
+    int wide = layout->return_first == CB_XMM0Y;
+    for (size_t i = 0; i < layout->arguments; i++) {
+        wide |= cb_upper_offset(arguments[i].first) != CB_NO_OFFSET;
+    }
+    return wide && __builtin_cpu_supports("avx");
 }
 
 /* Packs the values, argument after argument; refused where one has not its type's size. */
@@ -46,28 +60,37 @@ cb_refusal call_function(call_target function, const uint8_t *description, size_
         return refusal;
     }
 
-    _Alignas(16) uint8_t unwanted[CB_MAX_TYPE];
+    _Alignas(32) uint8_t unwanted[CB_MAX_TYPE];
     if (result == NULL && result_size == 0) {
         result = unwanted;
     } else if (result_size != layout.return_size) {
         return wrong_size;
     }
 
-    uint8_t packed[CB_MAX_VALUES], registers[CB_REGISTER_IMAGE], stack[CB_MAX_AREA];
+    uint8_t packed[CB_MAX_VALUES], stack[CB_MAX_AREA];
+    call_frame frame;
     cb_placed placed;
     refusal = pack(&layout, arguments, values, count, packed);
     if (refusal.number != CB_ACCEPTED) {
         return refusal;
     }
-    refusal = cb_place_values(description, length, (uintptr_t)result, packed, layout.values, registers, sizeof registers, stack,
-                              layout.area, &placed);
+    refusal = cb_place_values(description, length, (uintptr_t)result, packed, layout.values, frame.registers, sizeof frame.registers,
+                              frame.upper, sizeof frame.upper, stack, layout.area, &placed);
     if (refusal.number != CB_ACCEPTED) {
         return refusal;
     }
 
-    uint8_t returned[CB_RETURN_IMAGE] = {0};
-    jump(function, registers, stack, layout.area, placed.vector_registers, returned, call_x87(&layout));
+    frame.stack = stack;
+    frame.area = layout.area;
+    frame.alignment = layout.area_alignment;
+    frame.vectors = placed.vector_registers;
+    frame.x87 = call_x87(&layout);
+    frame.wide = call_wide(&layout, arguments);
+    memset(frame.returned, 0, sizeof frame.returned);
+    memset(frame.returned_upper, 0, sizeof frame.returned_upper);
+    jump(function, &frame);
     /* A value in memory is at its address already, and has length 0 here. */
     cb_gathered taken;
-    return cb_take_returned(description, length, returned, sizeof returned, result, layout.hidden ? 0 : layout.return_size, &taken);
+    return cb_take_returned(description, length, frame.returned, sizeof frame.returned, frame.returned_upper,
+                            sizeof frame.returned_upper, result, layout.hidden ? 0 : layout.return_size, &taken);
 }

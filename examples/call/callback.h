@@ -13,7 +13,7 @@
 extern "C" {
 #endif
 
-/* What is called: values[i] is argument i, aligned to 16, the result goes where the last pointer says, in exactly the bytes of the
+/* What is called: values[i] is argument i, aligned to 32, the result goes where the last pointer says, in exactly the bytes of the
    returned type. The values are gone when the handler returns. */
 typedef void callback_handler(void *user, const void *const *values, void *result);
 

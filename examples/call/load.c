@@ -4,7 +4,7 @@
        gcc -I include examples/call/load.c examples/call/ca*.[cS] examples/call/jump.S target/staticlib/libcallbridge.a -ldl -o target/load
        target/load target/module.so
 
-   examples/call/load.out is what it prints. */
+   examples/call/load.out is what it prints; on a processor without AVX it ends before the last three lines. */
 #include "callback.h"
 #include "module.h"
 
@@ -209,6 +209,41 @@ static void call_crowd(void)
     printf("crowd: %.17g\n", result);
 }
 
+static void print_eight(const char *name, const eight *of)
+{
+    printf("%s:", name);
+    for (int i = 0; i < 8; i++) {
+        printf(" %g", (*of)[i]);
+    }
+    printf("\n");
+}
+
+/* What is passed here lies in memory: this program has no AVX code itself, but for jump.S and callback.S. */
+static const eight counted = {1, 2, 3, 4, 5, 6, 7, 8};
+
+static void call_with_vectors(void)
+{
+    cb_builder scales = cb_begin(), sums = cb_begin();
+    eight result;
+    float by = 0.5f;
+    char first = 19;
+    const call_value two[] = {CALL_VALUE(counted), CALL_VALUE(by)};
+    cb_returns(&scales, cb_basic(&scales, CB_M256));
+    cb_argument(&scales, cb_basic(&scales, CB_M256));
+    cb_argument(&scales, cb_basic(&scales, CB_FLOAT));
+    call(found(module, "scaled"), &scales, two, COUNT(two), &result, sizeof result);
+    print_eight("scaled", &result);
+
+    call_value ten[10];
+    cb_returns(&sums, cb_basic(&sums, CB_M256));
+    for (size_t i = 0; i < COUNT(ten); i++) {
+        ten[i] = i == 8 ? (call_value)CALL_VALUE(first) : (call_value)CALL_VALUE(counted);
+        cb_argument(&sums, cb_basic(&sums, i == 8 ? CB_CHAR : CB_M256));
+    }
+    call(found(module, "summed"), &sums, ten, COUNT(ten), &result, sizeof result);
+    print_eight("summed", &result);
+}
+
 static void call_misalignment(void)
 {
     cb_builder b = cb_begin();
@@ -389,6 +424,34 @@ static void be_called_by_told(void)
     printf("told: %g\n", result);
 }
 
+/* eight (*)(eight, double, eight) */
+static void blend(void *user, const void *const *values, void *result)
+{
+    const eight *one = values[0], *other = values[2];
+    float part = (float)*(const double *)values[1];
+    (void)user;
+    *(eight *)result = *one * part + *other * (1 - part);
+}
+
+static void be_called_by_blended(void)
+{
+    cb_builder blends = cb_begin(), b = cb_begin();
+    eight other = -counted, result;
+    cb_returns(&blends, cb_basic(&blends, CB_M256));
+    cb_argument(&blends, cb_basic(&blends, CB_M256));
+    cb_argument(&blends, cb_basic(&blends, CB_DOUBLE));
+    cb_argument(&blends, cb_basic(&blends, CB_M256));
+    call_target callback = made(&blends, blend, NULL);
+    const call_value values[] = {CALL_VALUE(counted), CALL_VALUE(other), CALL_VALUE(callback)};
+    cb_returns(&b, cb_basic(&b, CB_M256));
+    cb_argument(&b, cb_basic(&b, CB_M256));
+    cb_argument(&b, cb_basic(&b, CB_M256));
+    cb_argument(&b, cb_basic(&b, CB_POINTER));
+    call(found(module, "blended"), &b, values, COUNT(values), &result, sizeof result);
+    callback_drop(callback);
+    print_eight("blended", &result);
+}
+
 int main(int count, char **words)
 {
     module = dlopen(count == 2 ? words[1] : "./module.so", RTLD_NOW);
@@ -411,5 +474,9 @@ int main(int count, char **words)
     be_called_by_through();
     be_called_by_best();
     be_called_by_told();
+    if (__builtin_cpu_supports("avx")) { /* the module's functions are not for other processors */
+        call_with_vectors();
+        be_called_by_blended();
+    }
     return 0;
 }

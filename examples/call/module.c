@@ -81,6 +81,16 @@ size_t misalignment(chord unused, long double unused_too, char last)
     return (uintptr_t)__builtin_frame_address(0) % 16;
 }
 
+WITH_AVX eight scaled(eight of, float by)
+{
+    return of * by;
+}
+
+WITH_AVX eight summed(eight a, eight b, eight c, eight d, eight e, eight f, eight g, eight h, char first, eight last)
+{
+    return a + 2 * b + 3 * c + 5 * d + 7 * e + 11 * f + 13 * g + 17 * h + (float)first * last;
+}
+
 long double weight(const note *notes, size_t count, long double (*weigh)(note))
 {
     long double sum = 0;
@@ -108,4 +118,9 @@ note best(note one, note other, note (*choose)(note, note))
 double told(double (*tell)(int, ...))
 {
     return tell(3, 0.25, 7L, 0.5L);
+}
+
+WITH_AVX eight blended(eight one, eight other, eight (*blend)(eight, double, eight))
+{
+    return 2 * blend(one, 0.25, other);
 }

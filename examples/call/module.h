@@ -17,6 +17,10 @@ typedef struct chord { /* over 16 bytes: MEMORY */
     long keys[4];
 } chord;
 
+/* Eight floats in one vector register of 32 bytes, as __m256. Functions that pass one are for processors with AVX. */
+typedef float eight __attribute__((vector_size(32)));
+#define WITH_AVX __attribute__((target("avx")))
+
 /* A struct by value, and one that comes back in two registers. */
 double loudness(note of);
 note louder(note than, double by);
@@ -44,11 +48,16 @@ double crowd(long a, double b, chord c, long d, long e, long f, long g, long h, 
 /* 0 where the stack was aligned when it was called. */
 size_t misalignment(chord unused, long double unused_too, char last);
 
+/* In vector registers of 32 bytes, the last of nine on the stack. */
+WITH_AVX eight scaled(eight of, float by);
+WITH_AVX eight summed(eight a, eight b, eight c, eight d, eight e, eight f, eight g, eight h, char first, eight last);
+
 /* They call back. */
 long double weight(const note *notes, size_t count, long double (*weigh)(note));
 chord changed(chord of, chord (*change)(chord, long));
 long double complex through(long double complex number, long double complex (*by)(long double complex));
 note best(note one, note other, note (*choose)(note, note));
 double told(double (*tell)(int, ...));
+WITH_AVX eight blended(eight one, eight other, eight (*blend)(eight, double, eight));
 
 #endif

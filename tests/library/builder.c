@@ -275,12 +275,12 @@ static void empty(void)
     expect("finishing changes nothing", (size_t)memcmp(&b, &copy, sizeof b), 0);
 }
 
-/* CB_MAX_VALUES is reached, and the area with it: both images are full. */
+/* CB_MAX_VALUES is reached, and the area with it: the three images are full. */
 static void most_values(void)
 {
     cb_builder b = cb_begin();
     uint8_t out[CB_MAX_DESCRIPTION], block = cb_array(&b, cb_basic(&b, CB_CHAR), CB_MAX_TYPE);
-    uint8_t large = cb_struct(&b, &block, 1), integer = cb_basic(&b, CB_LONG), vector = cb_basic(&b, CB_M128);
+    uint8_t large = cb_struct(&b, &block, 1), integer = cb_basic(&b, CB_LONG), vector = cb_basic(&b, CB_M256);
     cb_layout layout;
     for (int i = 0; i < 8; i++) {
         cb_argument(&b, vector);
@@ -295,13 +295,12 @@ static void most_values(void)
     refused("the layout of the most values", cb_layout_of(out, length, &layout), CB_ACCEPTED, 0);
     expect("the most values", layout.values, CB_MAX_VALUES);
     expect("the largest area", layout.area, CB_MAX_AREA);
-    expect("CB_MAX_VALUES", CB_MAX_VALUES, CB_MAX_AREA + CB_REGISTER_IMAGE);
+    expect("CB_MAX_VALUES", CB_MAX_VALUES, CB_MAX_AREA + CB_REGISTER_IMAGE + CB_UPPER_IMAGE);
 }
 
 #ifndef __cplusplus
-#include <mmintrin.h>
+#include <immintrin.h>
 #include <stdbool.h>
-#include <xmmintrin.h>
 
 /* Each code is the type that its name says: gcc's sizes and alignments. */
 #define SAME(code, type)                                                                             \
@@ -336,6 +335,7 @@ static void codes(void)
     SAME(CB_COMPLEX_DOUBLE, double _Complex);
     SAME(CB_COMPLEX_LONG_DOUBLE, long double _Complex);
     SAME(CB_POINTER, void *);
+    SAME(CB_M256, __m256);
 }
 #else
 static void codes(void)

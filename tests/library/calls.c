@@ -55,14 +55,15 @@ static void fill(uint8_t *bytes, size_t count)
 
 /* ---- the jump alone */
 
-/* Of probe.s: what it found, and what it gives back. */
+/* Of probe.s: what it found, and what it gives back, the upper return image behind the other. */
 void probe(void);
-uint8_t probe_registers[CB_REGISTER_IMAGE], probe_stack[CB_MAX_AREA], return_image[CB_RETURN_IMAGE], source[1], *entered_stack;
-uint64_t probe_rax, probe_area, return_size;
-uint32_t return_kind;
+uint8_t probe_registers[CB_REGISTER_IMAGE], probe_upper[CB_UPPER_IMAGE], upper[CB_UPPER_IMAGE], probe_stack[CB_MAX_AREA];
+uint8_t return_image[CB_RETURN_IMAGE + CB_RETURN_UPPER], source[1], *entered_stack;
+uint64_t probe_rax, probe_area, probe_start, area_alignment, return_size;
+uint32_t return_kind, judged_wide; /* judged_wide: 1 where the processor has AVX */
 
 /* Of kept.S. */
-size_t kept(const uint64_t *arguments);
+size_t kept(call_target function, call_frame *frame);
 
 /* The numbers on the x87 stack. */
 static size_t x87_depth(void)
@@ -78,37 +79,55 @@ static size_t x87_depth(void)
     return count;
 }
 
-/* Any bytes in both images, and any that come back. */
+/* Any bytes in the images, and any that come back. */
 static void jump_to_probe(void)
 {
-    static uint8_t registers[CB_REGISTER_IMAGE + 1], stack[CB_MAX_AREA + 1], returned[CB_RETURN_IMAGE + 1], should[CB_RETURN_IMAGE + 1];
-    size_t odd = below(2), area = 16 * below(below(4) == 0 ? CB_MAX_AREA / 16 + 1 : 20), x87 = below(3), vectors = below(9);
-    fill(registers + odd, CB_REGISTER_IMAGE);
-    fill(stack + odd, area);
+    static uint8_t stack[CB_MAX_AREA + 1], should[CB_RETURN_IMAGE];
+    size_t odd = below(2), alignment = 16 + 16 * below(2);
+    static call_frame frame;
+    memset(&frame, 0xA5, sizeof frame);
+    frame.stack = stack + odd;
+    frame.area = alignment * below(below(4) == 0 ? CB_MAX_AREA / alignment + 1 : 20);
+    frame.alignment = alignment;
+    frame.vectors = below(9);
+    frame.x87 = below(3);
+    frame.wide = judged_wide & below(2);
+    fill(frame.registers, sizeof frame.registers);
+    fill(frame.upper, sizeof frame.upper);
+    fill(stack + odd, frame.area);
     fill(return_image, sizeof return_image);
-    memset(returned, 0xA5, sizeof returned);
     memset(probe_registers, 0, sizeof probe_registers);
+    memset(probe_upper, 0, sizeof probe_upper);
     memset(probe_stack, 0, sizeof probe_stack);
-    probe_area = area;
-    return_kind = x87 == 0 ? 0 : (uint32_t)x87 + 1;
-    const uint64_t arguments[7] = {(uintptr_t)probe, (uintptr_t)(registers + odd), (uintptr_t)(stack + odd), area, vectors,
-                                   (uintptr_t)(returned + odd), x87};
-    expect("registers that were not kept", kept(arguments), 0);
-    same("the registers", probe_registers, registers + odd, sizeof probe_registers);
-    same("the stack", probe_stack, stack + odd, area);
-    expect("al", (uint8_t)probe_rax, vectors);
+    probe_area = frame.area;
+    return_kind = frame.x87 == 0 ? 0 : (uint32_t)frame.x87 + 1;
+    const call_frame before = frame;
+    expect("registers that were not kept", kept(probe, &frame), 0);
+    same("the registers", probe_registers, frame.registers, sizeof probe_registers);
+    same("the stack", probe_stack, stack + odd, frame.area);
+    expect("where the stack begins", probe_start % alignment, 0);
+    expect("al", (uint8_t)probe_rax, frame.vectors);
     expect("numbers left on the x87 stack", x87_depth(), 0);
+    same("the frame before the return images", (const uint8_t *)&frame, (const uint8_t *)&before, offsetof(call_frame, returned));
+    if (frame.wide) {
+        same("the upper halves", probe_upper, frame.upper, sizeof probe_upper);
+    } else {
+        same("the upper return image", frame.returned_upper, before.returned_upper, sizeof frame.returned_upper);
+    }
     memset(should, 0xA5, sizeof should);
-    if (x87 == 0) {
-        memcpy(should + odd, return_image, 48);
-        same("what came back", returned, should, sizeof should);
+    if (frame.x87 == 0) {
+        memcpy(should, return_image, 48);
+        same("what came back", frame.returned, should, sizeof should);
+        if (frame.wide) {
+            same("the upper half that came back", frame.returned_upper, return_image + CB_RETURN_IMAGE, CB_RETURN_UPPER);
+        }
         return;
     }
-    memcpy(should + odd + 48, return_image + 48, 10);
-    if (x87 == 2) {
-        memcpy(should + odd + 64, return_image + 64, 10);
+    memcpy(should + 48, return_image + 48, 10);
+    if (frame.x87 == 2) {
+        memcpy(should + 64, return_image + 64, 10);
     }
-    same("what came back on the x87 stack", returned + odd + 48, should + odd + 48, sizeof should - odd - 48);
+    same("what came back on the x87 stack", frame.returned + 48, should + 48, sizeof should - 48);
 }
 
 /* ---- the jump and the callbacks */
@@ -124,7 +143,7 @@ static size_t describe(uint8_t *description)
         for (size_t k = 0; k < run; k++) {
             members[k] = i == 0 ? 0 : types[below(i)];
         }
-        types[i] = which < 2    ? cb_basic(&b, (unsigned)below(16))
+        types[i] = which < 2    ? cb_basic(&b, (unsigned)below(17))
                    : which == 2 ? cb_array(&b, members[0], 1 + below(below(10) == 0 ? 600 : 4))
                    : which == 3 ? cb_union(&b, members, run)
                                 : cb_struct(&b, members, run);
@@ -151,7 +170,7 @@ static void handle(void *user, const void *const *values, void *result)
     size_t at = 0;
     expect("user", (uintptr_t)user, (uintptr_t)&arrivals);
     for (size_t i = 0; i < layout.arguments; i++) {
-        expect("the alignment of a value", (uintptr_t)values[i] % 16, 0);
+        expect("the alignment of a value", (uintptr_t)values[i] % 32, 0);
         same("a value", (const uint8_t *)values[i], sent + at, placements[i].size);
         at += placements[i].size;
     }
@@ -173,13 +192,23 @@ static size_t returned_size(const uint8_t *description, size_t length)
     return extent.size;
 }
 
-static unsigned long on_stack, in_memory, on_x87;
+/* Whether a vector of 32 bytes goes or comes back in a register. */
+static int needs_avx(void)
+{
+    int needed = layout.return_first == CB_XMM0Y;
+    for (size_t i = 0; i < layout.arguments; i++) {
+        needed |= cb_upper_offset(placements[i].first) != CB_NO_OFFSET;
+    }
+    return needed;
+}
+
+static unsigned long on_stack, in_memory, on_x87, wide;
 
 /* 1 where a call was made. */
 static int call_and_be_called(void)
 {
     uint8_t description[CB_MAX_DESCRIPTION];
-    _Alignas(16) uint8_t result[CB_MAX_TYPE + 1];
+    _Alignas(32) uint8_t result[CB_MAX_TYPE + 1];
     call_value values[CB_MAX_ARGUMENTS];
     size_t length = describe(description), at = 0, before = arrivals;
     if (length == 0) {
@@ -188,6 +217,9 @@ static int call_and_be_called(void)
     expect("the layout", cb_lay_out(description, length, &layout, placements, CB_MAX_ARGUMENTS).number, CB_ACCEPTED);
     answer_size = returned_size(description, length);
     expect("the layout's size of the result", layout.return_size, answer_size);
+    if (!judged_wide && needs_avx()) {
+        return 0;
+    }
     fill(sent, layout.values);
     fill(answer, answer_size);
     for (size_t i = 0; i < layout.arguments; i++) {
@@ -215,6 +247,7 @@ static int call_and_be_called(void)
     on_stack += layout.area > 0;
     in_memory += layout.hidden;
     on_x87 += call_x87(&layout) > 0;
+    wide += call_wide(&layout, placements);
     same("the result", result, answer, answer_size);
     expect("the byte behind the result", result[answer_size], 0xA5);
     expect("numbers left on the x87 stack", x87_depth(), 0);
@@ -285,6 +318,7 @@ static void entries(void)
 int main(int count, char **words)
 {
     unsigned long wanted = count == 2 ? strtoul(words[1], NULL, 10) : 0, made = 0;
+    judged_wide = __builtin_cpu_supports("avx") != 0;
     refusals();
     entries();
     for (unsigned long i = 0; i < wanted && !wrong; i++) {
@@ -294,8 +328,9 @@ int main(int count, char **words)
         made += (unsigned long)call_and_be_called();
     }
     if (!wrong) {
-        printf("%lu jumps to a probe; %lu calls of a callback, %lu with a stack image, %lu with a result in memory, %lu on the x87 stack: ok\n",
-               wanted, made, on_stack, in_memory, on_x87);
+        printf("%lu jumps to a probe; %lu calls of a callback, %lu with a stack image, %lu with a result in memory, %lu on the x87 stack, "
+               "%lu with vectors of 32 bytes in registers: ok\n",
+               wanted, made, on_stack, in_memory, on_x87, wide);
     }
     return wrong;
 }

@@ -90,9 +90,35 @@ static void callbacks(void)
     printf("told: %g\n", told(tell));
 }
 
+static void print_eight(const char *name, const eight *of)
+{
+    printf("%s:", name);
+    for (int i = 0; i < 8; i++) {
+        printf(" %g", (*of)[i]);
+    }
+    printf("\n");
+}
+
+WITH_AVX static eight blend(eight one, double part, eight other)
+{
+    return one * (float)part + other * (1 - (float)part);
+}
+
+WITH_AVX static void vectors(void)
+{
+    const eight v = {1, 2, 3, 4, 5, 6, 7, 8}, half = scaled(v, 0.5f), sum = summed(v, v, v, v, v, v, v, v, 19, v);
+    const eight both = blended(v, -v, blend);
+    print_eight("scaled", &half);
+    print_eight("summed", &sum);
+    print_eight("blended", &both);
+}
+
 int main(void)
 {
     calls();
     callbacks();
+    if (__builtin_cpu_supports("avx")) {
+        vectors();
+    }
     return 0;
 }

@@ -46,10 +46,10 @@ enum command {
     LAYOUT_OF = 38,
     LAY_OUT = 39,        /* u16 records of the list */
     WRITE_LISTING = 40,
-    PLACE_VALUES = 41,   /* u64 hidden, part values, part registers, part stack */
-    GATHER_VALUES = 42,  /* part registers, part stack, part values */
-    PUT_RETURNED = 43,   /* u64 hidden, part value, part image */
-    TAKE_RETURNED = 44,  /* part image, part value */
+    PLACE_VALUES = 41,   /* u64 hidden, part values, part registers, part upper, part stack */
+    GATHER_VALUES = 42,  /* part registers, part upper, part stack, part values */
+    PUT_RETURNED = 43,   /* u64 hidden, part value, part image, part upper */
+    TAKE_RETURNED = 44,  /* part image, part upper, part value */
     MEMBER_OFFSETS = 45, /* u8 type, u16 entries of the list */
     TIDY_LENGTH = 46,
     TIDY = 47,           /* u16 bytes of the out buffer */
@@ -57,7 +57,7 @@ enum command {
 };
 
 /* What is lent. Its number is in its canaries. */
-enum thing { DESCRIPTION, VALUES, REGISTERS, STACK, IMAGE, TEXT, RECORD, LIST, OUT, SEAT, STATION, WALK };
+enum thing { DESCRIPTION, VALUES, REGISTERS, UPPER, STACK, IMAGE, TEXT, RECORD, LIST, OUT, SEAT, STATION, WALK };
 
 #define SLOTS 4              /* walks of a history: WALK, and the numbers behind it */
 #define THINGS (WALK + SLOTS)
@@ -227,6 +227,8 @@ static void type_classes(void)
     told(cb_type_classes(BUFFER(DESCRIPTION), type, classes));
     field(classes->first);
     field(classes->second);
+    field(classes->third);
+    field(classes->fourth);
     answer_canaries(RECORD);
 }
 
@@ -266,6 +268,7 @@ static void answer_layout(const cb_layout *layout)
     field(layout->vector_registers);
     field(layout->stack_end);
     field(layout->area);
+    field(layout->area_alignment);
     field(layout->values);
     field(layout->return_size);
     field(layout->named_general_registers);
@@ -317,11 +320,13 @@ static void place_values(void)
     uint64_t hidden = number(8);
     lend_part(VALUES);
     lend_part(REGISTERS);
+    lend_part(UPPER);
     lend_part(STACK);
     cb_placed *placed = lend_filled(RECORD, sizeof *placed);
-    told(cb_place_values(BUFFER(DESCRIPTION), hidden, BUFFER(VALUES), BUFFER(REGISTERS), BUFFER(STACK), placed));
+    told(cb_place_values(BUFFER(DESCRIPTION), hidden, BUFFER(VALUES), BUFFER(REGISTERS), BUFFER(UPPER), BUFFER(STACK), placed));
     answer_buffer(VALUES);
     answer_buffer(REGISTERS);
+    answer_buffer(UPPER);
     answer_buffer(STACK);
     field(placed->vector_registers);
     answer_canaries(RECORD);
@@ -336,11 +341,13 @@ static void answer_gathered(const cb_gathered *gathered)
 static void gather_values(void)
 {
     lend_part(REGISTERS);
+    lend_part(UPPER);
     lend_part(STACK);
     lend_part(VALUES);
     cb_gathered *gathered = lend_filled(RECORD, sizeof *gathered);
-    told(cb_gather_values(BUFFER(DESCRIPTION), BUFFER(REGISTERS), BUFFER(STACK), BUFFER(VALUES), gathered));
+    told(cb_gather_values(BUFFER(DESCRIPTION), BUFFER(REGISTERS), BUFFER(UPPER), BUFFER(STACK), BUFFER(VALUES), gathered));
     answer_buffer(REGISTERS);
+    answer_buffer(UPPER);
     answer_buffer(STACK);
     answer_buffer(VALUES);
     answer_gathered(gathered);
@@ -351,18 +358,22 @@ static void put_returned(void)
     uint64_t hidden = number(8);
     lend_part(VALUES);
     lend_part(IMAGE);
-    told(cb_put_returned(BUFFER(DESCRIPTION), hidden, BUFFER(VALUES), BUFFER(IMAGE)));
+    lend_part(UPPER);
+    told(cb_put_returned(BUFFER(DESCRIPTION), hidden, BUFFER(VALUES), BUFFER(IMAGE), BUFFER(UPPER)));
     answer_buffer(VALUES);
     answer_buffer(IMAGE);
+    answer_buffer(UPPER);
 }
 
 static void take_returned(void)
 {
     lend_part(IMAGE);
+    lend_part(UPPER);
     lend_part(VALUES);
     cb_gathered *taken = lend_filled(RECORD, sizeof *taken);
-    told(cb_take_returned(BUFFER(DESCRIPTION), BUFFER(IMAGE), BUFFER(VALUES), taken));
+    told(cb_take_returned(BUFFER(DESCRIPTION), BUFFER(IMAGE), BUFFER(UPPER), BUFFER(VALUES), taken));
     answer_buffer(IMAGE);
+    answer_buffer(UPPER);
     answer_buffer(VALUES);
     answer_gathered(taken);
 }

@@ -35,6 +35,8 @@ typedef struct desk {
     size_t out_length;
     uint8_t type;
     uint8_t registers[CB_REGISTER_IMAGE];
+    uint8_t upper[CB_UPPER_IMAGE];
+    uint8_t returned_upper[CB_RETURN_UPPER];
     uint8_t image[CB_RETURN_IMAGE];
     uint8_t seat[CB_SEAT_LENGTH];
     uint8_t text[CB_LISTING_ROOM];
@@ -128,23 +130,25 @@ static cb_refusal tidy(desk *d, unsigned empty)
 static cb_refusal place_values(desk *d, unsigned empty)
 {
     return cb_place_values(DESCRIPTION, 0x1234, BUFFER(1, d->values, d->values_length), BUFFER(2, d->registers, sizeof d->registers),
-                           BUFFER(3, d->stack, d->stack_length), &d->placed);
+                           BUFFER(3, d->upper, sizeof d->upper), BUFFER(4, d->stack, d->stack_length), &d->placed);
 }
 
 static cb_refusal gather_values(desk *d, unsigned empty)
 {
-    return cb_gather_values(DESCRIPTION, BUFFER(1, d->registers, sizeof d->registers), BUFFER(2, d->stack, d->stack_length),
-                            BUFFER(3, d->values, d->values_length), &d->gathered);
+    return cb_gather_values(DESCRIPTION, BUFFER(1, d->registers, sizeof d->registers), BUFFER(2, d->upper, sizeof d->upper),
+                            BUFFER(3, d->stack, d->stack_length), BUFFER(4, d->values, d->values_length), &d->gathered);
 }
 
 static cb_refusal put_returned(desk *d, unsigned empty)
 {
-    return cb_put_returned(DESCRIPTION, 0x1234, BUFFER(1, d->value, d->value_length), BUFFER(2, d->image, sizeof d->image));
+    return cb_put_returned(DESCRIPTION, 0x1234, BUFFER(1, d->value, d->value_length), BUFFER(2, d->image, sizeof d->image),
+                           BUFFER(3, d->returned_upper, sizeof d->returned_upper));
 }
 
 static cb_refusal take_returned(desk *d, unsigned empty)
 {
-    return cb_take_returned(DESCRIPTION, BUFFER(1, d->image, sizeof d->image), BUFFER(2, d->value, d->value_length), &d->gathered);
+    return cb_take_returned(DESCRIPTION, BUFFER(1, d->image, sizeof d->image), BUFFER(2, d->returned_upper, sizeof d->returned_upper),
+                            BUFFER(3, d->value, d->value_length), &d->gathered);
 }
 
 #define SEAT BUFFER(0, d->seat, sizeof d->seat)
@@ -197,10 +201,10 @@ static const struct call {
     {"cb_write_listing", 1, write_listing},
     {"cb_tidy_length", 1, tidy_length},
     {"cb_tidy", 2, tidy},
-    {"cb_place_values", 4, place_values},
-    {"cb_gather_values", 4, gather_values},
-    {"cb_put_returned", 3, put_returned},
-    {"cb_take_returned", 3, take_returned},
+    {"cb_place_values", 5, place_values},
+    {"cb_gather_values", 5, gather_values},
+    {"cb_put_returned", 4, put_returned},
+    {"cb_take_returned", 4, take_returned},
     {"cb_attach", 2, attach},
     {"cb_detach", 1, detach},
     {"cb_change", 2, change},

@@ -23,6 +23,9 @@ static const uint8_t wide[] = {0x4B, 0x43, 0x42, 1, 0, 6, 1, 8, 12, 4, 3, 0, 8, 
 /* returns that struct, in memory, and takes a long */
 static const uint8_t memory[] = {0x4B, 0x43, 0x42, 1, 0, 2, 0, 1, 1, 1, 3, 0, 4, 0, 0, 2, 0, 3, 0, 0, 0, 0, 0};
 
+/* returns a vector of 32 bytes, takes an int, such a vector and, unnamed, another */
+static const uint8_t vector[] = {0x4B, 0x43, 0x42, 1, 0, 2, 1, 2, 3, 1, 0, 0, 3, 0, 0, 0, 16, 0, 0, 0, 1, 1};
+
 static void expect(const char *what, size_t is, size_t should)
 {
     if (is != should) {
@@ -55,6 +58,15 @@ static void all_are(const char *what, const void *bytes, size_t count, uint8_t s
     }
 }
 
+/* the same bytes, or the text is said */
+static void same(const char *what, const void *is, const void *should, size_t size)
+{
+    if (memcmp(is, should, size) != 0) {
+        printf("%s\n", what);
+        wrong = 1;
+    }
+}
+
 #define GUARDED(lent) all_are("the bytes behind " #lent, (lent).guard, GUARD, FILLING)
 #define RESERVED(record) all_are("the reserved bytes of " #record, (record).reserved, sizeof(record).reserved, 0)
 
@@ -76,7 +88,8 @@ static void sizes(void)
 {
     expect("sizeof(cb_refusal)", sizeof(cb_refusal), FIELD(cb_refusal, number) + FIELD(cb_refusal, type));
     expect("sizeof(cb_extent)", sizeof(cb_extent), FIELD(cb_extent, size) + FIELD(cb_extent, align));
-    expect("sizeof(cb_classes)", sizeof(cb_classes), FIELD(cb_classes, first) + FIELD(cb_classes, second));
+    expect("sizeof(cb_classes)", sizeof(cb_classes),
+           FIELD(cb_classes, first) + FIELD(cb_classes, second) + FIELD(cb_classes, third) + FIELD(cb_classes, fourth));
     expect("sizeof(cb_part)", sizeof(cb_part),
            FIELD(cb_part, offset) + FIELD(cb_part, length) + FIELD(cb_part, image) + FIELD(cb_part, reserved));
     expect("sizeof(cb_placement)", sizeof(cb_placement),
@@ -84,7 +97,7 @@ static void sizes(void)
                FIELD(cb_placement, first) + FIELD(cb_placement, second) + FIELD(cb_placement, reserved));
     expect("sizeof(cb_layout)", sizeof(cb_layout),
            FIELD(cb_layout, general_registers) + FIELD(cb_layout, vector_registers) + FIELD(cb_layout, stack_end) +
-               FIELD(cb_layout, area) + FIELD(cb_layout, values) + FIELD(cb_layout, return_size) +
+               FIELD(cb_layout, area) + FIELD(cb_layout, area_alignment) + FIELD(cb_layout, values) + FIELD(cb_layout, return_size) +
                FIELD(cb_layout, named_general_registers) + FIELD(cb_layout, named_vector_registers) +
                FIELD(cb_layout, named_stack_end) + FIELD(cb_layout, arguments) + FIELD(cb_layout, return_first) +
                FIELD(cb_layout, return_second) + FIELD(cb_layout, hidden) + FIELD(cb_layout, reserved));
@@ -126,6 +139,14 @@ static void questions(void)
     expect("extent.align", extent.value.align, 8);
     expect("classes.first", classes.value.first, CB_SSE);
     expect("classes.second", classes.value.second, CB_INTEGER);
+    expect("classes.third", classes.value.third, CB_NO_CLASS);
+    expect("classes.fourth", classes.value.fourth, CB_NO_CLASS);
+    answered("cb_type_classes", cb_type_classes(vector, sizeof vector, 1, &classes.value));
+    GUARDED(classes);
+    expect("classes.first", classes.value.first, CB_SSE);
+    expect("classes.second", classes.value.second, CB_SSEUP);
+    expect("classes.third", classes.value.third, CB_SSEUP);
+    expect("classes.fourth", classes.value.fourth, CB_SSEUP);
     expect("part.offset", part.value.offset, 35);
     expect("part.length", part.value.length, 2);
     expect("part.image", part.value.image, CB_DESCRIPTION);
@@ -134,13 +155,14 @@ static void questions(void)
     expect("offsets[1]", offsets[1], 8);
     all_are("the entries behind the offsets", &offsets[2], sizeof offsets[2], FILLING);
     printf("cb_extent %zu: size %zu align %zu\n", sizeof(cb_extent), offsetof(cb_extent, size), offsetof(cb_extent, align));
-    printf("cb_classes %zu: first %zu second %zu\n", sizeof(cb_classes), offsetof(cb_classes, first), offsetof(cb_classes, second));
+    printf("cb_classes %zu: first %zu second %zu third %zu fourth %zu\n", sizeof(cb_classes), offsetof(cb_classes, first),
+           offsetof(cb_classes, second), offsetof(cb_classes, third), offsetof(cb_classes, fourth));
     printf("cb_part %zu: offset %zu length %zu image %zu reserved %zu\n", sizeof(cb_part), offsetof(cb_part, offset),
            offsetof(cb_part, length), offsetof(cb_part, image), offsetof(cb_part, reserved));
 }
 
-/* The fields of a layout, in the header's order, as numbers that tell each from the others over three descriptions. */
-static void layout(const uint8_t *description, size_t length, const size_t should[13])
+/* The fields of a layout, in the header's order, as numbers that tell each from the others over four descriptions. */
+static void layout(const uint8_t *description, size_t length, const size_t should[14])
 {
     LENT(cb_layout) whole;
     FRESH(whole);
@@ -150,37 +172,41 @@ static void layout(const uint8_t *description, size_t length, const size_t shoul
     expect("vector_registers", whole.value.vector_registers, should[1]);
     expect("stack_end", whole.value.stack_end, should[2]);
     expect("area", whole.value.area, should[3]);
-    expect("values", whole.value.values, should[4]);
-    expect("return_size", whole.value.return_size, should[5]);
-    expect("named_general_registers", whole.value.named_general_registers, should[6]);
-    expect("named_vector_registers", whole.value.named_vector_registers, should[7]);
-    expect("named_stack_end", whole.value.named_stack_end, should[8]);
-    expect("arguments", whole.value.arguments, should[9]);
-    expect("return_first", whole.value.return_first, should[10]);
-    expect("return_second", whole.value.return_second, should[11]);
-    expect("hidden", whole.value.hidden, should[12]);
+    expect("area_alignment", whole.value.area_alignment, should[4]);
+    expect("values", whole.value.values, should[5]);
+    expect("return_size", whole.value.return_size, should[6]);
+    expect("named_general_registers", whole.value.named_general_registers, should[7]);
+    expect("named_vector_registers", whole.value.named_vector_registers, should[8]);
+    expect("named_stack_end", whole.value.named_stack_end, should[9]);
+    expect("arguments", whole.value.arguments, should[10]);
+    expect("return_first", whole.value.return_first, should[11]);
+    expect("return_second", whole.value.return_second, should[12]);
+    expect("hidden", whole.value.hidden, should[13]);
     RESERVED(whole.value);
 }
 
 static void layouts(void)
 {
-    static const size_t of_mixed[13] = {4, 2, 16, 16, 60, 8, 2, 1, 16, 5, CB_XMM0, CB_NONE, 0};
-    static const size_t of_wide[13] = {2, 6, 72, 80, 136, 32, 1, 6, 16, 12, CB_ST0, CB_ST1, 0};
-    static const size_t of_memory[13] = {2, 0, 0, 0, 8, 24, 2, 0, 0, 1, CB_NONE, CB_NONE, 1};
-    const size_t *const all[3] = {of_mixed, of_wide, of_memory};
+    static const size_t of_mixed[14] = {4, 2, 16, 16, 16, 60, 8, 2, 1, 16, 5, CB_XMM0, CB_NONE, 0};
+    static const size_t of_wide[14] = {2, 6, 72, 80, 16, 136, 32, 1, 6, 16, 12, CB_ST0, CB_ST1, 0};
+    static const size_t of_memory[14] = {2, 0, 0, 0, 16, 8, 24, 2, 0, 0, 1, CB_NONE, CB_NONE, 1};
+    static const size_t of_vector[14] = {1, 1, 32, 32, 32, 68, 32, 1, 1, 0, 3, CB_XMM0Y, CB_NONE, 0};
+    const size_t *const all[4] = {of_mixed, of_wide, of_memory, of_vector};
     layout(mixed, sizeof mixed, of_mixed);
     layout(wide, sizeof wide, of_wide);
     layout(memory, sizeof memory, of_memory);
-    for (size_t i = 0; i < 13; i++) {
+    layout(vector, sizeof vector, of_vector);
+    for (size_t i = 0; i < 14; i++) {
         for (size_t k = 0; k < i; k++) {
-            if (all[0][i] == all[0][k] && all[1][i] == all[1][k] && all[2][i] == all[2][k]) {
+            if (all[0][i] == all[0][k] && all[1][i] == all[1][k] && all[2][i] == all[2][k] && all[3][i] == all[3][k]) {
                 printf("fields %zu and %zu of cb_layout are not told apart\n", k, i);
                 wrong = 1;
             }
         }
     }
-    printf("cb_layout %zu: %zu %zu %zu %zu %zu %zu %zu %zu %zu %zu %zu %zu %zu reserved %zu\n", sizeof(cb_layout), offsetof(cb_layout, general_registers),
-           offsetof(cb_layout, vector_registers), offsetof(cb_layout, stack_end), offsetof(cb_layout, area), offsetof(cb_layout, values),
+    printf("cb_layout %zu: %zu %zu %zu %zu %zu %zu %zu %zu %zu %zu %zu %zu %zu %zu reserved %zu\n", sizeof(cb_layout), offsetof(cb_layout, general_registers),
+           offsetof(cb_layout, vector_registers), offsetof(cb_layout, stack_end), offsetof(cb_layout, area),
+           offsetof(cb_layout, area_alignment), offsetof(cb_layout, values),
            offsetof(cb_layout, return_size), offsetof(cb_layout, named_general_registers), offsetof(cb_layout, named_vector_registers),
            offsetof(cb_layout, named_stack_end),
            offsetof(cb_layout, arguments), offsetof(cb_layout, return_first), offsetof(cb_layout, return_second), offsetof(cb_layout, hidden),
@@ -211,6 +237,9 @@ static void lists(void)
     record(&records[9], 16, 16, 32, 0, CB_NONE, CB_NONE);
     record(&records[10], 24, 8, 48, 3, CB_NONE, CB_NONE);
     record(&records[11], 8, 8, 0, 1, CB_RSI, CB_NONE);
+    answered("cb_lay_out", cb_lay_out(vector, sizeof vector, &whole, records, 14));
+    record(&records[1], 32, 32, 0, 1, CB_XMM0Y, CB_NONE);
+    record(&records[2], 32, 32, 0, 1, CB_NONE, CB_NONE);
     printf("cb_placement %zu: size %zu align %zu offset %zu type %zu first %zu second %zu reserved %zu\n", sizeof(cb_placement),
            offsetof(cb_placement, size), offsetof(cb_placement, align), offsetof(cb_placement, offset), offsetof(cb_placement, type),
            offsetof(cb_placement, first), offsetof(cb_placement, second), offsetof(cb_placement, reserved));
@@ -250,25 +279,58 @@ static void tidy(void)
     printf("cb_tidied %zu: length %zu\n", sizeof(cb_tidied), offsetof(cb_tidied, length));
 }
 
+/* Bytes 16 to 31 of a vector stand in the upper images, at the offsets that the header says. */
+static void uppers(void)
+{
+    uint8_t values[68], back[68], registers[CB_REGISTER_IMAGE], upper[CB_UPPER_IMAGE], stack[32], image[CB_RETURN_IMAGE], second[CB_RETURN_UPPER];
+    cb_placed placed;
+    cb_gathered gathered;
+    for (size_t i = 0; i < sizeof values; i++) {
+        values[i] = (uint8_t)(i + 1);
+    }
+    answered("cb_place_values", cb_place_values(vector, sizeof vector, 0, values, sizeof values, registers, sizeof registers, upper, sizeof upper, stack, sizeof stack, &placed));
+    expect("placed.vector_registers", placed.vector_registers, 1);
+    same("bytes 0 to 15 of a vector", registers + cb_register_offset(CB_XMM0Y), values + 4, 16);
+    same("bytes 16 to 31 of a vector", upper + cb_upper_offset(CB_XMM0Y), values + 20, 16);
+    all_are("the upper image behind ymm0", upper + 16, sizeof upper - 16, 0);
+    same("a vector on the stack", stack, values + 36, 32);
+    answered("cb_gather_values", cb_gather_values(vector, sizeof vector, registers, sizeof registers, upper, sizeof upper, stack, sizeof stack, back, sizeof back, &gathered));
+    same("the values", back, values, sizeof values);
+    answered("cb_put_returned", cb_put_returned(vector, sizeof vector, 0, values, 32, image, sizeof image, second, sizeof second));
+    same("bytes 0 to 15 of a returned vector", image + 16, values, 16);
+    same("bytes 16 to 31 of a returned vector", second, values + 16, 16);
+    answered("cb_take_returned", cb_take_returned(vector, sizeof vector, image, sizeof image, second, sizeof second, back, 32, &gathered));
+    same("the returned vector", back, values, 32);
+    expect("cb_upper_offset of xmm7y", cb_upper_offset(CB_XMM7Y), 112);
+    expect("cb_register_offset of xmm7y", cb_register_offset(CB_XMM7Y), 160);
+    expect("cb_upper_offset of xmm0", cb_upper_offset(CB_XMM0), CB_NO_OFFSET);
+    expect("cb_upper_offset of 56", cb_upper_offset(56), CB_NO_OFFSET);
+    expect("cb_register_offset of 56", cb_register_offset(56), CB_NO_OFFSET);
+    same("the name of xmm3y", cb_register_name(CB_XMM3Y), "xmm3y", 6);
+    same("the name of 56", cb_register_name(56), "", 1);
+}
+
 static void moves(void)
 {
     LENT(cb_placed) placed;
     LENT(cb_gathered) gathered;
     static const uint8_t values[8] = {1, 2, 3, 4, 5, 6, 7, 8};
     uint8_t registers[CB_REGISTER_IMAGE];
+    uint8_t upper[CB_UPPER_IMAGE];
     uint8_t stack[80];
     uint8_t back[8];
     static const uint8_t many[136];
     FRESH(placed);
     FRESH(gathered);
-    answered("cb_place_values", cb_place_values(wide, sizeof wide, 0, many, 136, registers, sizeof registers, stack, 80, &placed.value));
+    answered("cb_place_values", cb_place_values(wide, sizeof wide, 0, many, 136, registers, sizeof registers, upper, sizeof upper, stack, 80, &placed.value));
     GUARDED(placed);
     expect("placed.vector_registers", placed.value.vector_registers, 6);
-    answered("cb_place_values", cb_place_values(memory, sizeof memory, 0x0102030405060708u, values, 8, registers, sizeof registers, stack, 0, &placed.value));
-    answered("cb_gather_values", cb_gather_values(memory, sizeof memory, registers, sizeof registers, stack, 0, back, 8, &gathered.value));
+    answered("cb_place_values", cb_place_values(memory, sizeof memory, 0x0102030405060708u, values, 8, registers, sizeof registers, upper, sizeof upper, stack, 0, &placed.value));
+    answered("cb_gather_values", cb_gather_values(memory, sizeof memory, registers, sizeof registers, upper, sizeof upper, stack, 0, back, 8, &gathered.value));
     GUARDED(gathered);
     expect("gathered.hidden", gathered.value.hidden, 0x0102030405060708u);
     expect("placed.vector_registers", placed.value.vector_registers, 0);
+    uppers();
     printf("cb_placed %zu: vector_registers %zu\n", sizeof(cb_placed), offsetof(cb_placed, vector_registers));
     printf("cb_gathered %zu: hidden %zu\n", sizeof(cb_gathered), offsetof(cb_gathered, hidden));
 }
@@ -338,7 +400,7 @@ static void refused_description(void)
     LENT(cb_gathered) gathered;
     cb_placement records[4];
     size_t offsets[2];
-    uint8_t values[60], registers[CB_REGISTER_IMAGE], stack[16], image[CB_RETURN_IMAGE];
+    uint8_t values[60], registers[CB_REGISTER_IMAGE], upper[CB_UPPER_IMAGE], stack[16], image[CB_RETURN_IMAGE], second[CB_RETURN_UPPER];
     FRESH(extent);
     FRESH(classes);
     FRESH(part);
@@ -351,8 +413,10 @@ static void refused_description(void)
     FRESH(offsets);
     FRESH(values);
     FRESH(registers);
+    FRESH(upper);
     FRESH(stack);
     FRESH(image);
+    FRESH(second);
     told("cb_type_extent", cb_type_extent(mixed, sizeof mixed, 6, &extent.value), CB_WRONG_TYPE_NUMBER, 0);
     KEPT("cb_type_extent", extent);
     told("cb_type_classes", cb_type_classes(mixed, sizeof mixed, 6, &classes.value), CB_WRONG_TYPE_NUMBER, 0);
@@ -380,28 +444,28 @@ static void refused_description(void)
     KEPT("cb_tidy_length", tidied);
     told("cb_tidy", cb_tidy(mixed, sizeof mixed, values, sizeof mixed + 1), CB_WRONG_BUFFER, 0);
     KEPT("cb_tidy", values);
-    told("cb_place_values", cb_place_values(mixed, sizeof mixed, 0, values, 59, registers, sizeof registers, stack, 16, &placed.value),
+    told("cb_place_values", cb_place_values(mixed, sizeof mixed, 0, values, 59, registers, sizeof registers, upper, sizeof upper, stack, 16, &placed.value),
+         CB_WRONG_BUFFER, 0);
+    told("cb_place_values", cb_place_values(mixed, sizeof mixed, 0, values, 60, registers, sizeof registers, upper, 112, stack, 16, &placed.value),
          CB_WRONG_BUFFER, 0);
     KEPT("cb_place_values", placed);
     KEPT("cb_place_values", registers);
+    KEPT("cb_place_values", upper);
     KEPT("cb_place_values", stack);
-    told("cb_gather_values", cb_gather_values(mixed, sizeof mixed, registers, sizeof registers, stack, 15, values, 60, &gathered.value),
+    told("cb_gather_values", cb_gather_values(mixed, sizeof mixed, registers, sizeof registers, upper, sizeof upper, stack, 15, values, 60, &gathered.value),
+         CB_WRONG_BUFFER, 0);
+    told("cb_gather_values", cb_gather_values(mixed, sizeof mixed, registers, sizeof registers, upper, 0, stack, 16, values, 60, &gathered.value),
          CB_WRONG_BUFFER, 0);
     KEPT("cb_gather_values", gathered);
     KEPT("cb_gather_values", values);
-    told("cb_put_returned", cb_put_returned(mixed, sizeof mixed, 0, values, 7, image, sizeof image), CB_WRONG_BUFFER, 0);
+    told("cb_put_returned", cb_put_returned(mixed, sizeof mixed, 0, values, 7, image, sizeof image, second, sizeof second), CB_WRONG_BUFFER, 0);
+    told("cb_put_returned", cb_put_returned(mixed, sizeof mixed, 0, values, 8, image, sizeof image, second, 0), CB_WRONG_BUFFER, 0);
     KEPT("cb_put_returned", image);
-    told("cb_take_returned", cb_take_returned(mixed, sizeof mixed, image, sizeof image, values, 7, &gathered.value), CB_WRONG_BUFFER, 0);
+    KEPT("cb_put_returned", second);
+    told("cb_take_returned", cb_take_returned(mixed, sizeof mixed, image, sizeof image, second, sizeof second, values, 7, &gathered.value), CB_WRONG_BUFFER, 0);
+    told("cb_take_returned", cb_take_returned(mixed, sizeof mixed, image, sizeof image, second, 15, values, 8, &gathered.value), CB_WRONG_BUFFER, 0);
     KEPT("cb_take_returned", gathered);
     KEPT("cb_take_returned", values);
-}
-
-static void same(const char *what, const void *is, const void *should, size_t size)
-{
-    if (memcmp(is, should, size) != 0) {
-        printf("%s\n", what);
-        wrong = 1;
-    }
 }
 
 #define SAME(what, is, should) same(what ": " #is " has changed", &(is), &(should), sizeof(should))
@@ -539,7 +603,7 @@ static void told_of_description(const uint8_t *bad, uint8_t number, uint8_t type
     cb_tidied tidied;
     cb_placed placed;
     cb_gathered gathered;
-    uint8_t bytes[8] = {0}, registers[CB_REGISTER_IMAGE], stack[1], image[CB_RETURN_IMAGE];
+    uint8_t bytes[8] = {0}, registers[CB_REGISTER_IMAGE], upper[CB_UPPER_IMAGE], stack[1], image[CB_RETURN_IMAGE], second[CB_RETURN_UPPER];
     told("cb_check", cb_check(bad, INTS), number, type);
     told("cb_type_extent", cb_type_extent(bad, INTS, 0, &extent), number, type);
     told("cb_type_classes", cb_type_classes(bad, INTS, 0, &classes), number, type);
@@ -550,12 +614,14 @@ static void told_of_description(const uint8_t *bad, uint8_t number, uint8_t type
     told("cb_lay_out", cb_lay_out(bad, INTS, &whole, list, 2), number, type);
     told("cb_tidy_length", cb_tidy_length(bad, INTS, &tidied), number, type);
     told("cb_tidy", cb_tidy(bad, INTS, bytes, 8), number, type);
-    told("cb_place_values", cb_place_values(bad, INTS, 0, bytes, 8, registers, sizeof registers, stack, 0, &placed), number, type);
+    told("cb_place_values", cb_place_values(bad, INTS, 0, bytes, 8, registers, sizeof registers, upper, sizeof upper, stack, 0, &placed), number, type);
     memset(registers, 0, sizeof registers);
-    told("cb_gather_values", cb_gather_values(bad, INTS, registers, sizeof registers, stack, 0, bytes, 8, &gathered), number, type);
-    told("cb_put_returned", cb_put_returned(bad, INTS, 0, bytes, 0, image, sizeof image), number, type);
+    memset(upper, 0, sizeof upper);
+    told("cb_gather_values", cb_gather_values(bad, INTS, registers, sizeof registers, upper, sizeof upper, stack, 0, bytes, 8, &gathered), number, type);
+    told("cb_put_returned", cb_put_returned(bad, INTS, 0, bytes, 0, image, sizeof image, second, sizeof second), number, type);
     memset(image, 0, sizeof image);
-    told("cb_take_returned", cb_take_returned(bad, INTS, image, sizeof image, bytes, 0, &gathered), number, type);
+    memset(second, 0, sizeof second);
+    told("cb_take_returned", cb_take_returned(bad, INTS, image, sizeof image, second, sizeof second, bytes, 0, &gathered), number, type);
 }
 
 /* The calls on a station: attach, and those that read the seat, in which the bytes are spoilt behind the library's back. */

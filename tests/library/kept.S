@@ -1,5 +1,5 @@
-/* size_t kept(const uint64_t *arguments): calls jump with the seven arguments of a list, while the registers that belong to the caller
-   hold known values, and answers how many of them it found changed. */
+/* size_t kept(call_target function, call_frame *frame): calls jump with them, while the registers that belong to the caller hold known
+   values, and answers how many of them it found changed. */
         .intel_syntax noprefix
         .text
         .globl  kept
@@ -11,14 +11,7 @@ kept:
         push    r13
         push    r14
         push    r15
-        mov     rax, rdi
-        push    qword ptr [rax + 48]
-        mov     rdi, [rax]
-        mov     rsi, [rax + 8]
-        mov     rdx, [rax + 16]
-        mov     rcx, [rax + 24]
-        mov     r8, [rax + 32]
-        mov     r9, [rax + 40]
+        sub     rsp, 8
         mov     rbx, 0x1b1b1b1b
         mov     rbp, 0x2b2b2b2b
         mov     r12, 0x3c3c3c3c

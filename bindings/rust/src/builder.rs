@@ -30,6 +30,7 @@ pub enum Basic {
     ComplexLongDouble = raw::COMPLEX_LONG_DOUBLE,
     /// To whatever: 8 bytes, in ILP32 4.
     Pointer = raw::POINTER,
+    M256 = raw::M256,
 }
 
 /// Makes a description, as the builder of the header does, byte for byte and refusal for refusal.

@@ -4,7 +4,8 @@ use crate::raw;
 use crate::Refusal;
 use std::fmt;
 
-/// A register, or the upper half of a vector register, that holds one eightbyte.
+/// A register, or the upper half of a vector register, that holds one eightbyte; or a whole vector
+/// register of 32 bytes.
 #[derive(Clone, Copy, Debug, PartialEq, Eq)]
 pub enum Register {
     /// rdi, rsi, rdx, rcx, r8, r9: 0 to 5.
@@ -13,6 +14,8 @@ pub enum Register {
     Vector(u8),
     /// The upper half of xmm0 to xmm7.
     Upper(u8),
+    /// All 32 bytes of ymm0 to ymm7.
+    Wide(u8),
     /// Returned values only.
     Rax,
     St0,
@@ -20,13 +23,21 @@ pub enum Register {
 }
 
 impl Register {
-    /// Where its bytes begin in the register image; none for rax, st0 and st1.
+    /// Where its bytes begin in the register image, of a wide one bytes 0 to 15; none for rax, st0 and st1.
     pub fn offset(self) -> Option<usize> {
         match self {
             Register::General(number) => Some(8 * number as usize),
-            Register::Vector(number) => Some(48 + 16 * number as usize),
+            Register::Vector(number) | Register::Wide(number) => Some(48 + 16 * number as usize),
             Register::Upper(number) => Some(56 + 16 * number as usize),
             Register::Rax | Register::St0 | Register::St1 => None,
+        }
+    }
+
+    /// Where bytes 16 to 31 of a wide one begin in the upper image; none for the others.
+    pub fn upper_offset(self) -> Option<usize> {
+        match self {
+            Register::Wide(number) => Some(16 * number as usize),
+            _ => None,
         }
     }
 
@@ -38,6 +49,7 @@ impl Register {
             raw::ST1 => Some(Register::St1),
             16..=23 => Some(Register::Vector(number - raw::XMM0)),
             32..=39 => Some(Register::Upper(number - raw::XMM0H)),
+            48..=55 => Some(Register::Wide(number - raw::XMM0Y)),
             _ => None,
         }
     }
@@ -52,6 +64,7 @@ impl fmt::Display for Register {
             }
             Register::Vector(number) => write!(formatter, "xmm{number}"),
             Register::Upper(number) => write!(formatter, "xmm{number}h"),
+            Register::Wide(number) => write!(formatter, "xmm{number}y"),
             Register::Rax => formatter.write_str("rax"),
             Register::St0 => formatter.write_str("st0"),
             Register::St1 => formatter.write_str("st1"),
@@ -105,6 +118,9 @@ pub struct Layout {
     pub vector_registers: usize,
     /// Bytes of the stack image.
     pub area: usize,
+    /// Of the stack image's first byte in the real stack: 32 where an argument that is aligned to 32 lies
+    /// there, else 16.
+    pub area_alignment: usize,
     /// Bytes of all values, packed.
     pub values: usize,
     /// Bytes of the returned value, in memory too; 0 for void.
@@ -118,6 +134,7 @@ const NO_LAYOUT: raw::Layout = raw::Layout {
     vector_registers: 0,
     stack_end: 0,
     area: 0,
+    area_alignment: 0,
     values: 0,
     return_size: 0,
     named_general_registers: 0,
@@ -151,6 +168,7 @@ fn layout_from(of: &raw::Layout) -> Layout {
         general_registers: of.general_registers,
         vector_registers: of.vector_registers,
         area: of.area,
+        area_alignment: of.area_alignment,
         values: of.values,
         return_size: of.return_size,
         arguments: of.arguments,

@@ -2,7 +2,8 @@
 //!
 //! A *description* (KCB) is a byte string that says which types a foreign function takes. This crate
 //! says where each argument of a call goes by the System V AMD64 rules, moves the bytes of all values
-//! into a register image and a stack image and back, and walks unnamed arguments as `va_arg` does.
+//! into a register image, an upper image (bytes 16 to 31 of ymm0 to ymm7) and a stack image and back,
+//! and walks unnamed arguments as `va_arg` does.
 //! Descriptions may come from strangers: whatever breaks the rules is a [`Refusal`], and changes
 //! nothing.
 //!
@@ -69,7 +70,8 @@ pub use layout::{
     lay_out, layout, needs_stack, Layout, Place, Placement, Register, Returned, StackNeed,
 };
 pub use moving::{
-    gather, place, put_returned, take_returned, Images, REGISTER_IMAGE, RETURN_IMAGE,
+    gather, place, put_returned, take_returned, Images, ReturnImages, REGISTER_IMAGE, RETURN_IMAGE,
+    RETURN_UPPER, UPPER_IMAGE,
 };
 pub use refusal::Refusal;
 pub use station::{Station, Walk, SEAT};

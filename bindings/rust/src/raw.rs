@@ -43,6 +43,7 @@ pub const COMPLEX_FLOAT: u8 = 12;
 pub const COMPLEX_DOUBLE: u8 = 13;
 pub const COMPLEX_LONG_DOUBLE: u8 = 14;
 pub const POINTER: u8 = 15;
+pub const M256: u8 = 16;
 
 /// Why a call was refused, number 0 for none. `type_number` is a type's where `number` is 6 or 7, and 0
 /// otherwise.
@@ -65,6 +66,8 @@ pub struct Extent {
 pub struct Classes {
     pub first: u8,
     pub second: u8,
+    pub third: u8,
+    pub fourth: u8,
 }
 
 /// What a part is a part of.
@@ -90,6 +93,7 @@ pub const ST0: u8 = 8;
 pub const ST1: u8 = 9;
 pub const XMM0: u8 = 16;
 pub const XMM0H: u8 = 32;
+pub const XMM0Y: u8 = 48;
 pub const NONE: u8 = 255;
 
 #[repr(C)]
@@ -111,6 +115,7 @@ pub struct Layout {
     pub vector_registers: usize,
     pub stack_end: usize,
     pub area: usize,
+    pub area_alignment: usize,
     pub values: usize,
     pub return_size: usize,
     pub named_general_registers: usize,
@@ -204,6 +209,8 @@ extern "C" {
         values_length: usize,
         registers: *mut u8,
         registers_length: usize,
+        upper: *mut u8,
+        upper_length: usize,
         stack: *mut u8,
         stack_length: usize,
         placed: *mut Placed,
@@ -213,6 +220,8 @@ extern "C" {
         n: usize,
         registers: *const u8,
         registers_length: usize,
+        upper: *const u8,
+        upper_length: usize,
         stack: *const u8,
         stack_length: usize,
         values: *mut u8,
@@ -227,12 +236,16 @@ extern "C" {
         value_length: usize,
         image: *mut u8,
         image_length: usize,
+        upper: *mut u8,
+        upper_length: usize,
     ) -> Refusal;
     pub fn cb_take_returned(
         d: *const u8,
         n: usize,
         image: *const u8,
         image_length: usize,
+        upper: *const u8,
+        upper_length: usize,
         value: *mut u8,
         value_length: usize,
         taken: *mut Gathered,

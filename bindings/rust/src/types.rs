@@ -53,15 +53,15 @@ fn class_of(number: u8) -> Class {
     }
 }
 
-/// The classes of the type's two eightbytes: refused 1 to 8.
-pub fn classes(description: &[u8], type_number: u8) -> Result<[Class; 2], Refusal> {
-    let mut classes = raw::Classes { first: 0, second: 0 };
+/// The classes of the type's first four eightbytes: refused 1 to 8.
+pub fn classes(description: &[u8], type_number: u8) -> Result<[Class; 4], Refusal> {
+    let mut classes = raw::Classes { first: 0, second: 0, third: 0, fourth: 0 };
     // Safety: as in `extent`.
     let answer = unsafe {
         raw::cb_type_classes(description.as_ptr(), description.len(), type_number, &mut classes)
     };
     Refusal::of(answer)?;
-    Ok([class_of(classes.first), class_of(classes.second)])
+    Ok([classes.first, classes.second, classes.third, classes.fourth].map(class_of))
 }
 
 /// The type numbers of a struct's or union's members, as a part of the description; empty for

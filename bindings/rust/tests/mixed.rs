@@ -1,6 +1,6 @@
 //! The example of the README, examples/mixed.kcb, through every call.
 
-use callbridge::{Basic, Builder, Class, Images, Place, Register, Returned, StackNeed, Station};
+use callbridge::{Basic, Builder, Class, Images, Place, Register, ReturnImages, Returned, StackNeed, Station};
 
 const MIXED: &[u8] = include_bytes!("../../../examples/mixed.kcb");
 
@@ -34,7 +34,9 @@ fn questions_about_types() {
     assert_eq!(callbridge::check(MIXED), Ok(()));
     let extent = callbridge::extent(MIXED, 3).unwrap();
     assert_eq!((extent.size, extent.align), (16, 8));
-    assert_eq!(callbridge::classes(MIXED, 3), Ok([Class::Sse, Class::Integer]));
+    let [first, second, third, fourth] = callbridge::classes(MIXED, 3).unwrap();
+    assert_eq!((first, second), (Class::Sse, Class::Integer));
+    assert_eq!((third, fourth), (Class::NoClass, Class::NoClass));
     assert_eq!(callbridge::members(MIXED, 3), Ok(&[1u8, 2][..]));
     assert_eq!(callbridge::members(MIXED, 0), Ok(&[][..]));
     assert_eq!(callbridge::offsets(MIXED, 3), Ok(vec![0, 8]));
@@ -106,14 +108,52 @@ fn values_come_back() {
 
 #[test]
 fn a_returned_value_comes_back() {
-    let mut image = [1; callbridge::RETURN_IMAGE];
+    let mut images = ReturnImages { image: [1; callbridge::RETURN_IMAGE], ..ReturnImages::new() };
     let level = 0.25f64.to_le_bytes();
-    callbridge::put_returned(MIXED, 0, &level, &mut image).unwrap();
-    assert_eq!(&image[16..24], level);
+    callbridge::put_returned(MIXED, 0, &level, &mut images).unwrap();
+    assert_eq!(&images.image[16..24], level);
     let mut value = vec![0; callbridge::layout(MIXED).unwrap().return_size];
-    assert_eq!(callbridge::take_returned(MIXED, &image, &mut value), Ok(0));
+    assert_eq!(callbridge::take_returned(MIXED, &images, &mut value), Ok(0));
     assert_eq!(value, level);
-    assert_eq!(callbridge::put_returned(MIXED, 0, &[], &mut image).map_err(number), Err(11));
+    assert_eq!(callbridge::put_returned(MIXED, 0, &[], &mut images).map_err(number), Err(11));
+}
+
+/// A vector of 32 bytes: one register, two images; unnamed it is on the stack, which is aligned to 32.
+#[test]
+fn vectors_of_32_bytes_come_back() {
+    let mut builder = Builder::new();
+    let vector = builder.basic(Basic::M256);
+    let double = builder.basic(Basic::Double);
+    builder.returns(vector).argument(double).argument(vector).ellipsis().argument(vector);
+    let description = builder.finish().unwrap();
+    let four = [Class::Sse, Class::SseUp, Class::SseUp, Class::SseUp];
+    assert_eq!(callbridge::classes(&description, vector), Ok(four));
+    let (layout, placements) = callbridge::lay_out(&description).unwrap();
+    assert_eq!((layout.vector_registers, layout.area, layout.area_alignment), (2, 32, 32));
+    assert_eq!(layout.returned, Returned::One(Register::Wide(0)));
+    let wide = Register::Wide(1);
+    assert_eq!(placements[1].place, Place::One(wide));
+    assert_eq!(placements[1].place.to_string(), "xmm1y");
+    assert_eq!((wide.offset(), wide.upper_offset()), (Some(64), Some(16)));
+    assert_eq!(placements[2].place, Place::Stack(0));
+
+    let values: Vec<u8> = (1..=72).collect();
+    let mut images = Images::new(&layout);
+    assert_eq!(callbridge::place(&description, 0, &values, &mut images), Ok(2));
+    assert_eq!(images.registers[64..80], values[8..24]);
+    assert_eq!(images.upper[16..32], values[24..40]);
+    assert_eq!(images.stack, values[40..]);
+    let mut back = vec![0; layout.values];
+    assert_eq!(callbridge::gather(&description, &images, &mut back), Ok(0));
+    assert_eq!(back, values);
+
+    let mut returned = ReturnImages::default();
+    callbridge::put_returned(&description, 0, &values[..32], &mut returned).unwrap();
+    assert_eq!(returned.image[16..32], values[..16]);
+    assert_eq!(returned.upper[..], values[16..32]);
+    let mut value = [0; 32];
+    assert_eq!(callbridge::take_returned(&description, &returned, &mut value), Ok(0));
+    assert_eq!(value[..], values[..32]);
 }
 
 /// A struct of three doubles comes back in memory, which the caller gives; void has no byte.

@@ -104,16 +104,27 @@ fn an_empty_buffer_may_be_null() {
     let (d, n) = (none.as_ptr(), none.len());
     assert_eq!(unsafe { cb_check(null(), 0) }.number, 1);
     let (mut placed, mut gathered) = (Placed { vector_registers: 9 }, Gathered { hidden: 9 });
-    let mut registers = [1; 176];
+    let (mut registers, mut upper) = ([1; 176], [1; 128]);
     let refusal = unsafe {
-        cb_place_values(d, n, 7, null(), 0, registers.as_mut_ptr(), 176, null_mut(), 0, &mut placed)
+        let (registers, upper) = (registers.as_mut_ptr(), upper.as_mut_ptr());
+        cb_place_values(d, n, 7, null(), 0, registers, 176, upper, 128, null_mut(), 0, &mut placed)
     };
-    assert_eq!((refusal.number, placed.vector_registers, registers), (0, 0, [0; 176]));
+    assert_eq!((refusal.number, placed.vector_registers), (0, 0));
+    assert_eq!((registers, upper), ([0; 176], [0; 128]));
     let refusal = unsafe {
-        cb_gather_values(d, n, registers.as_ptr(), 176, null(), 0, null_mut(), 0, &mut gathered)
+        let (registers, upper) = (registers.as_ptr(), upper.as_ptr());
+        cb_gather_values(d, n, registers, 176, upper, 128, null(), 0, null_mut(), 0, &mut gathered)
     };
     assert_eq!((refusal.number, gathered.hidden), (0, 0));
-    let mut image = [1; 80];
-    let refusal = unsafe { cb_put_returned(d, n, 7, null(), 0, image.as_mut_ptr(), 80) };
-    assert_eq!((refusal.number, image), (0, [0; 80]));
+    // The upper images are lent where nothing is wide too.
+    let refusal = unsafe {
+        let registers = registers.as_ptr();
+        cb_gather_values(d, n, registers, 176, null(), 0, null(), 0, null_mut(), 0, &mut gathered)
+    };
+    assert_eq!(refusal.number, 11);
+    let (mut image, mut upper) = ([1; 80], [1; 16]);
+    let refusal = unsafe {
+        cb_put_returned(d, n, 7, null(), 0, image.as_mut_ptr(), 80, upper.as_mut_ptr(), 16)
+    };
+    assert_eq!((refusal.number, image, upper), (0, [0; 80], [0; 16]));
 }

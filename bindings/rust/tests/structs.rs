@@ -27,10 +27,10 @@ fn structs_are_those_of_the_library() {
     let all = structs! {
         "cb_refusal" Refusal { number type_number }
         "cb_extent" Extent { size align }
-        "cb_classes" Classes { first second }
+        "cb_classes" Classes { first second third fourth }
         "cb_part" Part { offset length image reserved }
         "cb_layout" Layout {
-            general_registers vector_registers stack_end area values return_size
+            general_registers vector_registers stack_end area area_alignment values return_size
             named_general_registers named_vector_registers named_stack_end
             arguments return_first return_second hidden reserved
         }

@@ -6,7 +6,7 @@ use Rattle.classes.specs.Classes.{codeOf}
 use Rattle.questions.specs.declared.ExtentAnswer.{ExtentAnswer}
 use Rattle.questions.specs.declared.ExtentAnswer.the-variants.{Known, Refused as NoExtent}
 use Rattle.questions.specs.declared.ClassesAnswer.{ClassesAnswer}
-use Rattle.questions.specs.declared.ClassesAnswer.the-variants.{Classes as Both, Refused as NoClasses}
+use Rattle.questions.specs.declared.ClassesAnswer.the-variants.{Classes as Four, Refused as NoClasses}
 use Rattle.questions.specs.declared.RunAnswer.{RunAnswer}
 use Rattle.questions.specs.declared.RunAnswer.the-variants.{Run, NoRun, Refused as NotAsked}
 use Rattle.flat.specs.declared.Classes.{Classes}
@@ -21,7 +21,7 @@ extentGiven (NoExtent r) = refuses r
 
 -- cb_type_classes: the numbers of enum cb_class
 abbrev pub classesGiven : ClassesAnswer → Outcome Classes
-classesGiven (Both a b) = gives (record { first = codeOf a; second = codeOf b })
+classesGiven (Four a b c e) = gives (record { first = codeOf a; second = codeOf b; third = codeOf c; fourth = codeOf e })
 classesGiven (NoClasses r) = refuses r
 
 -- cb_member_run, one byte for each member: a part is an answer, and "the empty part for a refusal or another kind"

@@ -39,10 +39,12 @@ pub fn type_classes(d: &[u8], asked: u8, before: Classes) -> GivenClasses
 {
     let answer = questions::type_classes(d, asked);
     match answer {
-        ClassesAnswer::Classes(first, second) => GivenClasses {
+        ClassesAnswer::Classes(first, second, third, fourth) => GivenClasses {
             classes: Classes {
                 first: classes::code_of(first),
                 second: classes::code_of(second),
+                third: classes::code_of(third),
+                fourth: classes::code_of(fourth),
             },
             refusal: form::refusal_of(0),
         },

@@ -133,11 +133,12 @@ tidied-told d = told _ d (lengthRefusal d) _ (through tidiedGiven (eqb (lengthRe
 
 pub placed-told : PlacedTold
 unfolding placeAnswer
-placed-told d h vals r s = told _ d (placeRefusal amd64 d h vals r s) _ (through placedGiven (eqb (placeRefusal amd64 d h vals r s) 0) _ _)
+placed-told d h vals r y s = told _ d (placeRefusal amd64 d h vals r y s) _ (through placedGiven (eqb (placeRefusal amd64 d h vals r y s) 0) _ _)
 
 pub gathered-told : GatheredTold
 unfolding gatherAnswer
-gathered-told d r s n = told _ d (gatherRefusal amd64 d n (length r) (length s)) _ (through gatheredGiven (eqb (gatherRefusal amd64 d n (length r) (length s)) 0) _ _)
+gathered-told d r y s n =
+    told _ d (gatherRefusal amd64 d n (length r) (length y) (length s)) _ (through gatheredGiven (eqb (gatherRefusal amd64 d n (length r) (length y) (length s)) 0) _ _)
 
 pub open-told : OpenTold
 unfolding openAnswer openedIf
@@ -169,11 +170,11 @@ shown-told s seat w a =
 
 pub put-told : PutTold
 unfolding putAnswer
-put-told d h v n = through putGiven (eqb (putRefusal d h v n) 0) _ _ ∙ refusal-zero d (putRefusal d h v n)
+put-told d h v n m = through putGiven (eqb (putRefusal d h v n m) 0) _ _ ∙ refusal-zero d (putRefusal d h v n m)
 
 pub taken-told : TakenTold
 unfolding takeAnswer
-taken-told d i n = told _ d (takeRefusal d i n) _ (through takenGiven (eqb (takeRefusal d i n) 0) _ _)
+taken-told d i y n = told _ d (takeRefusal d i y n) _ (through takenGiven (eqb (takeRefusal d i y n) 0) _ _)
 
 pub attach-told : AttachTold
 unfolding attachGiven

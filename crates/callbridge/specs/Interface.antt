@@ -47,7 +47,7 @@ use Rattle.flat.specs.declared.Walk.{Walk}
 use Rattle.flat.specs.Records.{layoutOf}
 use Rattle.flat.specs.Parts.{nowhere, ofDescription}
 use Rattle.flat.specs.Stations.{stationMeant, flatStation, walkMeant, flatWalk}
-use Rattle.flat.specs.Meanings.{placementMeant, layoutMeant}
+use Rattle.flat.specs.Meanings.{placementMeant, layoutMeant, summaryOf}
 use Rattle.flat.specs.StackNeeds.{flatNeed}
 use Rattle.c_calls.specs.Outcome.{Outcome, refusalIn, leftIn}
 use Rattle.c_calls.specs.TypeCalls.{extentGiven, classesGiven, runPart, runRefusal}
@@ -71,7 +71,12 @@ ExtentTold = (d : List ℕ) (t : ℕ) → Tells (extentGiven (extentAnswer d t))
 abbrev pub ClassesTold : Type 0
 ClassesTold = (d : List ℕ) (t : ℕ)
     → Tells (classesGiven (classesAnswer d t)) d (questionRefusal d t)
-    (record { first = codeOf (getD (classesOf (modelIn d) (tyAt d t)) 0 NoClass); second = codeOf (getD (classesOf (modelIn d) (tyAt d t)) 1 NoClass) })
+    (record {
+      first = codeOf (getD (classesOf (modelIn d) (tyAt d t)) 0 NoClass);
+      second = codeOf (getD (classesOf (modelIn d) (tyAt d t)) 1 NoClass);
+      third = codeOf (getD (classesOf (modelIn d) (tyAt d t)) 2 NoClass);
+      fourth = codeOf (getD (classesOf (modelIn d) (tyAt d t)) 3 NoClass);
+    })
 
 -- "or as the empty part for .. another kind"
 unfoldable pub runOf : List ℕ → ℕ → Part
@@ -102,20 +107,23 @@ TidiedTold = (d : List ℕ) → Tells (tidiedGiven (lengthAnswer d)) d (lengthRe
 
 -- cb_place_values, cb_gather_values
 abbrev pub PlacedTold : Type 0
-PlacedTold = (d : List ℕ) (h : ℕ) (values : List ℕ) (registersLength stackLength : ℕ)
-    → Tells (placedGiven (placeAnswer amd64 d h values registersLength stackLength)) d (placeRefusal amd64 d h values registersLength stackLength) (record { vector = usedAt d (argumentsIn d) .vector })
+PlacedTold = (d : List ℕ) (h : ℕ) (values : List ℕ) (registersLength upperLength stackLength : ℕ)
+    → Tells (placedGiven (placeAnswer amd64 d h values registersLength upperLength stackLength)) d (placeRefusal amd64 d h values registersLength upperLength stackLength)
+    (record { vector = usedAt d (argumentsIn d) .vector })
 
 abbrev pub GatheredTold : Type 0
-GatheredTold = (d r s : List ℕ) (valuesLength : ℕ)
-    → Tells (gatheredGiven (gatherAnswer amd64 d r s valuesLength)) d (gatherRefusal amd64 d valuesLength (length r) (length s)) (record { hidden = ownAddress (frameOf d) (r ++ s) })
+GatheredTold = (d r y s : List ℕ) (valuesLength : ℕ)
+    → Tells (gatheredGiven (gatherAnswer amd64 d r y s valuesLength)) d (gatherRefusal amd64 d valuesLength (length r) (length y) (length s))
+    (record { hidden = ownAddress (frameOf d) (r ++ (y ++ s)) })
 
 -- cb_put_returned has no record, cb_take_returned the hidden address
 abbrev pub PutTold : Type 0
-PutTold = (d : List ℕ) (h : ℕ) (value : List ℕ) (imageLength : ℕ) → putGiven (putAnswer d h value imageLength) ≡ refusalFor d (putRefusal d h value imageLength)
+PutTold = (d : List ℕ) (h : ℕ) (value : List ℕ) (imageLength upperLength : ℕ)
+    → putGiven (putAnswer d h value imageLength upperLength) ≡ refusalFor d (putRefusal d h value imageLength upperLength)
 
 abbrev pub TakenTold : Type 0
-TakenTold = (d image : List ℕ) (valueLength : ℕ)
-    → Tells (takenGiven (takeAnswer d image valueLength)) d (takeRefusal d image valueLength) (record { hidden = returnedAddress (returnPlace d) image })
+TakenTold = (d image upper : List ℕ) (valueLength : ℕ)
+    → Tells (takenGiven (takeAnswer d image upper valueLength)) d (takeRefusal d image upper valueLength) (record { hidden = returnedAddress (returnPlace d) (image ++ upper) })
 
 -- cb_attach, cb_detach: of what the station means
 abbrev pub AttachTold : Type 0
@@ -153,4 +161,4 @@ ListMeans = (d : List ℕ) (l : List Placement) (j : ℕ) (x : Placement) → li
     → placementMeant (getD (filled (flatAt d) (listCount d (length l)) l) j x) ≡ placementAt d j
 
 abbrev pub SummaryMeans : Type 0
-SummaryMeans = (d : List ℕ) (old : Layout) → verdict d ≡ 0 → layoutMeant (leftIn (layoutGiven (argumentsIn d) (layoutAnswer d)) old) ≡ wholeOf d
+SummaryMeans = (d : List ℕ) (old : Layout) → verdict d ≡ 0 → layoutMeant (leftIn (layoutGiven (argumentsIn d) (layoutAnswer d)) old) ≡ summaryOf (wholeOf d)

@@ -27,8 +27,8 @@ ghost use Rattle.layout.specs.Verdict.{verdict};
 ghost use Rattle.layout.specs.StackNeeds.{stackAnswer};
 ghost use Rattle.moving.specs.Images.{amd64};
 ghost use Rattle.tidying.specs.Answers.{tidyRefusal, lengthAnswer, tidyAfter};
-ghost use Rattle.moving.specs.Answers.{placeAnswer, registersAfter, stackAfter, gatherAnswer, valuesAfter};
-ghost use Rattle.returning.specs.Answers.{putAnswer, imageAfter, takeAnswer, valueAfter};
+ghost use Rattle.moving.specs.Answers.{placeAnswer, registersAfter, upperAfter, stackAfter, gatherAnswer, valuesAfter};
+ghost use Rattle.returning.specs.Answers.{putAnswer, imageAfter, upperAfter as returnedUpper, takeAnswer, valueAfter};
 ghost use Rattle.station.specs.Paper.{kcb};
 ghost use Rattle.station.specs.Attachment.{newStation, attachSeat, detachSeat, changeSeat};
 ghost use Rattle.walk.specs.Orders.{asking};
@@ -49,7 +49,7 @@ ghost use Rattle.c_calls.specs.WalkCalls.{openGiven, stepGiven, shownPart, show
 // CB_VERSION.
 #[no_mangle]
 pub extern "C" fn cb_version() -> u32
-    ensures { λ r. ⌜ r ≡ 3 ⌝ }
+    ensures { λ r. ⌜ r ≡ 4 ⌝ }
 {
     flat::version()
 }
@@ -175,66 +175,77 @@ pub extern "C" fn cb_tidy(d: &[u8], out: &mut [u8]) -> Refusal
     tidying::tidy(d, out)
 }
 
-// Values into both images.
+// Values into the three images.
 #[no_mangle]
 pub extern "C" fn cb_place_values(
     d: &[u8],
     hidden: u64,
     values: &[u8],
     registers: &mut [u8],
+    upper: &mut [u8],
     stack: &mut [u8],
     placed: &mut Placed,
 ) -> Refusal
-    ensures { λ r. ⌜ (r ≡ refusalIn (placedGiven (placeAnswer amd64 (now (d .entry)) hidden (now (values .entry)) (length (now (registers .entry))) (length (now (stack .entry))))))
-        × ((now (placed .exit) ≡ leftIn (placedGiven (placeAnswer amd64 (now (d .entry)) hidden (now (values .entry)) (length (now (registers .entry))) (length (now (stack .entry))))) (now (placed .entry)))
-        × ((now (registers .exit) ≡ registersAfter amd64 (now (d .entry)) hidden (now (values .entry)) (now (registers .entry)) (now (stack .entry)))
-        × (now (stack .exit) ≡ stackAfter amd64 (now (d .entry)) hidden (now (values .entry)) (now (registers .entry)) (now (stack .entry))))) ⌝ }
+    ensures { λ r. ⌜ (r ≡ refusalIn (placedGiven (placeAnswer amd64 (now (d .entry)) hidden (now (values .entry)) (length (now (registers .entry))) (length (now (upper .entry))) (length (now (stack .entry))))))
+        × ((now (placed .exit) ≡ leftIn (placedGiven (placeAnswer amd64 (now (d .entry)) hidden (now (values .entry)) (length (now (registers .entry))) (length (now (upper .entry))) (length (now (stack .entry))))) (now (placed .entry)))
+        × ((now (registers .exit) ≡ registersAfter amd64 (now (d .entry)) hidden (now (values .entry)) (now (registers .entry)) (now (upper .entry)) (now (stack .entry)))
+        × ((now (upper .exit) ≡ upperAfter amd64 (now (d .entry)) hidden (now (values .entry)) (now (registers .entry)) (now (upper .entry)) (now (stack .entry)))
+        × (now (stack .exit) ≡ stackAfter amd64 (now (d .entry)) hidden (now (values .entry)) (now (registers .entry)) (now (upper .entry)) (now (stack .entry)))))) ⌝ }
 {
-    let given = c_calls::place_values(d, hidden, values, registers, stack, *placed);
+    let given = c_calls::place_values(d, hidden, values, registers, upper, stack, *placed);
     *placed = given.placed;
     given.refusal
 }
 
-// Values out of both images.
+// Values out of the three images.
 #[no_mangle]
 pub extern "C" fn cb_gather_values(
     d: &[u8],
     registers: &[u8],
+    upper: &[u8],
     stack: &[u8],
     values: &mut [u8],
     gathered: &mut Gathered,
 ) -> Refusal
-    ensures { λ r. ⌜ (r ≡ refusalIn (gatheredGiven (gatherAnswer amd64 (now (d .entry)) (now (registers .entry)) (now (stack .entry)) (length (now (values .entry))))))
-        × ((now (gathered .exit) ≡ leftIn (gatheredGiven (gatherAnswer amd64 (now (d .entry)) (now (registers .entry)) (now (stack .entry)) (length (now (values .entry))))) (now (gathered .entry)))
-        × (now (values .exit) ≡ valuesAfter amd64 (now (d .entry)) (now (registers .entry)) (now (stack .entry)) (now (values .entry)))) ⌝ }
+    ensures { λ r. ⌜ (r ≡ refusalIn (gatheredGiven (gatherAnswer amd64 (now (d .entry)) (now (registers .entry)) (now (upper .entry)) (now (stack .entry)) (length (now (values .entry))))))
+        × ((now (gathered .exit) ≡ leftIn (gatheredGiven (gatherAnswer amd64 (now (d .entry)) (now (registers .entry)) (now (upper .entry)) (now (stack .entry)) (length (now (values .entry))))) (now (gathered .entry)))
+        × (now (values .exit) ≡ valuesAfter amd64 (now (d .entry)) (now (registers .entry)) (now (upper .entry)) (now (stack .entry)) (now (values .entry)))) ⌝ }
 {
-    let given = c_calls::gather_values(d, registers, stack, values, *gathered);
+    let given = c_calls::gather_values(d, registers, upper, stack, values, *gathered);
     *gathered = given.gathered;
     given.refusal
 }
 
-// A returned value into the return image.
+// A returned value into the two return images.
 #[no_mangle]
-pub extern "C" fn cb_put_returned(d: &[u8], hidden: u64, value: &[u8], image: &mut [u8]) -> Refusal
-    ensures { λ r. ⌜ (r ≡ putGiven (putAnswer (now (d .entry)) hidden (now (value .entry)) (length (now (image .entry)))))
-        × (now (image .exit) ≡ imageAfter (now (d .entry)) hidden (now (value .entry)) (now (image .entry))) ⌝ }
+pub extern "C" fn cb_put_returned(
+    d: &[u8],
+    hidden: u64,
+    value: &[u8],
+    image: &mut [u8],
+    upper: &mut [u8],
+) -> Refusal
+    ensures { λ r. ⌜ (r ≡ putGiven (putAnswer (now (d .entry)) hidden (now (value .entry)) (length (now (image .entry))) (length (now (upper .entry)))))
+        × ((now (image .exit) ≡ imageAfter (now (d .entry)) hidden (now (value .entry)) (now (image .entry)) (now (upper .entry)))
+        × (now (upper .exit) ≡ returnedUpper (now (d .entry)) hidden (now (value .entry)) (now (image .entry)) (now (upper .entry)))) ⌝ }
 {
-    c_calls::put_returned(d, hidden, value, image)
+    c_calls::put_returned(d, hidden, value, image, upper)
 }
 
-// A returned value out of the return image.
+// A returned value out of the two return images.
 #[no_mangle]
 pub extern "C" fn cb_take_returned(
     d: &[u8],
     image: &[u8],
+    upper: &[u8],
     value: &mut [u8],
     gathered: &mut Gathered,
 ) -> Refusal
-    ensures { λ r. ⌜ (r ≡ refusalIn (takenGiven (takeAnswer (now (d .entry)) (now (image .entry)) (length (now (value .entry))))))
-        × ((now (gathered .exit) ≡ leftIn (takenGiven (takeAnswer (now (d .entry)) (now (image .entry)) (length (now (value .entry))))) (now (gathered .entry)))
-        × (now (value .exit) ≡ valueAfter (now (d .entry)) (now (image .entry)) (now (value .entry)))) ⌝ }
+    ensures { λ r. ⌜ (r ≡ refusalIn (takenGiven (takeAnswer (now (d .entry)) (now (image .entry)) (now (upper .entry)) (length (now (value .entry))))))
+        × ((now (gathered .exit) ≡ leftIn (takenGiven (takeAnswer (now (d .entry)) (now (image .entry)) (now (upper .entry)) (length (now (value .entry))))) (now (gathered .entry)))
+        × (now (value .exit) ≡ valueAfter (now (d .entry)) (now (image .entry)) (now (upper .entry)) (now (value .entry)))) ⌝ }
 {
-    let given = c_calls::take_returned(d, image, value, *gathered);
+    let given = c_calls::take_returned(d, image, upper, value, *gathered);
     *gathered = given.gathered;
     given.refusal
 }

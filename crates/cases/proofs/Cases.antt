@@ -12,12 +12,12 @@ use Rattle.types.specs.Decode.{tysFrom, tyBy, tyAt}
 use Rattle.types.specs.Large.{large, tooLarge}
 use Rattle.classes.specs.Classes.{same, isX87, mergeOf, mergeAll}
 use Rattle.classes.specs.CleanUp.{upAlone, settled, cleanUp}
-use Rattle.classify.specs.Classify.{firstClass, secondClass, gap, oneClass, basicAt, elementsAt, classesAt, classesOf}
+use Rattle.classify.specs.Classify.{firstClass, secondClass, gap, oneClass, vectorAt, basicAt, elementsAt, eightbytesIn, closed, classesAt, eightbytesOf, shown, classesOf}
 use Rattle.uses.specs.Uses.{wrongNumber, wrongReturn, wrongUse, narrow, narrowUnnamed}
-use Rattle.places.specs.Shapes.{kindsOf, shapeOf}
+use Rattle.places.specs.Shapes.{kindsOf, kindsFor, shapeOf}
 use Rattle.places.specs.Places.{enough, fits, start, place, next, area}
 use Rattle.places.specs.Returns.{returnOf, hiddenBy}
-use Rattle.layout.specs.Arguments.{shapeAt, shapesFrom, isVoid, returnPlace, returnedSize, hidden, usedAt, areaOf}
+use Rattle.layout.specs.Arguments.{isNamed, shapeAt, shapesFrom, isVoid, returnPlace, returnedSize, hidden, usedAt, areaOf}
 use Rattle.layout.specs.Verdict.{wideArea, verdict}
 use Rattle.layout.specs.Layout.{valuesOf, layoutOf, layoutAnswer}
 use Rattle.layout.specs.Placements.{placementAt}
@@ -34,5 +34,5 @@ abbrev want : Case → LayoutAnswer × List Placement
 want c = (Laid (c .laid), c .records)
 
 pub cases-hold : map got cases ≡ map want cases
-unfolding cases raise kindAt aAt countAt memberAt argumentAt firstFrom tooShort wrongMark wrongVersion wrongCounts wrongLength brokenBasic brokenArray brokenRun brokenRecord wrongRecord basicSize basicAlign alignTy sizeTy offsetAfter endAfter tysFrom tyBy tyAt variadicIn modelIn large tooLarge same isX87 mergeOf mergeAll upAlone settled cleanUp firstClass secondClass gap oneClass basicAt elementsAt classesAt classesOf wrongNumber wrongReturn wrongUse narrow narrowUnnamed kindsOf shapeOf enough fits start place next area returnOf hiddenBy shapeAt shapesFrom isVoid returnPlace hidden usedAt areaOf wideArea verdict valuesOf returnedSize layoutOf layoutAnswer placementAt
+unfolding cases raise kindAt aAt countAt memberAt argumentAt firstFrom tooShort wrongMark wrongVersion wrongCounts wrongLength brokenBasic brokenArray brokenRun brokenRecord wrongRecord basicSize basicAlign alignTy sizeTy offsetAfter endAfter tysFrom tyBy tyAt variadicIn modelIn large tooLarge same isX87 mergeOf mergeAll upAlone settled cleanUp firstClass secondClass gap oneClass vectorAt basicAt elementsAt eightbytesIn closed classesAt eightbytesOf shown classesOf wrongNumber wrongReturn wrongUse narrow narrowUnnamed kindsOf kindsFor shapeOf enough fits start place next area returnOf hiddenBy isNamed shapeAt shapesFrom isVoid returnPlace hidden usedAt areaOf wideArea verdict valuesOf returnedSize layoutOf layoutAnswer placementAt
 cases-hold = refl

@@ -54,5 +54,8 @@ longDouble = basic 8
 abbrev pub m128 : List ℕ
 m128 = basic 11
 
+abbrev pub m256 : List ℕ
+m256 = basic 16
+
 abbrev pub complexDouble : List ℕ
 complexDouble = basic 13

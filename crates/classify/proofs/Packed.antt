@@ -12,18 +12,18 @@ use Rattle.classes.specs.Classes.{same, noClasses, mergeOf, mergeAll}
 use Rattle.classes.specs.CleanUp.{upAlone, settled, cleanUp}
 use Rattle.classes.proofs.Laws.{merge-commutes, merge-none}
 use Rattle.classes.proofs.Absorb.{merge-self}
-use Rattle.classify.specs.Table.{classBy, unpackedOf}
+use Rattle.classify.specs.Table.{classBy, pairIn}
 use Rattle.classify.proofs.Table.{low-part, high-part}
 
 -- 64 is NO_CLASS twice
-pub none-packed : unpackedOf 64 ≡ noClasses 2
-unfolding unpackedOf classBy
+pub none-packed : pairIn 64 ≡ noClasses 2
+unfolding pairIn classBy
 none-packed = refl
 
 -- eightbyte by eightbyte
 merge-parts : (x y : ℕ) (a b : Class) → a ≡ mergeOf (classBy (x % 8)) (classBy (y % 8)) → b ≡ mergeOf (classBy (x / 8 % 8)) (classBy (y / 8 % 8))
-    → a ∷ b ∷ [] ≡ mergeAll (unpackedOf x) (unpackedOf y)
-unfolding unpackedOf mergeAll
+    → a ∷ b ∷ [] ≡ mergeAll (pairIn x) (pairIn y)
+unfolding pairIn mergeAll
 merge-parts x y a b ea eb = rw (ea, eb)
 
 -- what adds nothing
@@ -42,30 +42,30 @@ none-merged c = sym (merge-commutes NoClass c ∙ merge-none c)
 
 -- the four ways out without the rules
 
-pub merged-same : (x y : ℕ) → x ≡ y → unpackedOf x ≡ mergeAll (unpackedOf x) (unpackedOf y)
-unfolding unpackedOf
+pub merged-same : (x y : ℕ) → x ≡ y → pairIn x ≡ mergeAll (pairIn x) (pairIn y)
+unfolding pairIn
 merged-same x y e =
     merge-parts x y (classBy (x % 8)) (classBy (x / 8 % 8))
     (sym (ap (λ (n : ℕ). mergeOf (classBy (x % 8)) (classBy (n % 8))) (sym e) ∙ merge-self (classBy (x % 8))))
     (sym (ap (λ (n : ℕ). mergeOf (classBy (x / 8 % 8)) (classBy (n / 8 % 8))) (sym e) ∙ merge-self (classBy (x / 8 % 8))))
 
-pub merged-first : (x y : ℕ) → x ≡ 64 → unpackedOf y ≡ mergeAll (unpackedOf x) (unpackedOf y)
-unfolding unpackedOf classBy
+pub merged-first : (x y : ℕ) → x ≡ 64 → pairIn y ≡ mergeAll (pairIn x) (pairIn y)
+unfolding pairIn classBy
 merged-first x y e =
     merge-parts x y (classBy (y % 8)) (classBy (y / 8 % 8))
     (rw e (none-merged (classBy (y % 8))))
     (rw e (none-merged (classBy (y / 8 % 8))))
 
 module _ (x y : ℕ) (h : mergeOf (classBy (x % 8)) (classBy (y % 8)) ≡ classBy (x % 8)) where
-  pub merged-next : (s : ℕ) → s ≡ y / 8 % 8 → x / 8 % 8 ≡ 0 → unpackedOf (64 + x % 8 + 8 * s) ≡ mergeAll (unpackedOf x) (unpackedOf y)
-  unfolding unpackedOf classBy
+  pub merged-next : (s : ℕ) → s ≡ y / 8 % 8 → x / 8 % 8 ≡ 0 → pairIn (64 + x % 8 + 8 * s) ≡ mergeAll (pairIn x) (pairIn y)
+  unfolding pairIn classBy
   merged-next s es e =
       let small : s < 8 = omega arith in
       rw (low-part (x % 8) s (omega arith) small, high-part (x % 8) s (omega arith) small, es)
       (merge-parts x y (classBy (x % 8)) (classBy (y / 8 % 8)) (sym h) (rw e (none-merged (classBy (y / 8 % 8)))))
 
-  pub merged-kept : (s : ℕ) → s ≡ y / 8 % 8 → (eqb s 0 || eqb (x / 8 % 8) s) ≡ true → unpackedOf x ≡ mergeAll (unpackedOf x) (unpackedOf y)
-  unfolding unpackedOf
+  pub merged-kept : (s : ℕ) → s ≡ y / 8 % 8 → (eqb s 0 || eqb (x / 8 % 8) s) ≡ true → pairIn x ≡ mergeAll (pairIn x) (pairIn y)
+  unfolding pairIn
   merged-kept s es t =
       merge-parts x y (classBy (x % 8)) (classBy (x / 8 % 8)) (sym h) (sym (ap (λ (n : ℕ). mergeOf (classBy (x / 8 % 8)) (classBy n)) (sym es) ∙ adds-nothing (x / 8 % 8) s t))
 
@@ -86,8 +86,8 @@ plain-clean zero (suc (suc (suc b))) p q = absurd (omega arith)
 plain-clean (suc zero) (suc (suc (suc b))) p q = absurd (omega arith)
 plain-clean (suc (suc zero)) (suc (suc (suc b))) p q = absurd (omega arith)
 
-pub clean-kept : (x : ℕ) → (ltb (x % 8) 3 && ltb (x / 8 % 8) 3) ≡ true → unpackedOf x ≡ cleanUp (unpackedOf x)
-unfolding unpackedOf
+pub clean-kept : (x : ℕ) → (ltb (x % 8) 3 && ltb (x / 8 % 8) 3) ≡ true → pairIn x ≡ cleanUp (pairIn x)
+unfolding pairIn
 clean-kept x h = plain-clean (x % 8) (x / 8 % 8) (ltb-true (x % 8) 3 (both .0)) (ltb-true (x / 8 % 8) 3 (both .1))
   where
     split : (a b : Bool) → (a && b) ≡ true → (a ≡ true) × (b ≡ true)

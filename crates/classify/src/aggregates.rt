@@ -11,7 +11,7 @@ ghost use Rattle.classes.specs.Classes.{noClasses};
 ghost use Rattle.types.specs.Decode.{tyAt, tysFrom};
 ghost use Rattle.classify.specs.Classify.{elementsAt, classesAt, membersAt};
 ghost use Rattle.classify.specs.Asks.{AskType, AskElements, AskMembers};
-ghost use Rattle.classify.specs.Table.{unpackedOf, Ready, Listed};
+ghost use Rattle.classify.specs.Table.{pairIn, Ready, Listed};
 
 // Where members end that ended at `end`, once one of `size` bytes at `offset` is there too.
 fn end_past(end: Bytes, offset: Bytes, size: Bytes) -> Bytes
@@ -25,10 +25,10 @@ fn end_past(end: Bytes, offset: Bytes, size: Bytes) -> Bytes
 // in one eightbyte has one class, wherever it lies in it; other answers are finished ones.
 fn look_up(d: &[u8], k: usize, at: Bytes, table: &[u32; 64], finished: &[u8; 512]) -> u8
     requires { ⌜ AskType (now d) k (at .0) × Ready (now d) (now table) (now finished) (k + 1) ⌝ }
-    ensures { λ r. ⌜ (0 < r → unpackedOf r ≡ classesAt (modelIn (now (d .entry))) 2 (tyAt (now (d .entry)) k) (at .0)) ⌝ }
+    ensures { λ r. ⌜ (0 < r → pairIn r ≡ classesAt (modelIn (now (d .entry))) 2 (tyAt (now (d .entry)) k) (at .0)) ⌝ }
 {
     let entry = types::wide(table[k]);
-    let first = (entry / 262144 % 128) as u8;
+    let first = (entry / 524288 % 128) as u8;
     let offset = at.0;
     if offset == 0 {
         return first;
@@ -45,7 +45,7 @@ fn look_up(d: &[u8], k: usize, at: Bytes, table: &[u32; 64], finished: &[u8; 512
 // The classes of type k at offset `at` of the whole: looked up, or worked out.
 fn classify_type(d: &[u8], k: usize, at: Bytes, table: &[u32; 64], finished: &[u8; 512]) -> u8
     requires { ⌜ AskType (now d) k (at .0) × Ready (now d) (now table) (now finished) (k + 1) ⌝ }
-    ensures { λ r. ⌜ unpackedOf r ≡ classesAt (modelIn (now (d .entry))) 2 (tyAt (now (d .entry)) k) (at .0) ⌝ }
+    ensures { λ r. ⌜ pairIn r ≡ classesAt (modelIn (now (d .entry))) 2 (tyAt (now (d .entry)) k) (at .0) ⌝ }
 {
     let packed = look_up(d, k, at, table, finished);
     if 0 < packed {
@@ -57,7 +57,7 @@ fn classify_type(d: &[u8], k: usize, at: Bytes, table: &[u32; 64], finished: &[u
 // The classes of type k at offset `at` of the whole, from those of the types that it names.
 pub fn work_out(d: &[u8], k: usize, at: Bytes, table: &[u32; 64], finished: &[u8; 512]) -> u8
     requires { ⌜ AskType (now d) k (at .0) × Ready (now d) (now table) (now finished) k ⌝ }
-    ensures { λ r. ⌜ unpackedOf r ≡ classesAt (modelIn (now (d .entry))) 2 (tyAt (now (d .entry)) k) (at .0) ⌝ }
+    ensures { λ r. ⌜ pairIn r ≡ classesAt (modelIn (now (d .entry))) 2 (tyAt (now (d .entry)) k) (at .0) ⌝ }
 {
     let kind = description::kind_at(d, k);
     let a = description::a_at(d, k);
@@ -85,7 +85,7 @@ fn classify_elements(
     finished: &[u8; 512],
 ) -> u8
     requires { ⌜ AskElements (now d) k count (size .0) (at .0) × Ready (now d) (now table) (now finished) (k + 1) ⌝ }
-    ensures { λ r. ⌜ unpackedOf r ≡ elementsAt (classesAt (modelIn (now (d .entry))) 2 (tyAt (now (d .entry)) k)) (size .0) count (at .0) (noClasses 2) ⌝ }
+    ensures { λ r. ⌜ pairIn r ≡ elementsAt (classesAt (modelIn (now (d .entry))) 2 (tyAt (now (d .entry)) k)) (size .0) count (at .0) (noClasses 2) ⌝ }
 {
     let mut merged: u8 = 64;
     let mut offset = at;
@@ -111,7 +111,7 @@ fn classify_members(
     finished: &[u8; 512],
 ) -> u8
     requires { ⌜ AskMembers (now d) k first count union 0 (at .0) × Ready (now d) (now table) (now finished) k ⌝ }
-    ensures { λ r. ⌜ unpackedOf r ≡ membersAt (modelIn (now (d .entry))) 2 (tysFrom (tyAt (now (d .entry))) (now (d .entry)) first count) union 0 (at .0) (noClasses 2) ⌝ }
+    ensures { λ r. ⌜ pairIn r ≡ membersAt (modelIn (now (d .entry))) 2 (tysFrom (tyAt (now (d .entry))) (now (d .entry)) first count) union 0 (at .0) (noClasses 2) ⌝ }
 {
     let mut merged: u8 = 64;
     let mut end = Bytes(0);
@@ -142,7 +142,7 @@ pub fn classify_listed(
     finished: &[u8; 512],
 ) -> u8
     requires { ⌜ Listed (now d) k (now list) n × AskType (now d) k (at .0) × Ready (now d) (now table) (now finished) k ⌝ }
-    ensures { λ r. ⌜ unpackedOf r ≡ classesAt (modelIn (now (d .entry))) 2 (tyAt (now (d .entry)) k) (at .0) ⌝ }
+    ensures { λ r. ⌜ pairIn r ≡ classesAt (modelIn (now (d .entry))) 2 (tyAt (now (d .entry)) k) (at .0) ⌝ }
 {
     let mut merged: u8 = 64;
     let mut i = 0;

@@ -3,7 +3,7 @@
 use crate::aggregates;
 use crate::table_words;
 use crate::unions;
-use classes::Class;
+use crate::wide_aggregates;
 use units::Bytes;
 ghost use mathlib.Core.Path.{_≡_};
 ghost use Prim.Native.Nat.{_<_};
@@ -84,14 +84,14 @@ fn finish(
     }
 }
 
-// The classes of aggregate k and what they ask for, in one number: "Over 16 bytes: MEMORY".
+// The classes of aggregate k and what they ask for, in one number.
 fn aggregate_word(d: &[u8], k: usize, table: &[u32; 64], finished: &mut [u8; 512]) -> u32
     requires { ⌜ Sized (modelIn (now d)) (now d) k × (kindAt (now d) k ≡ 0 → ⊥) × Ready (now d) (now table) (now finished) k ⌝ }
     ensures { λ r. ⌜ (r ≡ wordOf (classesOf (modelIn (now (d .entry))) (tyAt (now (d .entry)) k))) × Right (now (d .entry)) (now (finished .exit)) ⌝ }
 {
     let extent = types::extent_in(table, k);
     if units::over(extent.size, Bytes(16)) {
-        return table_words::word_of([Class::Memory, Class::NoClass]);
+        return wide_aggregates::wide_word(d, k, extent.size, table);
     }
     let mut list = [0u8; 64];
     let n = unions::list_members(d, k, &mut list);

@@ -7,7 +7,7 @@ ghost use Prim.Native.Nat.{_/_, _%_};
 ghost use lib.Dec.{eqb, ltb};
 ghost use Rattle.classes.specs.Classes.{mergeOf, mergeAll};
 ghost use Rattle.classes.specs.CleanUp.{cleanUp};
-ghost use Rattle.classify.specs.Table.{classBy, unpackedOf};
+ghost use Rattle.classify.specs.Table.{classBy, pairIn};
 
 // Whether `class` changes nothing in an eightbyte of class `merged`: "equal; one NO_CLASS gives the other".
 fn adds_nothing(merged: u8, class: u8) -> bool
@@ -21,7 +21,7 @@ fn adds_nothing(merged: u8, class: u8) -> bool
 
 // Merged by the rules.
 fn merge_by_rules(merged: u8, classes: u8) -> u8
-    ensures { λ r. ⌜ unpackedOf r ≡ mergeAll (unpackedOf merged) (unpackedOf classes) ⌝ }
+    ensures { λ r. ⌜ pairIn r ≡ mergeAll (pairIn merged) (pairIn classes) ⌝ }
 {
     let a = table_words::unpack(table_words::wide(merged));
     let b = table_words::unpack(table_words::wide(classes));
@@ -31,7 +31,7 @@ fn merge_by_rules(merged: u8, classes: u8) -> u8
 // Merged where nothing changes in the first eightbyte.
 fn merge_second(merged: u8, classes: u8) -> u8
     requires { ⌜ mergeOf (classBy (merged % 8)) (classBy (classes % 8)) ≡ classBy (merged % 8) ⌝ }
-    ensures { λ r. ⌜ unpackedOf r ≡ mergeAll (unpackedOf merged) (unpackedOf classes) ⌝ }
+    ensures { λ r. ⌜ pairIn r ≡ mergeAll (pairIn merged) (pairIn classes) ⌝ }
 {
     let second = classes / 8 % 8;
     if merged / 8 % 8 == 0 {
@@ -45,7 +45,7 @@ fn merge_second(merged: u8, classes: u8) -> u8
 
 // The classes of one more member, merged into those so far. 64 is NO_CLASS twice.
 pub fn merge_packed(merged: u8, classes: u8) -> u8
-    ensures { λ r. ⌜ unpackedOf r ≡ mergeAll (unpackedOf merged) (unpackedOf classes) ⌝ }
+    ensures { λ r. ⌜ pairIn r ≡ mergeAll (pairIn merged) (pairIn classes) ⌝ }
 {
     if merged == classes {
         return merged;
@@ -71,7 +71,7 @@ fn is_plain(packed: u8) -> bool
 
 // What is done after merging.
 pub fn clean_packed(merged: u8) -> u8
-    ensures { λ r. ⌜ unpackedOf r ≡ cleanUp (unpackedOf merged) ⌝ }
+    ensures { λ r. ⌜ pairIn r ≡ cleanUp (pairIn merged) ⌝ }
 {
     if is_plain(merged) {
         return merged;

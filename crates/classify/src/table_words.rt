@@ -1,14 +1,17 @@
-// The classes of a basic type, and a type's two classes as one word of the table: packed with what they ask for, oneClass into an entry, and read again.
+// The classes of a basic type, and a type's classes as one word of the table: packed with what they ask for, put into an entry, and read again. Two classes are
+// packed as a pair; SSE and three SSEUP, which nothing over two eightbytes but a vector of 32 bytes has, are one more word.
 use classes::Class;
 use units::Bytes;
 ghost use mathlib.Core.Path.{_≡_};
 ghost use mathlib.Core.List.{[], _∷_};
 ghost use Prim.Native.Nat.{_+_, _*_, _/_, _%_, _<_, _≤_};
 ghost use lib.ListN.{getD};
-ghost use Rattle.classify.specs.Classify.{oneClass, basicAt};
-ghost use Rattle.classify.specs.Table.{classBy, unpackedOf, packedOf, askOf, asksOf, wordOf};
+ghost use Rattle.types.specs.Tree.{basic};
+ghost use Rattle.description.specs.declared.Model.{Model};
+ghost use Rattle.classify.specs.Classify.{oneClass, basicAt, classesOf};
+ghost use Rattle.classify.specs.Table.{classBy, pairIn, wideIn, packedOf, askOf, asksOf, wordOf};
 
-// Of each code: its first class, the class of its second part, and how far on that part starts.
+// Of each code below 16: its first class, the class of its second part, and how far on that part starts.
 const FIRST: [Class; 16] = [
     Class::Integer,
     Class::Integer,
@@ -50,8 +53,8 @@ const SECOND: [Class; 16] = [
 const GAP: [u8; 16] = [0, 0, 0, 0, 0, 8, 0, 0, 8, 8, 0, 8, 4, 8, 0, 0];
 
 // Of each code: its classes at offset 0 and what they ask for, in one number as `word_of` makes it. INTEGER alone is 64 + 1, and
-// 128 for one general register: 193.
-const WORDS: [u16; 16] = [
+// 128 for one general register: 193. SSE and three SSEUP are 26, without the 64, and 128 times 16 for one vector register.
+const WORDS: [u16; 17] = [
     193,
     193,
     193,
@@ -68,6 +71,7 @@ const WORDS: [u16; 16] = [
     4178,
     966,
     193,
+    2074,
 ];
 
 // One class, in the eightbyte that `at` lies in.
@@ -113,7 +117,7 @@ fn class_by(code: usize) -> Class
 
 // Two classes out of one number.
 pub fn unpack(packed: usize) -> [Class; 2]
-    ensures { λ r. ⌜ r ≡ unpackedOf packed ⌝ }
+    ensures { λ r. ⌜ r ≡ pairIn packed ⌝ }
 {
     let first = class_by(packed % 8);
     let second = class_by(packed / 8 % 8);
@@ -122,7 +126,7 @@ pub fn unpack(packed: usize) -> [Class; 2]
 
 // Two classes in one number, which is not 0.
 pub fn pack(classes: [Class; 2]) -> u8
-    ensures { λ r. ⌜ (r ≡ packedOf classes) × (unpackedOf r ≡ classes) ⌝ }
+    ensures { λ r. ⌜ (r ≡ packedOf classes) × (pairIn r ≡ classes) ⌝ }
 {
     let first = classes[0];
     let second = classes[1];
@@ -182,7 +186,7 @@ pub fn word_of(classes: [Class; 2]) -> u32
 
 // The same of classes that are packed.
 pub fn packed_word(packed: u8) -> u32
-    ensures { λ r. ⌜ r ≡ wordOf (unpackedOf packed) ⌝ }
+    ensures { λ r. ⌜ r ≡ wordOf (pairIn packed) ⌝ }
 {
     word_of(unpack(wide(packed)))
 }
@@ -195,8 +199,8 @@ fn widened(word: u16) -> u32
 
 // The same of a basic type.
 pub fn basic_word(code: usize) -> u32
-    requires { ⌜ code < 16 ⌝ }
-    ensures { λ r. ⌜ r ≡ wordOf (basicAt 2 code 0) ⌝ }
+    requires { ⌜ code < 17 ⌝ }
+    ensures { λ r. ⌜ ((m : Model) → r ≡ wordOf (classesOf m (basic code))) ⌝ }
 {
     widened(WORDS[code])
 }
@@ -204,15 +208,23 @@ pub fn basic_word(code: usize) -> u32
 // An entry with classes and what they ask for.
 pub fn with_word(entry: u32, word: u32) -> u32
     requires { ⌜ word < 8192 ⌝ }
-    ensures { λ r. ⌜ r ≡ entry % 262144 + 262144 * word ⌝ }
+    ensures { λ r. ⌜ r ≡ entry % 524288 + 524288 * word ⌝ }
 {
-    entry % 262144 + 262144 * word
+    entry % 524288 + 524288 * word
 }
 
-// The classes of type k, by the table.
+// Whether type k has the four classes of a vector of 32 bytes, by the table.
+pub fn is_wide(table: &[u32; 64], k: usize) -> bool
+    requires { ⌜ k < 64 ⌝ }
+    ensures { λ r. ⌜ r ≡ wideIn (getD (now (table .entry)) k 0 / 524288) ⌝ }
+{
+    types::wide(table[k]) / 524288 % 128 == 26
+}
+
+// The classes of type k, by the table; of one that is wide, the first two.
 pub fn classes_in(table: &[u32; 64], k: usize) -> [Class; 2]
     requires { ⌜ k < 64 ⌝ }
-    ensures { λ r. ⌜ r ≡ unpackedOf (getD (now (table .entry)) k 0 / 262144) ⌝ }
+    ensures { λ r. ⌜ r ≡ pairIn (getD (now (table .entry)) k 0 / 524288) ⌝ }
 {
-    unpack(types::wide(table[k]) / 262144)
+    unpack(types::wide(table[k]) / 524288)
 }

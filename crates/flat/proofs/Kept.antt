@@ -4,18 +4,20 @@ use mathlib.Core.Bool.{Bool, true, false, cond, not, _&&_}
 use mathlib.Core.List.{List, [], _∷_}
 use Prim.Native.Nat.{ℕ, _+_, _-_, _≤_}
 use native.Mathlib.Omega.{arith}
-use borrow.Author.Tests.{ne-eqb}
+use borrow.Author.Tests.{ne-eqb, ltb-false}
 use lib.Dec.{eqb}
 use lib.ListN.{length, getD, length-append}
 use Rattle.units.specs.declared.Bytes.{Bytes}
-use Rattle.description.specs.Description.{returnIn, modelIn}
-use Rattle.types.specs.Decode.{tyAt}
+use Rattle.description.specs.Description.{argumentsIn}
 use Rattle.classes.specs.declared.Class.{Class}
 use Rattle.classes.specs.declared.Class.the-variants.{NoClass, Integer, Sse, SseUp, X87, X87Up, ComplexX87, Memory}
 use Rattle.classes.specs.Classes.{same}
 use Rattle.classes.specs.Ups.{onStack}
 use Rattle.places.specs.declared.Kind.{Kind}
-use Rattle.places.specs.declared.Kind.the-variants.{General as general, Vector as vector, Upper as upper}
+use Rattle.places.specs.declared.Kind.the-variants.{General as general, Vector as vector, Upper as upper, Wide as wide}
+use Rattle.places.specs.declared.Register.{Register}
+use Rattle.places.specs.declared.Register.the-variants.{General, Vector, Upper, Wide}
+use Rattle.places.specs.declared.Used.{Used}
 use Rattle.places.specs.declared.Place.{Place}
 use Rattle.places.specs.declared.Place.the-variants.{One, Two, Stack}
 use Rattle.places.specs.declared.ReturnPlace.{ReturnPlace}
@@ -23,8 +25,8 @@ use Rattle.places.specs.declared.ReturnPlace.the-variants.{Void, Memory as InMe
 use Rattle.places.specs.Shapes.{kindOf, kindsIn, kindsOf}
 use Rattle.places.specs.Places.{eights, registerFor, place, next, generalFor, vectorFor}
 use Rattle.places.specs.Returns.{outside, returnBy, returnOf, hiddenBy, hiddenFor}
-use Rattle.classify.proofs.Lengths.{length-classes}
-use Rattle.images.specs.Asks.{Inside}
+use Rattle.classify.specs.Vectors.{isVector}
+use Rattle.images.specs.Asks.{Known, Single, Alone, Inside}
 use Rattle.images.proofs.Inside.{place-inside}
 use Rattle.layout.specs.declared.placements.Placement.{Placement as Record}
 use Rattle.layout.specs.declared.Layout.{Layout as Whole}
@@ -36,8 +38,8 @@ use Rattle.layout.proofs.Bounds.{argument-shaped}
 use Rattle.flat.specs.declared.Layout.{Layout}
 use Rattle.flat.specs.Numbers.{registerNumber, returnNumber}
 use Rattle.flat.specs.Stations.{stationMeant, flatStation, StationMeans, walkMeant, flatWalk, WalkMeans}
-use Rattle.flat.specs.Records.{slotOf, placementOf, pairOf, layoutOf}
-use Rattle.flat.specs.Meanings.{placeMeant, placementMeant, returnPlaceMeant, layoutMeant, PlacementsMean, LayoutMeans}
+use Rattle.flat.specs.Records.{slotOf, placementOf, pairOf, reachedOf, layoutOf}
+use Rattle.flat.specs.Meanings.{placeMeant, placementMeant, returnPlaceMeant, layoutMeant, summaryOf, PlacementsMean, LayoutMeans}
 use Rattle.flat.proofs.Meant.{Back, register-meant, register-low, return-meant, return-not, return-low}
 
 -- ---- the station and the walk
@@ -56,13 +58,29 @@ walk-means w = refl
 
 -- ---- one argument
 
+alone-known : (a : Register) (size : ℕ) → Alone a size → Known a
+alone-known (General n) size h = h .0
+alone-known (Vector n) size h = h .0
+alone-known (Upper n) size h = h .0
+alone-known (Wide n) size h = h .0
+
+single-known : (a : Register) → Single a → Known a
+single-known (General n) h = h
+single-known (Vector n) h = h
+single-known (Upper n) h = h
+single-known (Wide n) h = absurd h
+
 place-meant : (size align : Bytes) (ty n : ℕ) (p : Place) → Inside p (size .0) n
     → placeMeant (record { size = size; align = align; offset = slotOf p .offset; ty = ty; first = slotOf p .first; second = slotOf p .second; «reserved_1» = 0; «reserved_4» = 0 }) ≡ p
 unfolding placeMeant Inside
-place-meant size align ty n (One a) h = rw (ne-eqb (registerNumber a) 255 (λ e. omega (arith, register-low a (h .0)))) (ap One (register-meant a (h .0)))
+place-meant size align ty n (One a) h =
+    let k = alone-known a (size .0) h in
+    rw (ne-eqb (registerNumber a) 255 (λ e. omega (arith, register-low a k))) (ap One (register-meant a k))
 place-meant size align ty n (Two a b) h =
-    rw (ne-eqb (registerNumber a) 255 (λ e. omega (arith, register-low a (h .0))), ne-eqb (registerNumber b) 255 (λ e. omega (arith, register-low b (h .1 .0))))
-    (ap₂ Two (register-meant a (h .0)) (register-meant b (h .1 .0)))
+    let k = single-known a (h .0) in
+    let l = single-known b (h .1 .0) in
+    rw (ne-eqb (registerNumber a) 255 (λ e. omega (arith, register-low a k)), ne-eqb (registerNumber b) 255 (λ e. omega (arith, register-low b l)))
+    (ap₂ Two (register-meant a k) (register-meant b l))
 place-meant size align ty n (Stack o) h = refl
 
 placement-meant : (p : Record) (n : ℕ) → Inside (p .place) (p .size .0) n → placementMeant (placementOf p) ≡ p
@@ -87,7 +105,7 @@ Sound (InTwo a c) b = Back a × Back c
 Sound St0 b = Unit {0}
 Sound St0St1 b = Unit {0}
 
--- no value has more than two eightbytes
+-- a value has at most two eightbytes, or one wide register
 kind-short : (c : Class) → length (kindOf c) ≤ 1
 kind-short NoClass = omega arith
 kind-short Integer = omega arith
@@ -102,13 +120,14 @@ kinds-short : (cs : List Class) → length (kindsIn cs) ≤ length cs
 kinds-short [] = omega arith
 kinds-short (c ∷ cs) = omega (arith, length-append (kindOf c) (kindsIn cs), kind-short c, kinds-short cs)
 
-few-kinds : (cs : List Class) → length (kindsOf cs) ≤ length cs
+few-kinds : (cs : List Class) → length (kindsOf cs) ≤ 2
 unfolding kindsOf
-few-kinds cs = by (onStack cs)
+few-kinds cs = by (onStack cs) (isVector cs) refl
   where
-    by : (b : Bool) → length (cond b [] (kindsIn cs)) ≤ length cs
-    by true = omega arith
-    by false = kinds-short cs
+    by : (b v : Bool) → isVector cs ≡ v → length (cond b [] (cond v (wide ∷ []) (kindsIn cs))) ≤ 2
+    by true v e = omega arith
+    by false true e = omega arith
+    by false false e = omega (arith, kinds-short cs, ltb-false 2 (length cs) e)
 
 outside-sound : (c : Class) → Sound (outside c) (hiddenBy c)
 unfolding hiddenBy same
@@ -125,11 +144,13 @@ back-for : (g f : ℕ) (k : Kind) → g ≤ 1 → f ≤ 1 → Back (registerFor 
 back-for g f general h m = omega arith
 back-for g f vector h m = omega arith
 back-for g f upper h m = omega arith
+back-for g f wide h m = omega arith
 
 one-more : (k : Kind) → (generalFor k ≤ 1) × (vectorFor k ≤ 1)
 one-more general = (omega arith, omega arith)
 one-more vector = (omega arith, omega arith)
 one-more upper = (omega arith, omega arith)
+one-more wide = (omega arith, omega arith)
 
 return-by : (ks : List Kind) (c : Class) → length ks ≤ 2 → Sound (returnBy ks c) (hiddenBy c)
 return-by [] c h = outside-sound c
@@ -138,9 +159,9 @@ return-by (k ∷ j ∷ []) c h =
     (back-for 0 0 k (omega arith) (omega arith), back-for (0 + generalFor k) (0 + vectorFor k) j (omega (arith, one-more k .0)) (omega (arith, one-more k .1)))
 return-by (k ∷ j ∷ i ∷ ks) c h = absurd (omega arith)
 
-return-sound : (cs : List Class) → length cs ≡ 2 → Sound (returnOf cs) (hiddenFor cs)
+return-sound : (cs : List Class) → Sound (returnOf cs) (hiddenFor cs)
 unfolding returnOf
-return-sound cs two = return-by (kindsOf cs) (getD cs 0 NoClass) (omega (arith, few-kinds cs))
+return-sound cs = return-by (kindsOf cs) (getD cs 0 NoClass) (few-kinds cs)
 
 described-sound : (d : List ℕ) → Sound (returnPlace d) (hidden d)
 unfolding returnPlace hidden
@@ -148,7 +169,11 @@ described-sound d = by (isVoid d)
   where
     by : (b : Bool) → Sound (cond b Void (returnOf (returnClasses d))) (not b && hiddenFor (returnClasses d))
     by true = refl
-    by false = return-sound (returnClasses d) (length-classes (modelIn d) (tyAt d (returnIn d)))
+    by false = return-sound (returnClasses d)
+
+strict-meant : (b : Bool) → eqb (cond b 32 16) 32 ≡ b
+strict-meant true = refl
+strict-meant false = refl
 
 hidden-meant : (b : Bool) → eqb (cond b 1 0) 1 ≡ b
 hidden-meant true = refl
@@ -158,11 +183,12 @@ module _ (l : Whole) (n : ℕ) where
   -- a flat layout with another return place
   abbrev with : ReturnPlace → Bool → Layout
   with p b = record {
-    used = l .used;
+    used = reachedOf (l .used);
     area = l .area;
+    align = l .align;
     values = l .values;
     returned = l .returned;
-    named = l .named;
+    named = reachedOf (l .named);
     arguments = n;
     first = pairOf p .first;
     second = pairOf p .second;
@@ -187,18 +213,19 @@ module _ (l : Whole) (n : ℕ) where
   return-place-meant St0 b h = refl
   return-place-meant St0St1 b h = refl
 
-  layout-meant : Sound (l .returns) (l .hidden) → layoutMeant (layoutOf l n) ≡ l
-  unfolding layoutMeant layoutOf
-  layout-meant h j = record {
-    used = l .used;
+  layout-meant : Sound (l .returns) (l .hidden) → eqb (l .align .0) 32 ≡ l .used .strict → layoutMeant (layoutOf l n) ≡ summaryOf l
+  unfolding layoutMeant layoutOf summaryOf
+  layout-meant h s j = record {
+    used = record { general = l .used .general; vector = l .used .vector; stack = l .used .stack; strict = s j };
     area = l .area;
+    align = l .align;
     values = l .values;
     returns = return-place-meant (l .returns) (l .hidden) h j;
     returned = l .returned;
     hidden = hidden-meant (l .hidden) j;
-    named = l .named;
+    named = record { general = l .named .general; vector = l .named .vector; stack = l .named .stack; strict = false };
   }
 
 pub layout-means : LayoutMeans
 unfolding wholeOf
-layout-means d v n = layout-meant (wholeOf d) n (described-sound d)
+layout-means d v n = layout-meant (wholeOf d) n (described-sound d) (strict-meant (usedAt d (argumentsIn d) .strict))

@@ -12,17 +12,18 @@ mod records; // the flat record of one argument, and of a call as a whole
 mod stack_needs; // whether a call needs the stack
 mod stations; // the station and the walk as flat records, and back
 
-use places::Used;
 use units::Bytes;
 use units::Registers;
 ghost use mathlib.Core.Path.{_≡_};
 ghost use Rattle.flat.specs.Parts.{partOf, nowhere};
 
-// cb_classes: a number of enum cb_class for each eightbyte.
+// cb_classes: a number of enum cb_class for each of up to four eightbytes.
 #[repr(C)]
 pub struct Classes {
     pub first: u8,
     pub second: u8,
+    pub third: u8,
+    pub fourth: u8,
 }
 
 // cb_part: so many bytes of the description or of an image, by enum cb_image.
@@ -49,14 +50,23 @@ pub struct Placement {
     pub reserved_4: u32,
 }
 
-// cb_layout: a call as a whole.
+// Registers used, and where the stack arguments end.
+#[repr(C)]
+pub struct Reached {
+    pub general: Registers,
+    pub vector: Registers,
+    pub stack: Bytes,
+}
+
+// cb_layout: a call as a whole; `align` is the area's alignment.
 #[repr(C)]
 pub struct Layout {
-    pub used: Used,
+    pub used: Reached,
     pub area: Bytes,
+    pub align: Bytes,
     pub values: Bytes,
     pub returned: Bytes,
-    pub named: Used,
+    pub named: Reached,
     pub arguments: usize,
     pub first: u8,
     pub second: u8,
@@ -150,7 +160,7 @@ pub fn nowhere() -> Part
 
 // CB_VERSION: the version of the header that has these records.
 pub fn version() -> u32
-    ensures { λ r. ⌜ r ≡ 3 ⌝ }
+    ensures { λ r. ⌜ r ≡ 4 ⌝ }
 {
-    3
+    4
 }

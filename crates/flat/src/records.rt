@@ -2,15 +2,17 @@
 use crate::Layout;
 use crate::Pair;
 use crate::Placement;
+use crate::Reached;
 use crate::Slot;
 use places::Place;
 use places::Register;
 use places::ReturnPlace;
+use places::Used;
 use units::Bytes;
 ghost use mathlib.Core.Path.{_≡_};
 ghost use Prim.Native.Nat.{_≤_};
 ghost use Rattle.flat.specs.Numbers.{generalNumber, vectorNumber, registerNumber, backNumber, returnNumber};
-ghost use Rattle.flat.specs.Records.{slotOf, placementOf, pairOf, layoutOf};
+ghost use Rattle.flat.specs.Records.{slotOf, placementOf, pairOf, reachedOf, layoutOf};
 
 // rdi to r9 are 0 to 5; 255 for a count that no register has.
 fn general_number(n: usize) -> u8
@@ -22,9 +24,9 @@ fn general_number(n: usize) -> u8
     255
 }
 
-// xmm0 to xmm7 are 16 to 23, their upper halves 32 to 39.
+// xmm0 to xmm7 are 16 to 23, their upper halves 32 to 39, all 32 bytes of each 48 to 55.
 fn vector_number(first: u8, n: usize) -> u8
-    requires { ⌜ first ≤ 32 ⌝ }
+    requires { ⌜ first ≤ 48 ⌝ }
     ensures { λ r. ⌜ r ≡ vectorNumber first n ⌝ }
 {
     if n < 8 {
@@ -41,6 +43,7 @@ fn register_number(register: Register) -> u8
         Register::General(n) => general_number(n.0),
         Register::Vector(n) => vector_number(16, n.0),
         Register::Upper(n) => vector_number(32, n.0),
+        Register::Wide(n) => vector_number(48, n.0),
     }
 }
 
@@ -110,6 +113,7 @@ fn return_number(register: Register) -> u8
         Register::General(n) => back_number(n.0),
         Register::Vector(n) => vector_number(16, n.0),
         Register::Upper(n) => vector_number(32, n.0),
+        Register::Wide(n) => vector_number(48, n.0),
     }
 }
 
@@ -144,21 +148,38 @@ fn pair_of(place: ReturnPlace) -> Pair
     }
 }
 
+fn reached_of(used: Used) -> Reached
+    ensures { λ r. ⌜ r ≡ reachedOf used ⌝ }
+{
+    let general = used.general;
+    let vector = used.vector;
+    let stack = used.stack;
+    Reached {
+        general: general,
+        vector: vector,
+        stack: stack,
+    }
+}
+
 // The flat record of a call with so many arguments.
 pub fn layout_of(whole: layout::Layout, arguments: usize) -> Layout
     ensures { λ r. ⌜ r ≡ layoutOf whole arguments ⌝ }
 {
-    let used = whole.used;
+    let all = whole.used;
+    let used = reached_of(all);
+    let first = whole.named;
+    let named = reached_of(first);
     let area = whole.area;
+    let align = whole.align;
     let values = whole.values;
     let returned = whole.returned;
-    let named = whole.named;
     let returns = whole.returns;
     let pair = pair_of(returns);
     let hidden = if whole.hidden { 1 } else { 0 };
     Layout {
         used: used,
         area: area,
+        align: align,
         values: values,
         returned: returned,
         named: named,

@@ -71,7 +71,7 @@ pub fn wrong_length(d: &[u8]) -> bool
 fn broken_basic(code: usize, count: usize) -> bool
     ensures { λ r. ⌜ r ≡ brokenBasic code count ⌝ }
 {
-    if 16 <= code {
+    if 17 <= code {
         return true;
     }
     count != 0

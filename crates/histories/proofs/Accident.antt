@@ -16,12 +16,12 @@ use Rattle.types.specs.Large.{large, tooLarge}
 use Rattle.types.specs.Size.{offsetAfter, endAfter, widest, sizeTy, alignTy}
 use Rattle.classes.specs.Classes.{same, isX87, mergeOf, mergeAll}
 use Rattle.classes.specs.CleanUp.{upAlone, settled, cleanUp}
-use Rattle.classify.specs.Classify.{firstClass, secondClass, gap, oneClass, basicAt, elementsAt, classesAt, classesOf}
+use Rattle.classify.specs.Classify.{firstClass, secondClass, gap, oneClass, vectorAt, basicAt, elementsAt, eightbytesIn, closed, classesAt, eightbytesOf, shown, classesOf}
 use Rattle.uses.specs.Uses.{wrongNumber, wrongReturn, wrongUse, narrow, narrowUnnamed}
-use Rattle.places.specs.Shapes.{kindsOf, shapeOf}
+use Rattle.places.specs.Shapes.{kindsOf, kindsFor, shapeOf}
 use Rattle.places.specs.Places.{enough, fits, start, place, next, area}
 use Rattle.places.specs.Returns.{hiddenBy}
-use Rattle.layout.specs.Arguments.{shapeAt as layoutShape, shapesFrom, isVoid, hidden, areaOf as layoutArea}
+use Rattle.layout.specs.Arguments.{isNamed, shapeAt as layoutShape, shapesFrom, isVoid, hidden, areaOf as layoutArea}
 use Rattle.layout.specs.Verdict.{wideArea}
 use Rattle.station.specs.Paper.{verdictOf, arguments, shapeAt, typeAt, usedAt, areaOf, kcb}
 use Rattle.station.specs.Attachment.{newStation, wrongSeat, described, seatOf, detachRefusal, detachStation, detachSeat, attachRefusal, attachStation, attachSeat, changeRefusal, changeStation, changeSeat}
@@ -33,11 +33,11 @@ use Rattle.histories.specs.Values.{blank, imagesFor}
 use Rattle.histories.specs.Accident.{lister, other, damaged, history, exchange, Plays}
 
 -- a list is one of bytes where a test says so
-abbrev small : List ℕ → Bool
+abbrev pub small : List ℕ → Bool
 small [] = true
 small (b ∷ bs) = ltb b 256 && small bs
 
-small-bytes : (d : List ℕ) → small d ≡ true → IsBytes d
+pub small-bytes : (d : List ℕ) → small d ≡ true → IsBytes d
 small-bytes [] e i = omega arith
 small-bytes (b ∷ bs) e zero = ltb-true b 256 (and-eq-true-iff (ltb b 256) (small bs) .0 e .0)
 small-bytes (b ∷ bs) e (suc i) = small-bytes bs (and-eq-true-iff (ltb b 256) (small bs) .0 e .1) i
@@ -52,10 +52,10 @@ pub damaged-bytes : IsBytes damaged
 damaged-bytes = small-bytes damaged refl
 
 pub accident-plays : Plays (history lister-bytes other-bytes damaged-bytes)
-unfolding raise headerOf kindAt aAt countAt memberAt argumentAt tooShort wrongMark wrongVersion wrongCounts wrongLength brokenBasic brokenArray brokenRun brokenRecord wrongRecord firstFrom basicSize basicAlign tysFrom tyBy tyAt variadicIn modelIn large tooLarge offsetAfter endAfter widest sizeTy alignTy same isX87 mergeOf mergeAll upAlone settled cleanUp firstClass secondClass gap oneClass basicAt elementsAt classesAt classesOf wrongNumber wrongReturn wrongUse narrow narrowUnnamed kindsOf shapeOf enough fits start place next area hiddenBy layoutShape shapesFrom isVoid hidden layoutArea wideArea verdictOf arguments shapeAt typeAt usedAt areaOf kcb newStation wrongSeat described seatOf detachRefusal detachStation detachSeat attachRefusal attachStation attachSeat holds raised readAt step walkAt wrongRegisters otherNumber standing openRefusal astray atEnd otherType wrongStack wrongOut stepRefusal showRefusal openWalk bytesAt movedOn stepWalk stepOut withWalk blank imagesFor
+unfolding raise headerOf kindAt aAt countAt memberAt argumentAt tooShort wrongMark wrongVersion wrongCounts wrongLength brokenBasic brokenArray brokenRun brokenRecord wrongRecord firstFrom basicSize basicAlign tysFrom tyBy tyAt variadicIn modelIn large tooLarge offsetAfter endAfter widest sizeTy alignTy same isX87 mergeOf mergeAll upAlone settled cleanUp firstClass secondClass gap oneClass vectorAt basicAt elementsAt eightbytesIn closed classesAt eightbytesOf shown classesOf wrongNumber wrongReturn wrongUse narrow narrowUnnamed kindsOf kindsFor shapeOf enough fits start place next area hiddenBy isNamed layoutShape shapesFrom isVoid hidden layoutArea wideArea verdictOf arguments shapeAt typeAt usedAt areaOf kcb newStation wrongSeat described seatOf detachRefusal detachStation detachSeat attachRefusal attachStation attachSeat holds raised readAt step walkAt wrongRegisters otherNumber standing openRefusal astray atEnd otherType wrongStack wrongOut stepRefusal showRefusal openWalk bytesAt movedOn stepWalk stepOut withWalk blank imagesFor
 accident-plays = record { answer = refl; whole = refl; parted = refl }
 
 -- and once more, by the call that changes modules
 pub exchange-plays : Plays (exchange lister-bytes other-bytes damaged-bytes)
-unfolding raise headerOf kindAt aAt countAt memberAt argumentAt tooShort wrongMark wrongVersion wrongCounts wrongLength brokenBasic brokenArray brokenRun brokenRecord wrongRecord firstFrom basicSize basicAlign tysFrom tyBy tyAt variadicIn modelIn large tooLarge offsetAfter endAfter widest sizeTy alignTy same isX87 mergeOf mergeAll upAlone settled cleanUp firstClass secondClass gap oneClass basicAt elementsAt classesAt classesOf wrongNumber wrongReturn wrongUse narrow narrowUnnamed kindsOf shapeOf enough fits start place next area hiddenBy layoutShape shapesFrom isVoid hidden layoutArea wideArea verdictOf arguments shapeAt typeAt usedAt areaOf kcb newStation wrongSeat described seatOf detachRefusal detachStation detachSeat attachRefusal attachStation attachSeat changeRefusal changeStation changeSeat holds raised readAt step walkAt wrongRegisters otherNumber standing openRefusal astray atEnd otherType wrongStack wrongOut stepRefusal showRefusal openWalk bytesAt movedOn stepWalk stepOut withWalk blank imagesFor
+unfolding raise headerOf kindAt aAt countAt memberAt argumentAt tooShort wrongMark wrongVersion wrongCounts wrongLength brokenBasic brokenArray brokenRun brokenRecord wrongRecord firstFrom basicSize basicAlign tysFrom tyBy tyAt variadicIn modelIn large tooLarge offsetAfter endAfter widest sizeTy alignTy same isX87 mergeOf mergeAll upAlone settled cleanUp firstClass secondClass gap oneClass vectorAt basicAt elementsAt eightbytesIn closed classesAt eightbytesOf shown classesOf wrongNumber wrongReturn wrongUse narrow narrowUnnamed kindsOf kindsFor shapeOf enough fits start place next area hiddenBy isNamed layoutShape shapesFrom isVoid hidden layoutArea wideArea verdictOf arguments shapeAt typeAt usedAt areaOf kcb newStation wrongSeat described seatOf detachRefusal detachStation detachSeat attachRefusal attachStation attachSeat changeRefusal changeStation changeSeat holds raised readAt step walkAt wrongRegisters otherNumber standing openRefusal astray atEnd otherType wrongStack wrongOut stepRefusal showRefusal openWalk bytesAt movedOn stepWalk stepOut withWalk blank imagesFor
 exchange-plays = record { answer = refl; whole = refl; parted = refl }

@@ -17,9 +17,9 @@ use Rattle.places.proofs.Apart.{apart, length-bytes}
 use Rattle.station.specs.Paper.{Paper, areaOf}
 use Rattle.histories.specs.Values.{cut, joined, blank, imagesFor}
 
-length-blank : (P : Paper) (d address : List ℕ) (n : ℕ) → length (blank P d address n) ≡ P .registers + n
+length-blank : (P : Paper) (d address : List ℕ) (n : ℕ) → length (blank P d address n) ≡ P .stackAt + n
 unfolding blank
-length-blank P d address n = length-scatter (P .address d) (replicate (P .registers + n) 0) address ∙ length-replicate {A = ℕ} (P .registers + n) 0
+length-blank P d address n = length-scatter (P .address d) (replicate (P .stackAt + n) 0) address ∙ length-replicate {A = ℕ} (P .stackAt + n) 0
 
 -- ---- argument by argument
 
@@ -59,16 +59,16 @@ length-cut [] values = refl
 length-cut (s ∷ ss) values = ap suc (length-cut ss (drop (s .size) values))
 
 module _ (P : Paper) (d address values : List ℕ) where
-  pub length-images : length (imagesFor P d address values) ≡ P .registers + areaOf P d
+  pub length-images : length (imagesFor P d address values) ≡ P .stackAt + areaOf P d
   unfolding imagesFor
   length-images =
-      length-scatter (addresses (P .registers) (P .slot) (P .first d) (P .shapes d)) (blank P d address (areaOf P d)) values
+      length-scatter (addresses (P .stackAt) (P .slot) (P .first d) (P .shapes d)) (blank P d address (areaOf P d)) values
       ∙ length-blank P d address (areaOf P d)
 
-  pub gather-images : All Shaped (P .shapes d) → All (Seated (P .registers)) (P .shapes d) → length values ≡ total (P .shapes d)
-      → gather (imagesFor P d address values) (addresses (P .registers) (P .slot) (P .first d) (P .shapes d)) ≡ values
+  pub gather-images : All Shaped (P .shapes d) → All (Seated (P .stackAt)) (P .shapes d) → length values ≡ total (P .shapes d)
+      → gather (imagesFor P d address values) (addresses (P .stackAt) (P .slot) (P .first d) (P .shapes d)) ≡ values
   unfolding imagesFor areaOf
   gather-images h seat l =
-      let t = apart (P .registers) (P .slot) (P .shapes d) (P .first d) h seat in
-      gather-scatter (addresses (P .registers) (P .slot) (P .first d) (P .shapes d)) (blank P d address (areaOf P d)) values (t .once)
+      let t = apart (P .stackAt) (P .slot) (P .shapes d) (P .first d) h seat in
+      gather-scatter (addresses (P .stackAt) (P .slot) (P .first d) (P .shapes d)) (blank P d address (areaOf P d)) values (t .once)
       (rw (length-blank P d address (areaOf P d)) (t .inside)) (t .each ∙ sym l)

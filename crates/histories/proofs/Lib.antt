@@ -1,4 +1,5 @@
 pub mod Accident
+pub mod Figure
 pub mod Attachments
 pub mod Images
 pub mod Walks

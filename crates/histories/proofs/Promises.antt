@@ -123,14 +123,14 @@ module _ (P : Paper) (L : Lawful P) where
         walk = z .stands .walk;
         within = z .stands .to;
         answer = λ a x.
-            let r = lends-right P d address values a x in
+            let r = lends-right P L d address values a x in
             rw (z .stands .walk) (step-standing P L (k′ .station) (k′ .seat) d p a (z .stands .held) (z .stands .from) (z .stands .to) (r .0) (r .1));
         show = λ a x.
-            let r = lends-right P d address values a x in
+            let r = lends-right P L d address values a x in
             rw (z .stands .walk) (show-standing P L (k′ .station) (k′ .seat) d p a (z .stands .held) (z .stands .from) (z .stands .to) (r .0) (r .1));
         part = λ a x r.
             rw (z .stands .walk, getD-drop (P .named d) (cut (P .shapes d) values) (length (handed P i (opened P k v d b between i) cs)) [])
-            (shows-next P L (k′ .station) (k′ .seat) d address values p a (z .stands .held) (z .stands .to) (m .fit) x (rw (z .stands .walk) at r));
+            (shows-next P L (k′ .station) (k′ .seat) d address values p a (z .stands .held) (z .stands .from) (z .stands .to) (m .fit) x (rw (z .stands .walk) at r));
       }
 
   -- asked by the right types, among any other calls but an accepted detach; and then the walk is at its end

@@ -2,7 +2,7 @@
 use mathlib.Core.Path.{_≡_, ap, _∙_}
 use mathlib.Core.Bool.{_||_}
 use mathlib.Core.List.{List, [], _∷_}
-use Prim.Native.Nat.{ℕ, _<_}
+use Prim.Native.Nat.{ℕ, _≤_, _<_}
 use native.Mathlib.Omega.{arith}
 use Rattle.form.specs.Order.{rule}
 use Rattle.station.specs.declared.Station.{Station}
@@ -36,11 +36,13 @@ module _ (P : Paper) (L : Lawful P) where
       let t = astray-not P (described s seat) w (z .on) in
       let l : w .position < arguments P (described s seat) = omega (arith, t .to, z .before) in
       let l′ : w .position < arguments P d = rw q at l in
+      let from = t .from in
+      let m : P .named d ≤ w .position = rw q at from in
       let same : w ≡ standing P d (s .number) (w .position) =
       t .same ∙ ap (λ (n : ℕ). standing P (described s seat) n (w .position)) (z .number) ∙ ap (λ (x : List ℕ). standing P x (s .number) (w .position)) q in (
         same,
         step-wrote P s seat w a r ∙ ap (λ (x : List ℕ). bytesAt P x w a) q ∙ ap (λ (v : Walk). bytesAt P d v a) same
-            ∙ reads P d address values (s .number) (w .position) a (known P L d (h .accepted)) l′ f g,
+            ∙ reads P L d address values (s .number) (w .position) a (known P L d (h .accepted) (w .position) m l′) f g,
       )
 
   cuts : Cut P

@@ -36,21 +36,13 @@ use Rattle.histories.specs.Lawful.{Lawful, Holds}
 use Rattle.histories.specs.Values.{cut, imagesFor}
 use Rattle.histories.specs.ConditionC.{ShowChecks, Shows, ShowsNone}
 use Rattle.histories.proofs.Attachments.{described-held}
-use Rattle.histories.proofs.Walks.{known, seated-at, shaped-at, standing-reads, reads}
+use Rattle.histories.proofs.Walks.{known, standing-reads, reads}
 
 or-right : (b : Bool) → (b || false) ≡ b
 or-right true = refl
 or-right false = refl
 
 module _ (P : Paper) where
-  shape-shaped : (d : List ℕ) (p : ℕ) → All Shaped (P .shapes d) → p < arguments P d → Shaped (shapeAt P d p)
-  unfolding shapeAt arguments
-  shape-shaped d p h l = shaped-at _ (P .shapes d) p h l
-
-  shape-seated : (d : List ℕ) (p : ℕ) → All (Seated (P .registers)) (P .shapes d) → p < arguments P d → Seated (P .registers) (shapeAt P d p)
-  unfolding shapeAt arguments
-  shape-seated d p h l = seated-at (P .registers) _ (P .shapes d) p h l
-
   part-accepted : (s : Station) (seat : List ℕ) (w : Walk) (a : Ask) → showRefusal P s seat w a ≡ 0
       → showPart P s seat w a
       ≡ shownBytes (partIn (readAt (P .slot) (offsetsOf w) (shapeAt P (described s seat) (w .position))) (shapeAt P (described s seat) (w .position))) (a .registers) (a .stack)
@@ -78,24 +70,23 @@ module _ (P : Paper) where
         let d = described s seat in
         let z = show-passes P s seat w a e in
         let g = astray-not P d w (z .0 .on) in
-        let h = L .shaped d (z .0 .accepted) in
         let l : w .position < arguments P d = omega (arith, g .to, z .0 .before) in
-        let k = shape-shaped d (w .position) h l in
+        let k = known P L d (z .0 .accepted) (w .position) (g .from) l in
         part-accepted s seat w a e
-        ∙ rw (bytes-written d w a, genuine-reads P d w g k (L .starts d (z .0 .accepted)))
-        (part-bytes (P .registers) (P .slot) (usedAt P d (w .position)) (shapeAt P d (w .position)) a k (shape-seated d (w .position) (L .seated d (z .0 .accepted)) l) (z .0 .registers) (λ f. rw (z .1) (room P d (w .position) l f)))
+        ∙ rw (bytes-written d w a, genuine-reads P d w g (k .shaped) (k .narrow) (L .starts d (z .0 .accepted)))
+        (part-bytes (P .registers) (P .slot) (usedAt P d (w .position)) (shapeAt P d (w .position)) a (k .shaped) (k .seated) (z .0 .registers) (λ f. rw (z .1) (room P d (w .position) l f)))
 
     -- in a walk over placed images it shows the next argument
-    pub shows-next : (s : Station) (seat d address values : List ℕ) (p : ℕ) (a : Ask) → Holds P s seat d → p ≤ arguments P d → length values ≡ total (P .shapes d)
+    pub shows-next : (s : Station) (seat d address values : List ℕ) (p : ℕ) (a : Ask) → Holds P s seat d → P .named d ≤ p → p ≤ arguments P d → length values ≡ total (P .shapes d)
         → Lends P (imagesFor P d address values) a → showRefusal P s seat (standing P d (s .number) p) a ≡ 0
         → showPart P s seat (standing P d (s .number) p) a
         ≡ cond (whole (sourceIn (place (P .slot) (usedAt P d p) (shapeAt P d p))) (shapeAt P d p)) (getD (cut (P .shapes d) values) p []) []
     unfolding standing
-    shows-next s seat d address values p a h m f g r =
+    shows-next s seat d address values p a h b m f g r =
         let q = described-held P s seat d h in
-        let b = show-passes P s seat (standing P d (s .number) p) a r .0 .before in
-        let t : p ≢ arguments P d = rw q at b in
+        let e = show-passes P s seat (standing P d (s .number) p) a r .0 .before in
+        let t : p ≢ arguments P d = rw q at e in
         let l : p < arguments P d = omega arith in
-        let sh = known P L d (h .accepted) in
+        let sh = known P L d (h .accepted) p b l in
         shows s seat (standing P d (s .number) p) a r
-        ∙ rw q (ap₂ (λ (x : Source) (v : List ℕ). cond (whole x (shapeAt P d p)) v []) (standing-reads P d (s .number) p sh l) (reads P d address values (s .number) p a sh l f g))
+        ∙ rw q (ap₂ (λ (x : Source) (v : List ℕ). cond (whole x (shapeAt P d p)) v []) (standing-reads P d (s .number) p sh) (reads P L d address values (s .number) p a sh f g))

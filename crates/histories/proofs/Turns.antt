@@ -91,7 +91,7 @@ module _ (P : Paper) (L : Lawful P) (d address values : List ℕ) (f : length va
       answer : stepRefusal P (k .station) (k .seat) (k .walks i) a
           ≡ first (rule 19 (eqb p (arguments P d)) ∷ rule 20 (not (eqb (a .asked) (typeAt P d p))) ∷ rule 11 (not (eqb (length (a .out)) (shapeAt P d p .size))) ∷ [])
       answer =
-          let r = lends-right P d address values a g in
+          let r = lends-right P L d address values a g in
           rw (h .walk) (step-standing P L (k .station) (k .seat) d p a (h .held) (h .from) (h .to) (r .0) (r .1))
 
       asks-this : asksBy i (stepping i a) ≡ q ∷ []
@@ -111,13 +111,13 @@ module _ (P : Paper) (L : Lawful P) (d address values : List ℕ) (f : length va
           let t : a .asked ≡ typeAt P d p = eqb-true (a .asked) (typeAt P d p) (not-false _ (y .0)) in
           let u : length (a .out) ≡ shapeAt P d p .size = eqb-true (length (a .out)) (shapeAt P d p .size) (not-false _ (z .0)) in
           let l : p < arguments P d = omega (arith, h .to, eqb-false p (arguments P d) (x .0)) in
-          let s = known P L d (h .held .accepted) in
+          let s = known P L d (h .held .accepted) p (h .from) l in
           moved (asks-this ∙ ap (λ (z : Question). z ∷ []) (question-made P d p (a .asked) (length (a .out)) t u)) l
           (rw (eq-eqb i i refl, r, step-wrote P (k .station) (k .seat) (k .walks i) a r, described-held P (k .station) (k .seat) d (h .held), h .walk)
-          (ap (λ (v : List ℕ). v ∷ []) (reads P d address values (k .station .number) p a s l f g)))
+          (ap (λ (v : List ℕ). v ∷ []) (reads P L d address values (k .station .number) p a s f g)))
           (put-same (k .walks) i (stepWalk P (k .station) (k .seat) (k .walks i) a)
           ∙ step-moved P (k .station) (k .seat) (k .walks i) a r
-          ∙ rw (described-held P (k .station) (k .seat) d (h .held), h .walk) (moves-on P d (k .station .number) p s l))
+          ∙ rw (described-held P (k .station) (k .seat) d (h .held), h .walk) (moves-on P d (k .station .number) p s))
       by (suc n) r =
           refused q asks-this (λ l x. wrong n r l (question-read P d p q x))
           (rw (eq-eqb i i refl, r))

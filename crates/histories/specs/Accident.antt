@@ -6,6 +6,7 @@ use Prim.Native.Nat.{ℕ}
 use lib.ListN.{take, drop, replicate}
 use Rattle.addresses.specs.Addresses.{run}
 use Rattle.description.specs.Description.{IsBytes}
+use Rattle.places.specs.Images.{stackAt}
 use Rattle.station.specs.Paper.{kcb}
 use Rattle.walk.specs.Orders.{Ask}
 use Rattle.histories.specs.Calls.{Desk, Call, attaching, detaching, changing, opening, stepping, showing, numbering, newDesk, answers, handed}
@@ -32,7 +33,7 @@ abbrev pub otherImages : List ℕ
 otherImages = imagesFor kcb other [] (run 101 16)
 
 abbrev pub ask : List ℕ → ℕ → ℕ → Ask
-ask images type room = record { registers = take 176 images; stack = drop 176 images; asked = type; out = replicate room 0 }
+ask images type room = record { registers = take 176 images; stack = drop stackAt images; asked = type; out = replicate room 0 }
 
 -- something is left in the seat from before, and the host's records are empty
 abbrev pub desk : Desk

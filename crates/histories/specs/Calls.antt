@@ -152,10 +152,11 @@ module _ (P : Paper) where
 
 -- ---- the host's part
 
--- the two images that are lent are those of the one list: the bytes of the registers, and after them the stack area
+-- the two images that are lent are those of the one list: the bytes of the registers at its beginning, and the stack area at its end. What lies
+-- between, the upper image, no step is lent (request 2026-06: an unnamed argument has nothing there)
 pub record Lends (P : Paper) (images : List ℕ) (a : Ask) : Type 0 where
   pub registers : a .registers ≡ take (P .registers) images
-  pub stack : a .stack ≡ drop (P .registers) images
+  pub stack : a .stack ≡ drop (P .stackAt) images
 
 -- "changes .. each walk record by these calls only, steps a walk on from the record its last call left": the host lets no open and no
 -- writing of its own fall on the walk i

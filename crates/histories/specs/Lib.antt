@@ -4,3 +4,4 @@ pub mod Values
 pub mod Outcomes
 pub mod ConditionC
 pub mod Accident
+pub mod Figure

@@ -18,15 +18,15 @@ abbrev pub joined : List (List ℕ) → List ℕ
 joined [] = []
 joined (v ∷ vs) = v ++ joined vs
 
--- "writes zero everywhere else in both images. The hidden address .. fills rdi where it is used and is otherwise not looked at": the
+-- "writes zero everywhere else in both images", and in the upper image. "The hidden address .. fills rdi where it is used and is otherwise not looked at": the
 -- images, n bytes of stack, before a value is placed. `address` is the hidden address, as bytes
 unfoldable pub blank : Paper → List ℕ → List ℕ → ℕ → List ℕ
-blank P d address n = scatter (replicate (P .registers + n) 0) (P .address d) address
+blank P d address n = scatter (replicate (P .stackAt + n) 0) (P .address d) address
 
--- "Placing copies each value byte to its place": the register image, and after it the stack image. That `place_values` leaves these is
+-- "Placing copies each value byte to its place": the register image, after it the upper image, and then the stack image. That `place_values` leaves these is
 -- the promise `placed-for`; the address has eight bytes there, and here any number
 unfoldable pub imagesFor : Paper → List ℕ → List ℕ → List ℕ → List ℕ
-imagesFor P d address values = scatter (blank P d address (areaOf P d)) (addresses (P .registers) (P .slot) (P .first d) (P .shapes d)) values
+imagesFor P d address values = scatter (blank P d address (areaOf P d)) (addresses (P .stackAt) (P .slot) (P .first d) (P .shapes d)) values
 
 -- "each unnamed argument's bytes in order"
 abbrev pub unnamed : Paper → List ℕ → List ℕ → List (List ℕ)

@@ -1,22 +1,25 @@
 -- What bounds everything that an accepted description asks (A6), and the steps of the loop that lays it out. Assumes nothing.
 use mathlib.Core.Path.{_≡_}
+use mathlib.Core.Bool.{false}
 use mathlib.Core.List.{List}
 use Prim.Native.Nat.{ℕ, zero, suc, _+_, _-_, _≤_, _<_}
 use native.Mathlib.Omega.{arith}
 use Rattle.addresses.specs.Addresses.{All}
-use Rattle.description.specs.Description.{typesIn, argumentsIn, argumentAt}
+use borrow.Author.Tests.{le-ltb}
+use Rattle.description.specs.Description.{typesIn, namedIn, argumentsIn, argumentAt, modelIn}
 use Rattle.form.proofs.Form.{accepted-counts}
 use Rattle.types.proofs.Large.{accepted-form}
 use Rattle.uses.specs.Uses.{usesRefusal}
 use Rattle.uses.proofs.Uses.{accepted-types, accepted-typed}
 use Rattle.places.specs.declared.Used.{Used}
-use Rattle.places.specs.Shapes.{Shaped}
+use Rattle.types.specs.Decode.{tyAt}
+use Rattle.places.specs.Shapes.{wide?, Shaped}
 use Rattle.places.specs.Places.{eights, next}
 use Rattle.places.specs.Recorded.{Small, Room}
 use Rattle.places.proofs.Fits.{next-bounds}
 use Rattle.places.proofs.Offsets.{next-room}
-use Rattle.places.proofs.Guaranteed.{accepted-shaped, accepted-small-shape}
-use Rattle.layout.specs.Arguments.{shapeAt, shapesFrom, shapes}
+use Rattle.places.proofs.Guaranteed.{shape-narrow, accepted-shaped, accepted-small-shape}
+use Rattle.layout.specs.Arguments.{isNamed, shapeAt, shapesFrom, shapes}
 use Rattle.layout.specs.Asks.{Before}
 
 module _ (d : List ℕ) (right : usesRefusal d ≡ 0) where
@@ -31,11 +34,11 @@ module _ (d : List ℕ) (right : usesRefusal d ≡ 0) where
 
   pub argument-small : (i : ℕ) → i < argumentsIn d → Small (shapeAt d i)
   unfolding shapeAt
-  argument-small i h = accepted-small-shape d (accepted-types d right) (argumentAt d i) (argument-known i h)
+  argument-small i h = accepted-small-shape d (accepted-types d right) (argumentAt d i) (argument-known i h) (isNamed d i)
 
   pub argument-shaped : (i : ℕ) → i < argumentsIn d → Shaped (shapeAt d i)
   unfolding shapeAt
-  argument-shaped i h = accepted-shaped d (accepted-types d right) (argumentAt d i) (argument-known i h)
+  argument-shaped i h = accepted-shaped d (accepted-types d right) (argumentAt d i) (argument-known i h) (isNamed d i)
 
   -- each of the arguments asks for what classification guarantees
   pub shapes-shaped : (n i : ℕ) → i + n ≤ argumentsIn d → All Shaped (shapesFrom d i n)
@@ -51,6 +54,11 @@ module _ (d : List ℕ) (right : usesRefusal d ≡ 0) where
       let k = next-bounds eights u (shapeAt d i) (b .general) (b .vector) in
       record { general = k .0; vector = k .1; stack = omega (arith, next-room eights u (shapeAt d i) (argument-small i h), b .stack) }
 
--- what place_next asks
+-- an unnamed argument has no wide kind
+pub unnamed-narrow : (d : List ℕ) (i : ℕ) → namedIn d ≤ i → wide? (shapeAt d i .kinds) ≡ false
+unfolding shapeAt isNamed
+unnamed-narrow d i h = rw (le-ltb i (namedIn d) h) (shape-narrow (modelIn d) (tyAt d (argumentAt d i)))
+
+-- what `place_shape` asks
 pub before-room : (i : ℕ) (u : Used) → i ≤ 64 → Before i u → Room u
 before-room i u h b = record { general = b .general; vector = b .vector; stack = omega (arith, b .stack) }

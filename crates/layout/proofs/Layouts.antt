@@ -1,11 +1,11 @@
 -- The layout as a whole: what is used and how many bytes the values have after any number of arguments. Assumes nothing.
-use mathlib.Core.Path.{_≡_, refl, sym, ap, _∙_}
+use mathlib.Core.Path.{_≡_, refl, sym, ap, ap₂, _∙_}
 use mathlib.Core.Bool.{Bool, true, false, cond}
 use mathlib.Core.List.{List}
 use Prim.Native.Nat.{ℕ, zero, suc, _+_, _-_, _^_, _≤_, _<_}
 use native.Mathlib.Numerals.{add-one}
 use native.Mathlib.Omega.{arith}
-use borrow.Author.Tests.{eq-eqb, ne-eqb, eqb-true, ltb-true, ltb-false}
+use borrow.Author.Tests.{eq-eqb, ne-eqb, eqb-true, lt-ltb, le-ltb, ltb-true, ltb-false}
 use lib.Dec.{ltb, eqb}
 use Rattle.units.specs.Raise.{raise}
 use Rattle.description.specs.Description.{typesIn, namedIn, argumentsIn}
@@ -18,11 +18,11 @@ use Rattle.classify.specs.Table.{fullEntry}
 use Rattle.uses.specs.Uses.{usesRefusal}
 use Rattle.uses.proofs.Uses.{accepted-typed}
 use Rattle.places.specs.declared.Used.{Used}
-use Rattle.places.specs.Places.{eights, fresh, after, area}
+use Rattle.places.specs.Places.{eights, fresh, after, areaAlign, area}
 use Rattle.places.specs.Images.{total}
 use Rattle.places.proofs.Prefix.{total-append}
-use Rattle.layout.specs.Arguments.{shapesFrom, returnPlace, returnedSize, hidden, usedAt, areaOf}
-use Rattle.layout.specs.Asks.{Before, AskArguments, IsLaid}
+use Rattle.layout.specs.Arguments.{isNamed, shapesFrom, returnPlace, returnedSize, hidden, usedAt, areaOf}
+use Rattle.layout.specs.Asks.{Before, AskArguments, Alike, IsLaid}
 use Rattle.layout.specs.Verdict.{verdict}
 use Rattle.layout.specs.Layout.{valuesOf, layoutOf, layoutAnswer, refusalIn, tableAfter}
 use Rattle.layout.specs.declared.LayoutAnswer.the-variants.{Laid, Refused}
@@ -71,6 +71,15 @@ module _ (d : List ℕ) where
           sum = omega (arith, values-next n, one-small n (omega arith), r .sum);
         })
 
+  -- the named arguments stand before the others
+  pub named-alike : (n : ℕ) → n ≤ namedIn d → Alike d 0 n true
+  unfolding isNamed
+  named-alike n h = record { each = λ j k l. lt-ltb j (namedIn d) (omega arith) }
+
+  pub unnamed-alike : (n m : ℕ) → n ≡ namedIn d → Alike d n m false
+  unfolding isNamed
+  unnamed-alike n m e = record { each = λ j k l. le-ltb j (namedIn d) (omega arith) }
+
   -- what the code finds, from rdi on
   module _ (b : Bool) (f : Used) (is : b ≡ hidden d) (e : f ≡ fresh b) where
     start : f ≡ usedAt d 0
@@ -86,46 +95,39 @@ module _ (d : List ℕ) where
     unfolding valuesAt
     laid-values n r h = let q : n - 0 ≡ n = omega arith in rw q at (h .values) ∙ omega arith
 
-    -- the named arguments first, and then the others
-    module _ (p r : Laying) (n m : ℕ) (named : n ≡ namedIn d) (all : m ≡ argumentsIn d) (h : IsLaid f 0 (shapesFrom d 0 (n - 0)) p) where
-      pub start-used : p .used ≡ usedAt d (namedIn d)
-      start-used = laid-used n p h ∙ ap (usedAt d) named
+    -- the named arguments first, and then others
+    module _ (p r : Laying) (n m : ℕ) (order : n ≤ m) (h : IsLaid f 0 (shapesFrom d 0 (n - 0)) p) where
+      pub asks-rest : usesRefusal d ≡ 0 → m ≤ argumentsIn d → AskArguments d n m (p .used) (p .values .0)
+      asks-rest right most = rw (laid-used n p h, laid-values n p h) (asks-at right n m order most)
 
-      pub asks-rest : usesRefusal d ≡ 0 → AskArguments d n m (p .used) (p .values .0)
-      asks-rest right =
-          rw (laid-used n p h, laid-values n p h, named, all)
-          (asks-at right (namedIn d) (argumentsIn d) (accepted-typed d right .named) (omega arith))
+      module _ (k : IsLaid (p .used) (p .values .0) (shapesFrom d n (m - n)) r) where
+        pub whole-used : r .used ≡ usedAt d m
+        whole-used = k .used ∙ ap (λ (u : Used). after eights u (shapesFrom d n (m - n))) (laid-used n p h) ∙ sym (used-split d n m order)
 
-      module _ (right : usesRefusal d ≡ 0) (k : IsLaid (p .used) (p .values .0) (shapesFrom d n (m - n)) r) where
-        within : n ≤ m
-        within = omega (arith, accepted-typed d right .named)
-
-        pub whole-used : r .used ≡ usedAt d (argumentsIn d)
-        whole-used = k .used ∙ ap (λ (u : Used). after eights u (shapesFrom d n (m - n))) (laid-used n p h) ∙ sym (used-split d n m within) ∙ ap (usedAt d) all
-
-        pub whole-values : r .values .0 ≡ valuesAt (argumentsIn d)
+        pub whole-values : r .values .0 ≡ valuesAt m
         unfolding valuesAt
         whole-values =
             k .values
             ∙ ap (λ (v : ℕ). v + total (shapesFrom d n (m - n))) (laid-values n p h)
-            ∙ sym (ap total (shapes-split d n m within) ∙ total-append (shapesFrom d 0 n) (shapesFrom d n (m - n)))
-            ∙ ap (λ (j : ℕ). total (shapesFrom d 0 j)) all
+            ∙ sym (ap total (shapes-split d n m order) ∙ total-append (shapesFrom d 0 n) (shapesFrom d n (m - n)))
 
-        pub whole-small : r .used .stack .0 + 16 ≤ 2 ^ 63
-        whole-small =
-            omega (
-              arith,
-              ap (λ (u : Used). u .stack .0) whole-used,
-              asks-at right (argumentsIn d) (argumentsIn d) (omega arith) (omega arith) .before .stack,
-              arguments-few d right,
-            )
+  -- rounding the area up does not overflow
+  pub whole-small : usesRefusal d ≡ 0 → (u : Used) → u ≡ usedAt d (argumentsIn d) → u .stack .0 + 32 ≤ 2 ^ 63
+  whole-small right u e =
+      omega (
+        arith,
+        ap (λ (w : Used). w .stack .0) e,
+        asks-at right (argumentsIn d) (argumentsIn d) (omega arith) (omega arith) .before .stack,
+        arguments-few d right,
+      )
 
-  pub layout-is : (r : Layout) → r .used ≡ usedAt d (argumentsIn d) → r .area .0 ≡ raise 16 (r .used .stack .0) → r .values .0 ≡ valuesAt (argumentsIn d)
-      → r .returns ≡ returnPlace d → r .returned .0 ≡ returnedSize d → r .hidden ≡ hidden d → r .named ≡ usedAt d (namedIn d) → r ≡ layoutOf d
+  pub layout-is : (r : Layout) → r .used ≡ usedAt d (argumentsIn d) → r .align .0 ≡ areaAlign (r .used) → r .area .0 ≡ raise (r .align .0) (r .used .stack .0)
+      → r .values .0 ≡ valuesAt (argumentsIn d) → r .returns ≡ returnPlace d → r .returned .0 ≡ returnedSize d → r .hidden ≡ hidden d → r .named ≡ usedAt d (namedIn d) → r ≡ layoutOf d
   unfolding layoutOf valuesOf valuesAt areaOf area usedAt
-  layout-is r u a v p s q n =
-      let area : r .area .0 ≡ areaOf d = a ∙ ap (λ (x : Used). raise 16 (x .stack .0)) u in
-      λ i. record { used = u i; area = record { 0 = area i }; values = record { 0 = v i }; returns = p i; returned = record { 0 = s i }; hidden = q i; named = n i }
+  layout-is r u l a v p s q n =
+      let align : r .align .0 ≡ areaAlign (usedAt d (argumentsIn d)) = l ∙ ap areaAlign u in
+      let area : r .area .0 ≡ areaOf d = a ∙ ap₂ (λ (m : ℕ) (x : Used). raise m (x .stack .0)) align u in
+      λ i. record { used = u i; area = record { 0 = area i }; align = record { 0 = align i }; values = record { 0 = v i }; returns = p i; returned = record { 0 = s i }; hidden = q i; named = n i }
 
 -- the answer
 answered : (d : List ℕ) (b : Bool) → eqb (verdict d) 0 ≡ b → layoutAnswer d ≡ cond b (Laid (layoutOf d)) (Refused (refusalFor d (verdict d)))

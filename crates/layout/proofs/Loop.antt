@@ -1,5 +1,6 @@
 -- The loop that lays arguments out: what is left comes to what was to be done at first. Assumes nothing.
 use mathlib.Core.Path.{_≡_, refl, sym, ap, _∙_}
+use mathlib.Core.Bool.{Bool}
 use mathlib.Core.List.{List}
 use Prim.Native.Nat.{ℕ, _+_, _-_, _^_, _≤_, _<_}
 use native.Mathlib.Omega.{arith}
@@ -8,8 +9,8 @@ use Rattle.places.specs.declared.Used.{Used}
 use Rattle.places.specs.Shapes.{Shape}
 use Rattle.places.specs.Places.{eights, after}
 use Rattle.places.specs.Images.{total}
-use Rattle.layout.specs.Arguments.{shapesFrom}
-use Rattle.layout.specs.Asks.{AskArgument, AskArguments, IsLaid}
+use Rattle.layout.specs.Arguments.{isNamed, shapesFrom}
+use Rattle.layout.specs.Asks.{AskArgument, AskArguments, Alike, IsLaid}
 use Rattle.layout.specs.Placements.{turnAt}
 use Rattle.layout.specs.declared.placements.Turn.{Turn}
 use Rattle.layout.specs.declared.placements.Laying.{Laying}
@@ -21,14 +22,18 @@ pub record Going (d : List ℕ) (from to : ℕ) (u₀ : Used) (v₀ : ℕ) (u : 
   pub asks : AskArguments d i to u v
   pub used : after eights u (shapesFrom d i (to - i)) ≡ after eights u₀ (shapesFrom d from (to - from))
   pub values : v + total (shapesFrom d i (to - i)) ≡ v₀ + total (shapesFrom d from (to - from))
+  pub since : from ≤ i
 
 module _ (d : List ℕ) (from to : ℕ) (u₀ : Used) (v₀ : ℕ) where
   pub going-first : AskArguments d from to u₀ v₀ → Going d from to u₀ v₀ u₀ v₀ from
-  going-first h = record { asks = h; used = refl; values = refl }
+  going-first h = record { asks = h; used = refl; values = refl; since = omega arith }
 
   module _ (u : Used) (v i : ℕ) (g : Going d from to u₀ v₀ u v i) where
     pub going-asks : i < to → AskArgument d i u
     going-asks l = record { right = g .asks .right; there = omega (arith, g .asks .there); before = g .asks .before }
+
+    pub going-alike : (named : Bool) → Alike d from to named → i < to → isNamed d i ≡ named
+    going-alike named a l = a .each i (g .since) l
 
     here : i < to → i < argumentsIn d
     here l = omega (arith, g .asks .there)
@@ -65,6 +70,7 @@ module _ (d : List ℕ) (from to : ℕ) (u₀ : Used) (v₀ : ℕ) where
           };
           used = ap (λ (x : Used). after eights x (shapesFrom d (i + 1) (to - (i + 1)))) used ∙ sym kept ∙ g .used;
           values = omega (arith, g .values);
+          since = omega (arith, g .since);
         }
 
     pub going-last : to ≤ i → (r : Laying) → r .used ≡ u → r .values .0 ≡ v → IsLaid u₀ v₀ (shapesFrom d from (to - from)) r

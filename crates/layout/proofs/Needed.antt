@@ -4,6 +4,7 @@ use mathlib.Core.Bool.{Bool, true, false, not, cond}
 use mathlib.Core.Logic.{_≢_}
 use mathlib.Core.List.{List, [], _∷_}
 use Prim.Native.Nat.{ℕ, zero, suc, _+_, _-_, _≤_, _<_}
+use native.Mathlib.Nat.{zero-mod}
 use native.Mathlib.Numerals.{add-one}
 use native.Mathlib.Omega.{arith}
 use borrow.Author.Tests.{ltb-true, ltb-false, eq-eqb, ne-eqb, not-true, not-false}
@@ -72,7 +73,7 @@ module _ (d : List ℕ) (right : usesRefusal d ≡ 0) where
 
   area-none : usedAt d (argumentsIn d) .stack .0 ≡ 0 → areaOf d ≡ 0
   unfolding usedAt areaOf
-  area-none e = omega (arith, area-rounded eights (usedFirst d) (shapes d) .least 0 (omega arith) (omega arith))
+  area-none e = omega (arith, area-rounded eights (usedFirst d) (shapes d) .least 0 (omega arith) (zero-mod _))
 
   -- some stack is used, and it stays used
   area-some : (i : ℕ) → i < argumentsIn d → stacked d i ≡ true → 0 < areaOf d

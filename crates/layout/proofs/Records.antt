@@ -15,7 +15,7 @@ use Rattle.places.specs.Places.{eights, Place, place, area}
 use Rattle.places.specs.Images.{stackAt, bytesOf, addresses}
 use Rattle.places.specs.Recorded.{placeOf}
 use Rattle.places.proofs.Records.{place-written}
-use Rattle.places.proofs.Offsets.{area-rounded}
+use Rattle.places.proofs.Offsets.{area-rounded, area-sixteens}
 use Rattle.layout.specs.Arguments.{shapeAt, shapesFrom, shapes, usedFirst, usedAt, areaOf}
 use Rattle.layout.specs.Verdict.{verdict}
 use Rattle.layout.specs.Layout.{valuesOf}
@@ -43,7 +43,7 @@ module _ (d : List ℕ) (right : usesRefusal d ≡ 0) where
   all-addresses = records-addresses (argumentsIn d) 0 (omega arith) ∙ ap (λ (u : Used). addresses stackAt eights u (shapes d)) (used-none d)
 
 pub accepted-bounded : (d : List ℕ) → IsBytes d → verdict d ≡ 0 → Bounded d
-unfolding valuesOf valuesAt areaOf
+unfolding valuesOf valuesAt areaOf usedAt
 accepted-bounded d bytes v =
     let right = accepted-uses d v in
     let types = accepted-types d right in
@@ -57,6 +57,7 @@ accepted-bounded d bytes v =
       general = all .before .general;
       vector = all .before .vector;
       area = accepted-area d v;
-      sixteens = area-rounded eights (usedFirst d) (shapes d) .multiple;
+      sixteens = area-sixteens eights (usedFirst d) (shapes d);
+      rounded = area-rounded eights (usedFirst d) (shapes d) .multiple;
       values = all .sum;
     }

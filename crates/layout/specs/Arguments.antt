@@ -2,8 +2,8 @@
 use mathlib.Core.Bool.{Bool, cond, not, _&&_}
 use mathlib.Core.List.{List, [], _∷_}
 use Prim.Native.Nat.{ℕ, zero, suc, _+_}
-use lib.Dec.{eqb}
-use Rattle.description.specs.Description.{argumentsIn, returnIn, argumentAt, modelIn}
+use lib.Dec.{ltb, eqb}
+use Rattle.description.specs.Description.{namedIn, argumentsIn, returnIn, argumentAt, modelIn}
 use Rattle.types.specs.Size.{sizeTy}
 use Rattle.types.specs.Decode.{tyAt}
 use Rattle.classes.specs.declared.Class.{Class}
@@ -15,9 +15,13 @@ use Rattle.places.specs.Shapes.{Shape, shapeOf}
 use Rattle.places.specs.Places.{eights, fresh, after, area}
 use Rattle.places.specs.Returns.{returnOf, hiddenFor}
 
+-- "N, named arguments": the first N are
+unfoldable pub isNamed : List ℕ → ℕ → Bool
+isNamed d i = ltb i (namedIn d)
+
 -- what places argument i
 unfoldable pub shapeAt : List ℕ → ℕ → Shape
-shapeAt d i = shapeOf (modelIn d) (tyAt d (argumentAt d i))
+shapeAt d i = shapeOf (modelIn d) (isNamed d i) (tyAt d (argumentAt d i))
 
 -- the same of n arguments from the i-th on
 unfoldable pub shapesFrom : List ℕ → ℕ → ℕ → List Shape

@@ -1,5 +1,6 @@
 -- What the functions that lay arguments out ask. Assumes nothing: these are definitions.
 use mathlib.Core.Path.{_≡_}
+use mathlib.Core.Bool.{Bool}
 use mathlib.Core.List.{List}
 use Prim.Native.Nat.{ℕ, _+_, _*_, _≤_, _<_}
 use Rattle.description.specs.Description.{argumentsIn}
@@ -8,13 +9,14 @@ use Rattle.places.specs.declared.Used.{Used}
 use Rattle.places.specs.Shapes.{Shape}
 use Rattle.places.specs.Places.{eights, after}
 use Rattle.places.specs.Images.{total}
+use Rattle.layout.specs.Arguments.{isNamed}
 use Rattle.layout.specs.declared.placements.Laying.{Laying}
 
 -- what may be used where i arguments are placed: no count past its file, and so little stack that no sum overflows
 pub record Before (i : ℕ) (u : Used) : Type 0 where
   pub general : u .general .0 ≤ 6
   pub vector : u .vector .0 ≤ 8
-  pub stack : u .stack .0 ≤ 4120 * i
+  pub stack : u .stack .0 ≤ 4136 * i
 
 -- argument i of a description that none of 1 to 9 refuses
 pub record AskArgument (d : List ℕ) (i : ℕ) (u : Used) : Type 0 where
@@ -29,6 +31,10 @@ pub record AskArguments (d : List ℕ) (i n : ℕ) (u : Used) (bytes : ℕ) : Ty
   pub there : n ≤ argumentsIn d
   pub before : Before i u
   pub sum : bytes ≤ 4096 * i
+
+-- all of them are named, or none
+pub record Alike (d : List ℕ) (i n : ℕ) (named : Bool) : Type 0 where
+  pub each : (j : ℕ) → i ≤ j → j < n → isNamed d j ≡ named
 
 -- what is used, and how many bytes the values have, once these arguments are placed as well
 pub record IsLaid (u : Used) (bytes : ℕ) (ss : List Shape) (r : Laying) : Type 0 where

@@ -1,4 +1,4 @@
--- What a layout answers: registers used, vector count, area, length of the packed values, return place, size of the returned value, walk start.
+-- What a layout answers: registers used, vector count, area and its alignment, length of the packed values, return place, size of the returned value, walk start.
 -- Assumes nothing: these are definitions.
 use mathlib.Core.Bool.{cond}
 use mathlib.Core.List.{List}
@@ -11,6 +11,7 @@ use Rattle.types.specs.Wrong.{refusalFor}
 use Rattle.types.specs.Table.{filled, sizesAfter}
 use Rattle.classify.specs.Table.{fullEntry}
 use Rattle.uses.specs.Uses.{usesRefusal}
+use Rattle.places.specs.Places.{areaAlign}
 use Rattle.places.specs.Images.{total}
 use Rattle.layout.specs.Arguments.{shapes, returnPlace, returnedSize, hidden, usedAt, areaOf}
 use Rattle.layout.specs.Verdict.{verdict}
@@ -28,6 +29,7 @@ unfoldable pub layoutOf : List ℕ → Layout
 layoutOf d = record {
   used = usedAt d (argumentsIn d);
   area = record { 0 = areaOf d };
+  align = record { 0 = areaAlign (usedAt d (argumentsIn d)) };
   values = record { 0 = valuesOf d };
   returns = returnPlace d;
   returned = record { 0 = returnedSize d };

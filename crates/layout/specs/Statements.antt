@@ -7,6 +7,7 @@ use Rattle.description.specs.Description.{typesIn, argumentsIn, modelIn}
 use Rattle.types.specs.Size.{sizeTy, alignTy}
 use Rattle.types.specs.Decode.{tyAt}
 use Rattle.types.specs.Alignments.{Alignment}
+use Rattle.places.specs.Places.{areaAlign}
 use Rattle.places.specs.Images.{stackAt, bytesOf}
 use Rattle.places.specs.Recorded.{placeOf}
 use Rattle.layout.specs.Arguments.{shapeAt, usedAt, areaOf}
@@ -24,6 +25,7 @@ pub record Bounded (d : List ℕ) : Type 0 where
   pub vector : usedAt d (argumentsIn d) .vector .0 ≤ 8
   pub area : areaOf d ≤ 16384
   pub sixteens : areaOf d % 16 ≡ 0
+  pub rounded : areaOf d % areaAlign (usedAt d (argumentsIn d)) ≡ 0
   pub values : valuesOf d ≤ 4096 * argumentsIn d
 
 -- the addresses of the bytes of n records from the i-th on, one record after the other

@@ -21,12 +21,17 @@ pub fn used_after(d: &[u8], n: usize, table: &[u32; 64]) -> Used
     requires { ⌜ (usesRefusal (now d) ≡ 0) × (n ≤ argumentsIn (now d)) × Tabled (now d) (now table) ⌝ }
     ensures { λ r. ⌜ r ≡ usedAt (now (d .entry)) n ⌝ }
 {
+    let named = description::byte_at(d, 7);
     let hidden = placements::hidden_of(d, table);
     let before = Laying {
         used: places::fresh(hidden),
         values: Bytes(0),
     };
-    placements::lay_more(d, before, 0, n, table).used
+    if n <= named {
+        return placements::lay_more(d, before, 0, n, table, true).used;
+    }
+    let first = placements::lay_more(d, before, 0, named, table, true);
+    placements::lay_more(d, first, named, n, table, false).used
 }
 
 // The layout of a description that none of 1 to 9 refuses.
@@ -41,17 +46,19 @@ fn lay(d: &[u8], table: &[u32; 64]) -> Layout
         used: places::fresh(hidden),
         values: Bytes(0),
     };
-    let first = placements::lay_more(d, before, 0, named, table);
+    let first = placements::lay_more(d, before, 0, named, table, true);
     let start = first.used;
-    let all = placements::lay_more(d, first, named, arguments, table);
+    let all = placements::lay_more(d, first, named, arguments, table, false);
     let used = all.used;
     let values = all.values;
-    let area = units::raise_to(Bytes(16), used.stack);
+    let align = places::area_align(used);
+    let area = units::raise_to(align, used.stack);
     let returns = placements::return_of(d, table);
     let returned = placements::returned_size(d, table);
     Layout {
         used: used,
         area: area,
+        align: align,
         values: values,
         returns: returns,
         returned: returned,

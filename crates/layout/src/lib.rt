@@ -28,8 +28,9 @@ use units::Bytes;
 pub struct Layout {
     // After all arguments: registers used, the hidden address included; vector registers used; the end of the stack arguments.
     pub used: Used,
-    // The stack area, rounded up to 16.
+    // The stack area, rounded up to its alignment: 32 with an argument on it that is aligned to 32, and otherwise 16.
     pub area: Bytes,
+    pub align: Bytes,
     // All values, packed.
     pub values: Bytes,
     pub returns: ReturnPlace,

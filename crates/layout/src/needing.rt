@@ -23,12 +23,13 @@ fn first_stacked(d: &[u8], table: &[u32; 64]) -> usize
     requires { ⌜ (usesRefusal (now d) ≡ 0) × Tabled (now d) (now table) ⌝ }
     ensures { λ r. ⌜ r ≡ firstStacked (now (d .entry)) ⌝ }
 {
+    let named = description::byte_at(d, 7);
     let arguments = description::byte_at(d, 8);
     let hidden = placements::hidden_of(d, table);
     let mut used = places::fresh(hidden);
     let mut i = 0;
     while i < arguments {
-        used = placements::use_argument(d, used, i, table).used;
+        used = placements::use_argument(d, used, i, table, i < named).used;
         let end = used.stack;
         if units::over(end, Bytes(0)) {
             return i;

@@ -7,9 +7,9 @@ ghost use mathlib.Core.Path.{_≡_};
 ghost use Prim.Native.Nat.{_-_};
 ghost use Rattle.classify.specs.Table.{Tabled};
 ghost use Rattle.uses.specs.Uses.{usesRefusal};
-ghost use Rattle.layout.specs.Arguments.{shapesFrom, returnPlace, returnedSize, hidden};
+ghost use Rattle.layout.specs.Arguments.{isNamed, shapesFrom, returnPlace, returnedSize, hidden};
 ghost use Rattle.layout.specs.Placements.{stepAt, turnAt};
-ghost use Rattle.layout.specs.Asks.{AskArgument, AskArguments, IsLaid};
+ghost use Rattle.layout.specs.Asks.{AskArgument, AskArguments, Alike, IsLaid};
 
 // One argument: its type's number, size and alignment, and its place.
 pub struct Placement {
@@ -49,7 +49,7 @@ pub fn return_of(d: &[u8], table: &[u32; 64]) -> ReturnPlace
     let classes = classify::classes_in(table, k);
     let first = classes[0];
     let second = classes[1];
-    places::return_place(first, second)
+    places::return_place(first, second, classify::is_wide(table, k))
 }
 
 // The size of the returned type, by the table. Void has none.
@@ -84,7 +84,8 @@ pub fn place_argument(d: &[u8], used: Used, i: usize, table: &[u32; 64]) -> Step
     ensures { λ r. ⌜ r ≡ stepAt (now (d .entry)) used i ⌝ }
 {
     let k = description::argument_at(d, i);
-    let shape = places::shape_in(table, k);
+    let named = i < description::byte_at(d, 7);
+    let shape = places::shape_in(table, k, named);
     let size = shape.size;
     let align = shape.align;
     let placed = places::place_shape(used, shape);
@@ -101,30 +102,37 @@ pub fn place_argument(d: &[u8], used: Used, i: usize, table: &[u32; 64]) -> Step
     }
 }
 
-// The bytes of argument i, and what is used after it, as its record says, without the record.
-pub fn use_argument(d: &[u8], used: Used, i: usize, table: &[u32; 64]) -> Turn
-    requires { ⌜ AskArgument (now d) i used × Tabled (now d) (now table) ⌝ }
+// The bytes of argument i, and what is used after it, as its record says, without the record; the caller knows whether it is named.
+pub fn use_argument(d: &[u8], used: Used, i: usize, table: &[u32; 64], named: bool) -> Turn
+    requires { ⌜ AskArgument (now d) i used × Tabled (now d) (now table) × (isNamed (now d) i ≡ named) ⌝ }
     ensures { λ r. ⌜ r ≡ turnAt (now (d .entry)) used i ⌝ }
 {
     let k = description::argument_at(d, i);
     let size = types::extent_in(table, k).size;
-    let after = places::use_type(used, table, k);
+    let after = places::use_type(used, table, k, named);
     Turn {
         size: size,
         used: after,
     }
 }
 
-// What is used, and how many bytes the values have, after the arguments `from` to `to` as well.
-pub fn lay_more(d: &[u8], before: Laying, from: usize, to: usize, table: &[u32; 64]) -> Laying
-    requires { ⌜ AskArguments (now d) from to (before .used) (before .values .0) × Tabled (now d) (now table) ⌝ }
+// What is used, and how many bytes the values have, after the arguments `from` to `to` as well, all of which are named or none.
+pub fn lay_more(
+    d: &[u8],
+    before: Laying,
+    from: usize,
+    to: usize,
+    table: &[u32; 64],
+    named: bool,
+) -> Laying
+    requires { ⌜ AskArguments (now d) from to (before .used) (before .values .0) × Tabled (now d) (now table) × Alike (now d) from to named ⌝ }
     ensures { λ r. ⌜ IsLaid (before .used) (before .values .0) (shapesFrom (now (d .entry)) from (to - from)) r ⌝ }
 {
     let mut used = before.used;
     let mut values = before.values;
     let mut i = from;
     while i < to {
-        let turn = use_argument(d, used, i, table);
+        let turn = use_argument(d, used, i, table, named);
         let size = turn.size;
         values = units::plus(values, size);
         used = turn.used;

@@ -76,6 +76,10 @@ fn print_register(register: Register, returned: bool) {
             print_number(b" xmm", n.0 as u64);
             print(b"h");
         }
+        Register::Wide(n) => {
+            print_number(b" xmm", n.0 as u64);
+            print(b"y");
+        }
     }
 }
 
@@ -193,6 +197,7 @@ fn print_laid(d: &[u8], room: usize, begun: Begun, layout: Layout, table: &[u32;
     requires { ⌜ (begun ≡ begunOf (now d) room) × (verdict (now d) ≡ 0 → Tabled (now d) (now table)) ⌝ }
 {
     let values = layout.values;
+    let align = layout.align;
     let returns = layout.returns;
     let named = layout.named;
     print_head(d, layout);
@@ -200,6 +205,7 @@ fn print_laid(d: &[u8], room: usize, begun: Begun, layout: Layout, table: &[u32;
     print_returned(d, returns);
     print_walk(d, named);
     print_number(b"values ", values.0 as u64);
+    print_number(b" align ", align.0 as u64);
     print(b"\n");
 }
 

@@ -11,7 +11,7 @@ use Rattle.listing.specs.PlaceWords.{offsetOf}
 
 pub record SmallRecord (p : Placement) : Type 0 where
   pub size : p .size .0 ≤ 4096
-  pub align : p .align .0 ≤ 16
+  pub align : p .align .0 ≤ 32
   pub offset : offsetOf (p .place) ≤ 16384
 
 pub record SmallUsed (u : Used) : Type 0 where

@@ -5,13 +5,13 @@ use Prim.Native.Nat.{ℕ}
 use lib.Dec.{ltb}
 use lib.ListN.{getD}
 use Rattle.places.specs.declared.Register.{Register}
-use Rattle.places.specs.declared.Register.the-variants.{General, Vector, Upper}
+use Rattle.places.specs.declared.Register.the-variants.{General, Vector, Upper, Wide}
 use Rattle.places.specs.declared.Place.{Place}
 use Rattle.places.specs.declared.Place.the-variants.{One, Two, Stack}
 use Rattle.places.specs.declared.ReturnPlace.{ReturnPlace}
 use Rattle.places.specs.declared.ReturnPlace.the-variants.{Void, Memory, One as InOne, Two as InTwo, St0, St0St1}
 use Rattle.listing.specs.Decimal.{digit}
-use Rattle.listing.specs.Words.{numbered, stack, rdi, rsi, rdx, rcx, r8, r9, rax, xmm, half, void, memory, st0, st1}
+use Rattle.listing.specs.Words.{numbered, stack, rdi, rsi, rdx, rcx, r8, r9, rax, xmm, half, whole, void, memory, st0, st1}
 
 -- the general registers of arguments, and those of a returned value, in order
 abbrev pub argumentNames : List (List ℕ)
@@ -31,11 +31,12 @@ generalWord back n = getD (names back) n []
 unfoldable pub vectorWord : ℕ → List ℕ
 vectorWord n = cond (ltb n 8) (xmm ++ (digit n ∷ [])) []
 
--- "An upper half prints as xmm0h"
+-- "An upper half prints as xmm0h"; request 2026-06: "The lister prints such a place as `xmm0y`"
 abbrev pub registerWord : Bool → Register → List ℕ
 registerWord back (General n) = generalWord back (n .0)
 registerWord back (Vector n) = vectorWord (n .0)
 registerWord back (Upper n) = vectorWord (n .0) ++ half
+registerWord back (Wide n) = vectorWord (n .0) ++ whole
 
 abbrev pub placeWords : Place → List ℕ
 placeWords (One a) = registerWord false a

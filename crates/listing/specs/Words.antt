@@ -60,6 +60,10 @@ xmm = bytes " xmm"
 abbrev pub half : List ℕ
 half = bytes "h"
 
+-- behind the name of a vector register: bytes 0 to 31 are in it
+abbrev pub whole : List ℕ
+whole = bytes "y"
+
 abbrev pub returned : List ℕ
 returned = bytes "return"
 

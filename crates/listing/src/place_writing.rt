@@ -54,6 +54,10 @@ fn put_register(out: &mut [u8; 4096], at: usize, back: bool, register: Register)
             let next = put_vector(out, at, n.0);
             text::put(out, next, b"h")
         }
+        Register::Wide(n) => {
+            let next = put_vector(out, at, n.0);
+            text::put(out, next, b"y")
+        }
     }
 }
 

@@ -1,4 +1,4 @@
-// Places and gathers what stands in tests/vectors/moves.in, five lines for each record; moves.out has what an independent reading of
+// Places and gathers what stands in tests/vectors/moves.in, six lines for each record; moves.out has what an independent reading of
 // the rules answers.
 use form::Refusal;
 use libc::STDIN_FILENO;
@@ -76,17 +76,19 @@ fn answer(
     hidden: u64,
     values: &[u8],
     registers: &mut [u8],
+    upper: &mut [u8],
     stack: &mut [u8],
     out: &mut [u8],
 ) {
-    match moving::place_values(d, hidden, values, registers, stack) {
+    match moving::place_values(d, hidden, values, registers, upper, stack) {
         PlaceAnswer::Placed(count) => print_number(b"placed ", count.0 as u64),
         PlaceAnswer::Refused(refusal) => print_refusal(refusal),
     }
     print_bytes(b"registers", registers);
+    print_bytes(b"upper", upper);
     print_bytes(b"stack", stack);
     fill(out);
-    match moving::gather_values(d, registers, stack, out) {
+    match moving::gather_values(d, registers, upper, stack, out) {
         GatherAnswer::Gathered(address) => print_number(b"gathered ", address),
         GatherAnswer::Refused(refusal) => print_refusal(refusal),
     }
@@ -146,12 +148,14 @@ fn read_room(room: usize) -> usize
     n
 }
 
-// The two images and the room for gathering, and the answers.
+// The three images and the room for gathering, and the answers.
 fn answer_images(d: &[u8], hidden: u64, values: &[u8]) {
     let mut registers = io::large_buffer();
+    let mut upper = io::large_buffer();
     let mut stack = io::large_buffer();
     let mut out = io::large_buffer();
     let m = read_sized(&mut registers);
+    let u = read_sized(&mut upper);
     let n = read_sized(&mut stack);
     let v = read_room(65536);
     answer(
@@ -159,6 +163,7 @@ fn answer_images(d: &[u8], hidden: u64, values: &[u8]) {
         hidden,
         values,
         &mut registers[..m],
+        &mut upper[..u],
         &mut stack[..n],
         &mut out[..v],
     );

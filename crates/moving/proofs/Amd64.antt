@@ -1,4 +1,4 @@
--- The two images of document 01 are a sound frame, and its orders are as they should be: so what is proved of any layout holds of it. Assumes nothing.
+-- The images of document 01 and of request 2026-06 are a sound frame, and its orders are as they should be: so what is proved of any layout holds of it. Assumes nothing.
 use mathlib.Core.Path.{_≡_, refl, sym, ap, _∙_}
 use mathlib.Core.Bool.{Bool, true, false, cond}
 use mathlib.Core.List.{List, []}
@@ -26,7 +26,7 @@ use Rattle.images.specs.Words.{rdi, addressIn}
 use Rattle.moving.specs.Asks.{Lent}
 use Rattle.moving.specs.Orders.{wrongLength, placeRefusal}
 use Rattle.moving.specs.Images.{addressesOf, frameOf, amd64}
-use Rattle.moving.specs.Frames.{Sound, ownAddress, passed}
+use Rattle.moving.specs.Frames.{room, Sound, ownAddress, passed}
 use Rattle.moving.specs.Movers.{Ordered}
 use Rattle.moving.proofs.Address.{address-unused}
 use Rattle.moving.proofs.Turns.{right}
@@ -43,11 +43,15 @@ module _ (d : List ℕ) (accepted : verdict d ≡ 0) where
   unfolding addressesOf
   past e = addresses-past eights (shapes d) (usedFirst d) (all-shaped d (right d accepted)) (rw e (omega arith))
 
+  -- the stack image begins behind the two others
+  room-is : room (frameOf d) ≡ stackAt + areaOf d
+  room-is = omega arith
+
   frame-sound : Sound (frameOf d)
   unfolding addressesOf areaOf
   frame-sound = record {
     once = addresses-packed stackAt eights (shapes d) (usedFirst d) (all-shaped d (right d accepted)) (all-seated (shapes d)) .once;
-    inside = addresses-below stackAt eights (shapes d) (usedFirst d) (all-shaped d (right d accepted)) (all-seated (shapes d));
+    inside = rw room-is (addresses-below stackAt eights (shapes d) (usedFirst d) (all-shaped d (right d accepted)) (all-seated (shapes d)));
     past = by (hidden d) refl;
     apart = single (hidden d);
     within = low (hidden d);
@@ -61,8 +65,8 @@ module _ (d : List ℕ) (accepted : verdict d ≡ 0) where
       single true = nodup-run 0 8
       single false = tt
 
-      low : (b : Bool) → Below (stackAt + areaOf d) (cond b rdi [])
-      low true = all-run {P = λ k. k < stackAt + areaOf d} 0 8 (λ k l m. omega arith)
+      low : (b : Bool) → Below (room (frameOf d)) (cond b rdi [])
+      low true = all-run {P = λ k. k < room (frameOf d)} 0 8 (λ k l m. omega arith)
       low false = tt
 
 -- ---- its hidden address: rdi's where it is used, and else 0
@@ -85,21 +89,23 @@ passed-hidden d h = by (hidden d)
 
 -- ---- the lengths
 
-module _ (d : List ℕ) (v r s : ℕ) where
-  pub lent-right : Lent d v r s → wrongLength (layoutOf d) v r s ≡ false
+module _ (d : List ℕ) (v r y s : ℕ) where
+  pub lent-right : Lent d v r y s → wrongLength (layoutOf d) v r y s ≡ false
   unfolding wrongLength layoutOf
-  lent-right h = rw (eq-eqb v (valuesOf d) (h .values), eq-eqb r 176 (h .registers), eq-eqb s _ (h .stack))
+  lent-right h = rw (eq-eqb v (valuesOf d) (h .values), eq-eqb r 176 (h .registers), eq-eqb y 128 (h .upper), eq-eqb s _ (h .stack))
 
-  pub right-lent : verdict d ≡ 0 → wrongLength (layoutOf d) v r s ≡ false → Lent d v r s
+  pub right-lent : verdict d ≡ 0 → wrongLength (layoutOf d) v r y s ≡ false → Lent d v r y s
   unfolding wrongLength layoutOf
   right-lent a h =
       let p = or-none _ _ h in
       let q = or-none _ _ (p .1) in
+      let o = or-none _ _ (q .1) in
       record {
         accepted = a;
         values = eqb-true _ _ (not-false _ (p .0));
         registers = eqb-true _ _ (not-false _ (q .0));
-        stack = eqb-true _ _ (not-false _ (q .1));
+        upper = eqb-true _ _ (not-false _ (o .0));
+        stack = eqb-true _ _ (not-false _ (o .1));
       }
 
 -- ---- its orders
@@ -138,9 +144,9 @@ pub amd64-ordered : Ordered amd64
 unfolding verdict
 amd64-ordered = record {
   sound = frame-sound;
-  lengths = λ d v r s a. (
-    λ e. let l = right-lent d v r s a e in (l .values ∙ sym (length-all d a), l .registers, l .stack),
-    λ l. lent-right d v r s (record { accepted = a; values = l .0 ∙ length-all d a; registers = l .1; stack = l .2 }),
+  lengths = λ d v r y s a. (
+    λ e. let l = right-lent d v r y s a e in (l .values ∙ sym (length-all d a), l .registers, l .upper, l .stack),
+    λ l. lent-right d v r y s (record { accepted = a; values = l .0 ∙ length-all d a; registers = l .1; upper = l .2; stack = l .3 }),
   );
   positive = check-positive;
   without = λ d. check-without d 12 (omega arith);
@@ -151,8 +157,8 @@ amd64-ordered = record {
 }
 
 -- what an accepted placing is sure of
-pub placed-lent : (d : List ℕ) (h : ℕ) (vals : List ℕ) (r s : ℕ) → placeRefusal amd64 d h vals r s ≡ 0 → Lent d (length vals) r s
+pub placed-lent : (d : List ℕ) (h : ℕ) (vals : List ℕ) (r y s : ℕ) → placeRefusal amd64 d h vals r y s ≡ 0 → Lent d (length vals) r y s
 unfolding verdict
-placed-lent d h vals r s e =
-    let f = gather-fits amd64 amd64-ordered d (length vals) r s (place-accepted amd64 amd64-ordered d h vals r s e .0) in
-    record { accepted = f .accepted; values = f .values ∙ length-all d (f .accepted); registers = f .registers; stack = f .stack }
+placed-lent d h vals r y s e =
+    let f = gather-fits amd64 amd64-ordered d (length vals) r y s (place-accepted amd64 amd64-ordered d h vals r y s e .0) in
+    record { accepted = f .accepted; values = f .values ∙ length-all d (f .accepted); registers = f .registers; upper = f .upper; stack = f .stack }

@@ -15,7 +15,7 @@ use Rattle.addresses.proofs.Lists.{all-map}
 use Rattle.images.specs.Words.{littleEndian, number}
 use Rattle.images.proofs.Words.{bytes-of-number}
 use Rattle.images.proofs.Gathers.{getD-zeros, all-present, all-gather}
-use Rattle.moving.specs.Frames.{Frame, Sound, emptyIn, placedIn, gatheredIn, ownAddress, passed, Unused, IsImage}
+use Rattle.moving.specs.Frames.{Frame, room, Sound, emptyIn, placedIn, gatheredIn, ownAddress, passed, Unused, IsImage}
 
 length-little : (n h : ℕ) → length (littleEndian n h) ≡ n
 length-little zero h = refl
@@ -36,14 +36,14 @@ number-passed (p ∷ ps) h l =
     rw (ne-eqb (length (p ∷ ps)) 0 (λ e. omega arith)) (number-little (length (p ∷ ps)) h (l (λ e. let z : suc (length ps) ≡ 0 = ap length e in omega arith)))
 
 module _ (F : Frame) where
-  length-zeros : length {A = ℕ} (replicate (F .registers + F .stack) 0) ≡ F .registers + F .stack
-  length-zeros = length-replicate {A = ℕ} (F .registers + F .stack) 0
+  length-zeros : length {A = ℕ} (replicate (room F) 0) ≡ room F
+  length-zeros = length-replicate {A = ℕ} (room F) 0
 
-  length-empty : (h : ℕ) → length (emptyIn F h) ≡ F .registers + F .stack
+  length-empty : (h : ℕ) → length (emptyIn F h) ≡ room F
   unfolding emptyIn
-  length-empty h = length-scatter (F .address) (replicate (F .registers + F .stack) 0) (littleEndian (length (F .address)) h) ∙ length-zeros
+  length-empty h = length-scatter (F .address) (replicate (room F) 0) (littleEndian (length (F .address)) h) ∙ length-zeros
 
-  pub length-placed : (h : ℕ) (vals : List ℕ) → length (placedIn F h vals) ≡ F .registers + F .stack
+  pub length-placed : (h : ℕ) (vals : List ℕ) → length (placedIn F h vals) ≡ room F
   unfolding placedIn
   length-placed h vals = length-scatter (F .places) (emptyIn F h) vals ∙ length-empty h
 
@@ -56,10 +56,10 @@ module _ (F : Frame) where
   abbrev all : List ℕ
   all = F .address ++ F .places
 
-  placed-whole : (h : ℕ) (vals : List ℕ) → placedIn F h vals ≡ scatter (replicate (F .registers + F .stack) 0) all (littleEndian (length (F .address)) h ++ vals)
+  placed-whole : (h : ℕ) (vals : List ℕ) → placedIn F h vals ≡ scatter (replicate (room F) 0) all (littleEndian (length (F .address)) h ++ vals)
   unfolding placedIn emptyIn
   placed-whole h vals =
-      sym (scatter-append (F .address) (F .places) (replicate (F .registers + F .stack) 0) (littleEndian (length (F .address)) h) vals (sym (length-little (length (F .address)) h)))
+      sym (scatter-append (F .address) (F .places) (replicate (room F) 0) (littleEndian (length (F .address)) h) vals (sym (length-little (length (F .address)) h)))
 
   absent-unused : (k : ℕ) → Absent k all → Unused F k
   absent-unused k a = record { absent = right (F .address) a; past = left (F .address) a }
@@ -73,15 +73,15 @@ module _ (F : Frame) where
       right (p ∷ ps) h = right ps (h .1)
 
   -- an image that is zero elsewhere is made of what is gathered from it
-  again : (img : List ℕ) → length img ≡ F .registers + F .stack → ((k : ℕ) → k < length img → Unused F k → getD img k 0 ≡ 0)
-      → scatter (replicate (F .registers + F .stack) 0) all (gather img all) ≡ img
+  again : (img : List ℕ) → length img ≡ room F → ((k : ℕ) → k < length img → Unused F k → getD img k 0 ≡ 0)
+      → scatter (replicate (room F) 0) all (gather img all) ≡ img
   again img l z =
-      scatter-gather all (replicate (F .registers + F .stack) 0) img (length-zeros ∙ sym l) (λ k m a. z k m (absent-unused k a) ∙ sym (getD-zeros (F .registers + F .stack) k))
+      scatter-gather all (replicate (room F) 0) img (length-zeros ∙ sym l) (λ k m a. z k m (absent-unused k a) ∙ sym (getD-zeros (room F) k))
 
   pub image-placed : (h : ℕ) (vals img : List ℕ) → IsImage F h vals img → placedIn F h vals ≡ img
   image-placed h vals img i =
       placed-whole h vals
-      ∙ ap (λ (x : List ℕ). scatter (replicate (F .registers + F .stack) 0) all x)
+      ∙ ap (λ (x : List ℕ). scatter (replicate (room F) 0) all x)
       (ap₂ (λ (x y : List ℕ). x ++ y) (sym (i .address)) (sym (i .each)) ∙ sym (gather-append (F .address) (F .places) img))
       ∙ again img (i .long) (λ k m u. i .zeros k u)
 
@@ -89,8 +89,8 @@ module _ (F : Frame) where
   unfolding placedIn emptyIn
   placed-zero h vals k u =
       scatter-absent (F .places) (emptyIn F h) vals k (u .absent)
-      ∙ scatter-absent (F .address) (replicate (F .registers + F .stack) 0) (littleEndian (length (F .address)) h) k (u .past)
-      ∙ getD-zeros (F .registers + F .stack) k
+      ∙ scatter-absent (F .address) (replicate (room F) 0) (littleEndian (length (F .address)) h) k (u .past)
+      ∙ getD-zeros (room F) k
 
   -- no unused byte is gathered
   pub unused-gathered : (img jmg : List ℕ) → ((k : ℕ) → (Unused F k → ⊥) → getD img k 0 ≡ getD jmg k 0)
@@ -107,7 +107,7 @@ module _ (F : Frame) where
   placed-unseen h g vals e = ap (λ (img : List ℕ). scatter img (F .places) vals) (by (F .address) e)
     where
       by : (ps : List ℕ) → ps ≡ []
-          → scatter (replicate (F .registers + F .stack) 0) ps (littleEndian (length ps) h) ≡ scatter (replicate (F .registers + F .stack) 0) ps (littleEndian (length ps) g)
+          → scatter (replicate (room F) 0) ps (littleEndian (length ps) h) ≡ scatter (replicate (room F) 0) ps (littleEndian (length ps) g)
       by [] q = refl
       by (p ∷ ps) q = absurd (let z : suc (length ps) ≡ 0 = ap length q in omega arith)
 
@@ -123,7 +123,7 @@ module _ (F : Frame) where
     address-placed h vals =
         gather-same (F .address) (placedIn F h vals) (emptyIn F h)
         (all-map (λ k a. scatter-absent (F .places) (emptyIn F h) vals k a) (F .address) (S .past))
-        ∙ gather-scatter (F .address) (replicate (F .registers + F .stack) 0) (littleEndian (length (F .address)) h) (S .apart)
+        ∙ gather-scatter (F .address) (replicate (room F) 0) (littleEndian (length (F .address)) h) (S .apart)
         (rw length-zeros (S .within)) (sym (length-little (length (F .address)) h))
 
     pub own-placed : (h : ℕ) (vals : List ℕ) → (F .address ≢ [] → h < 256 ^ length (F .address)) → ownAddress F (placedIn F h vals) ≡ passed F h
@@ -146,11 +146,11 @@ module _ (F : Frame) where
         ∙ ap (λ (n : ℕ). littleEndian n (number (gather img (F .address)))) (length-map (F .address) (λ p. getD img p 0))
 
     -- images that are zero elsewhere come back
-    pub placed-gathered : (img : List ℕ) → length img ≡ F .registers + F .stack → All (λ k. getD img k 0 < 256) (F .address)
+    pub placed-gathered : (img : List ℕ) → length img ≡ room F → All (λ k. getD img k 0 < 256) (F .address)
         → ((k : ℕ) → k < length img → Unused F k → getD img k 0 ≡ 0) → placedIn F (ownAddress F img) (gatheredIn F img) ≡ img
     unfolding gatheredIn
     placed-gathered img l b z =
         placed-whole (ownAddress F img) (gatheredIn F img)
-        ∙ ap (λ (x : List ℕ). scatter (replicate (F .registers + F .stack) 0) all x)
+        ∙ ap (λ (x : List ℕ). scatter (replicate (room F) 0) all x)
         (ap (λ (x : List ℕ). x ++ gather img (F .places)) (sym (own-bytes img b)) ∙ sym (gather-append (F .address) (F .places) img))
         ∙ again img l z

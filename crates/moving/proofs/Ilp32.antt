@@ -20,16 +20,16 @@ use Rattle.types.specs.Size.{sizeTy, alignTy}
 use Rattle.types.specs.Decode.{tyAt}
 use Rattle.types.proofs.Large.{accepted-sized}
 use Rattle.types.proofs.Trees.{at-basic}
-use Rattle.classify.specs.Classify.{firstClass, secondClass, gap, oneClass, basicAt, classesAt, classesOf}
+use Rattle.classify.specs.Classify.{firstClass, secondClass, gap, oneClass, basicAt, eightbytesIn, classesAt, eightbytesOf, shown, classesOf}
 use Rattle.uses.proofs.Uses.{accepted-types}
 use Rattle.places.specs.declared.Used.{Used}
-use Rattle.places.specs.Shapes.{Shape, Shaped, kindsOf, shapeOf}
+use Rattle.places.specs.Shapes.{Shape, Shaped, kindsOf, kindsFor, shapeOf}
 use Rattle.places.specs.Places.{eights, place, next, after, fresh}
 use Rattle.places.specs.Images.{stackAt, bytesOf, addresses}
 use Rattle.places.specs.Statements.{Free, Seated}
 use Rattle.places.proofs.Apart.{TakenBy, all-seated}
 use Rattle.places.proofs.Slots.{four, free-before, taken-alone, slot-taken, slot-unused}
-use Rattle.layout.specs.Arguments.{shapeAt, shapesFrom, shapes, hidden, usedFirst, usedAt}
+use Rattle.layout.specs.Arguments.{isNamed, shapeAt, shapesFrom, shapes, hidden, usedFirst, usedAt}
 use Rattle.layout.specs.Verdict.{checkOrder, verdict}
 use Rattle.layout.proofs.Arguments.{shapes-cons, shapes-split}
 use Rattle.layout.proofs.Bounds.{all-shaped, argument-known}
@@ -40,7 +40,7 @@ use Rattle.moving.specs.Address.{wrongAddress}
 use Rattle.moving.specs.Frames.{Unused}
 use Rattle.moving.specs.Images.{addressesOf, frameOf, amd64}
 use Rattle.moving.specs.Orders.{wrongBool, gatherOrder, gatherRefusal, placeRefusal}
-use Rattle.moving.specs.Answers.{registersAfter, stackAfter}
+use Rattle.moving.specs.Answers.{imagesAfter}
 use Rattle.moving.specs.Asks.{Lent}
 use Rattle.moving.specs.Ilp32.{AddressRight, TooWide, TwentySevenExactly, PointerAt, slotByte, PointerUpper, HiddenUpper}
 use Rattle.moving.proofs.Turns.{right}
@@ -61,35 +61,36 @@ wide-wrong d h =
 
 pub twenty-seven-exactly : TwentySevenExactly
 unfolding gatherRefusal placeRefusal
-twenty-seven-exactly d h vals r s = (told, tells)
+twenty-seven-exactly d h vals r y s = (told, tells)
   where
-    told : placeRefusal amd64 d h vals r s ≡ 27 → (gatherRefusal amd64 d (length vals) r s ≡ 0) × TooWide d h
+    told : placeRefusal amd64 d h vals r y s ≡ 27 → (gatherRefusal amd64 d (length vals) r y s ≡ 0) × TooWide d h
     told e =
         let later = rule 27 (wrongAddress (modelIn d) (hidden d) h) ∷ rule 12 (wrongBool amd64 d vals) ∷ [] in
-        let before = gatherOrder amd64 d (length vals) r s in
-        let ok = none-till before later 27 (without-append (checkOrder d) (rule 11 (amd64 .wrongLength d (length vals) r s) ∷ []) 27 (check-without d 27 (omega arith)) ((λ z. omega arith), tt)) e in
+        let before = gatherOrder amd64 d (length vals) r y s in
+        let ok = none-till before later 27 (without-append (checkOrder d) (rule 11 (amd64 .wrongLength d (length vals) r y s) ∷ []) 27 (check-without d 27 (omega arith)) ((λ z. omega arith), tt)) e in
         let k = held [] 27 (wrongAddress (modelIn d) (hidden d) h) (rule 12 (wrongBool amd64 d vals) ∷ []) tt (λ z. omega arith) tt ((λ z. omega arith), tt)
-        (sym (first-behind before later (gather-positive amd64 amd64-ordered d (length vals) r s) ok) ∙ e) in
+        (sym (first-behind before later (gather-positive amd64 amd64-ordered d (length vals) r y s) ok) ∙ e) in
         (ok, wide-wrong d h .0 (k .1))
 
-    tells : (gatherRefusal amd64 d (length vals) r s ≡ 0) × TooWide d h → placeRefusal amd64 d h vals r s ≡ 27
+    tells : (gatherRefusal amd64 d (length vals) r y s ≡ 0) × TooWide d h → placeRefusal amd64 d h vals r y s ≡ 27
     tells p =
         let e : first (amd64 .addressOrder d h) ≡ 27 = rw (wide-wrong d h .1 (p .1)) in
-        place-stopped amd64 amd64-ordered d h vals r s (p .0) (λ z. omega (arith, e, z)) ∙ e
+        place-stopped amd64 amd64-ordered d h vals r y s (p .0) (λ z. omega (arith, e, z)) ∙ e
 
 -- ---- the hidden address
 
 pub hidden-upper : HiddenUpper
-hidden-upper d h vals r s m ok used k l u =
-    let img = registersAfter amd64 d h vals r s ++ stackAfter amd64 d h vals r s in
-    let low : h < 4294967296 = address-is-right d h .0 (place-accepted amd64 amd64-ordered d h vals (length r) (length s) ok .1) m used in
-    upper-zero img h low (rw used at (places-all amd64 amd64-ordered d h vals r s ok img .0 refl .address)) k l u
+hidden-upper d h vals r y s m ok used k l u =
+    let img = imagesAfter amd64 d h vals r y s in
+    let low : h < 4294967296 = address-is-right d h .0 (place-accepted amd64 amd64-ordered d h vals (length r) (length y) (length s) ok .1) m used in
+    upper-zero img h low (rw used at (places-all amd64 amd64-ordered d h vals r y s ok img .0 refl .address)) k l u
 
 -- ---- a pointer argument
 
-pointer-shape : shapeOf Ilp32 (basic 15) ≡ four
-unfolding shapeOf kindsOf same isX87 mergeOf mergeAll oneClass gap firstClass secondClass basicAt classesAt classesOf sizeTy alignTy basicSize basicAlign
-pointer-shape = refl
+pointer-shape : (named : Bool) → shapeOf Ilp32 named (basic 15) ≡ four
+unfolding shapeOf kindsFor kindsOf same isX87 mergeOf mergeAll oneClass gap firstClass secondClass basicAt classesAt eightbytesIn eightbytesOf shown classesOf sizeTy alignTy basicSize basicAlign
+pointer-shape true = refl
+pointer-shape false = refl
 
 module _ (d : List ℕ) (accepted : verdict d ≡ 0) (m : modelIn d ≡ Ilp32) (i : ℕ) (p : PointerAt d i) (j : ℕ) (low : 4 ≤ j) (high : j < 8) where
   shape-is : shapeAt d i ≡ four
@@ -98,7 +99,7 @@ module _ (d : List ℕ) (accepted : verdict d ≡ 0) (m : modelIn d ≡ Ilp32) (
       let t : tyAt d (argumentAt d i) ≡ basic 15 =
       at-basic d (argumentAt d i) (accepted-sized d (accepted-types d (accepted-uses d accepted)) (argumentAt d i) (argument-known d (right d accepted) i (p .there))) (p .kind)
       ∙ ap basic (p .code) in
-      ap₂ shapeOf m t ∙ pointer-shape
+      ap₂ (λ (x : Model) (y : Ty). shapeOf x (isNamed d i) y) m t ∙ pointer-shape (isNamed d i)
 
   byte-is : slotByte d i j ≡ getD (bytesOf stackAt (place eights (usedAt d i) four) 8) j 0
   byte-is = ap (λ (s : Shape). getD (bytesOf stackAt (place eights (usedAt d i) s) 8) j 0) shape-is
@@ -134,8 +135,8 @@ module _ (d : List ℕ) (accepted : verdict d ≡ 0) (m : modelIn d ≡ Ilp32) (
           all-run {P = λ q. slotByte d i j ≢ q} 0 8 (λ k l n z. omega (arith, f .general (omega (arith, z)) (omega (arith, z)), z))
 
 pub pointer-upper : PointerUpper
-pointer-upper d h vals r s m ok i p j low high =
-    let accepted = placed-lent d h vals (length r) (length s) ok .accepted in
-    let img = registersAfter amd64 d h vals r s ++ stackAfter amd64 d h vals r s in
-    places-all amd64 amd64-ordered d h vals r s ok img .0 refl .zeros (slotByte d i j)
+pointer-upper d h vals r y s m ok i p j low high =
+    let accepted = placed-lent d h vals (length r) (length y) (length s) ok .accepted in
+    let img = imagesAfter amd64 d h vals r y s in
+    places-all amd64 amd64-ordered d h vals r y s ok img .0 refl .zeros (slotByte d i j)
     (record { absent = absent d accepted m i p j low high; past = past d accepted m i p j low high })

@@ -56,30 +56,32 @@ rest-all d = ap (shapesFrom d 0) (sub-zero (argumentsIn d))
 
 -- ---- the loop that places
 
-module _ (d vals r₀ s₀ : List ℕ) where
-  pub record Placing (r s : List ℕ) (u : Used) (k i : ℕ) : Type 0 where
+module _ (d vals r₀ y₀ s₀ : List ℕ) where
+  pub record Placing (r y s : List ℕ) (u : Used) (k i : ℕ) : Type 0 where
     pub turn : Turn d u k i
-    pub lent : Lent d (length vals) (length r) (length s)
+    pub lent : Lent d (length vals) (length r) (length y) (length s)
     pub registers : length r ≡ length r₀
+    pub upper : length y ≡ length y₀
     pub stack : length s ≡ length s₀
-    pub same : scatter (r ++ s) (addresses stackAt eights u (rest d i)) (drop k vals) ≡ scatter (r₀ ++ s₀) (addressesOf d) vals
+    pub same : scatter (r ++ (y ++ s)) (addresses stackAt eights u (rest d i)) (drop k vals) ≡ scatter (r₀ ++ (y₀ ++ s₀)) (addressesOf d) vals
 
-  pub placing-first : (u : Used) → Lent d (length vals) (length r₀) (length s₀) → u ≡ usedFirst d → Placing r₀ s₀ u 0 0
+  pub placing-first : (u : Used) → Lent d (length vals) (length r₀) (length y₀) (length s₀) → u ≡ usedFirst d → Placing r₀ y₀ s₀ u 0 0
   unfolding addressesOf
   placing-first u h e = record {
     turn = turn-first d u e;
     lent = h;
     registers = refl;
+    upper = refl;
     stack = refl;
     same = rw (e, rest-all d);
   }
 
-  pub placing-next : (r s : List ℕ) (u : Used) (k i : ℕ) → i < argumentsIn d → Placing r s u k i
+  pub placing-next : (r y s : List ℕ) (u : Used) (k i : ℕ) → i < argumentsIn d → Placing r y s u k i
       → (z : Step) → z ≡ stepAt d u i → (j : ℕ) → j ≡ k + z .placement .size .0
-      → (r′ s′ : List ℕ) → length r′ ≡ length r → length s′ ≡ length s
-      → r′ ++ s′ ≡ scatter (r ++ s) (bytesOf stackAt (placeOf (z .placement .place)) (z .placement .size .0)) (gather vals (run k (z .placement .size .0)))
-      → Placing r′ s′ (z .used) j (i + 1)
-  placing-next r s u k i l h z e j q r′ s′ a b m =
+      → (r′ y′ s′ : List ℕ) → length r′ ≡ length r → length y′ ≡ length y → length s′ ≡ length s
+      → r′ ++ (y′ ++ s′) ≡ scatter (r ++ (y ++ s)) (bytesOf stackAt (placeOf (z .placement .place)) (z .placement .size .0)) (gather vals (run k (z .placement .size .0)))
+      → Placing r′ y′ s′ (z .used) j (i + 1)
+  placing-next r y s u k i l h z e j q r′ y′ s′ a c b m =
       let x = shapeAt d i in
       let xs = rest d (i + 1) in
       let ok = h .lent .accepted in
@@ -87,51 +89,52 @@ module _ (d vals r₀ s₀ : List ℕ) where
       let start : j ≡ k + x .size = q ∙ ap (λ (n : ℕ). k + n) size in
       record {
         turn = turn-next d u k i l (h .turn) z e j q;
-        lent = rw (a, b) (h .lent);
+        lent = rw (a, c, b) (h .lent);
         registers = a ∙ h .registers;
+        upper = c ∙ h .upper;
         stack = b ∙ h .stack;
         same =
             ap₂ (λ (img : List ℕ) (w : Used). scatter img (addresses stackAt eights w xs) (drop j vals))
-            (m ∙ ap₂ (λ (p : Place) (n : ℕ). scatter (r ++ s) (bytesOf stackAt p n) (gather vals (run k n))) (step-place d u k i l (h .turn) z e ok) size)
+            (m ∙ ap₂ (λ (p : Place) (n : ℕ). scatter (r ++ (y ++ s)) (bytesOf stackAt p n) (gather vals (run k n))) (step-place d u k i l (h .turn) z e ok) size)
             (step-used d u k i l (h .turn) z e)
-            ∙ ap (λ (n : ℕ). scatter (scatter (r ++ s) (bytesOf stackAt (place eights u x) (x .size)) (gather vals (run k (x .size)))) (addresses stackAt eights (next eights u x) xs) (drop n vals)) start
-            ∙ sym (scatter-argument u x xs (r ++ s) vals k (argument-shaped d (right d ok) i l) (omega (arith, h .turn .start, h .lent .values, value-inside d ok i l)))
-            ∙ ap (λ (ss : List Shape). scatter (r ++ s) (addresses stackAt eights u ss) (drop k vals)) (sym (shapes-cons d i (argumentsIn d) l))
+            ∙ ap (λ (n : ℕ). scatter (scatter (r ++ (y ++ s)) (bytesOf stackAt (place eights u x) (x .size)) (gather vals (run k (x .size)))) (addresses stackAt eights (next eights u x) xs) (drop n vals)) start
+            ∙ sym (scatter-argument u x xs (r ++ (y ++ s)) vals k (argument-shaped d (right d ok) i l) (omega (arith, h .turn .start, h .lent .values, value-inside d ok i l)))
+            ∙ ap (λ (ss : List Shape). scatter (r ++ (y ++ s)) (addresses stackAt eights u ss) (drop k vals)) (sym (shapes-cons d i (argumentsIn d) l))
             ∙ h .same;
       }
 
-  pub placing-last : (r s : List ℕ) (u : Used) (k i : ℕ) → argumentsIn d ≤ i → Placing r s u k i → r ++ s ≡ scatter (r₀ ++ s₀) (addressesOf d) vals
-  placing-last r s u k i l h =
-      ap (λ (ss : List Shape). scatter (r ++ s) (addresses stackAt eights u ss) (drop k vals)) (sym (shapes-end d i (argumentsIn d) l)) ∙ h .same
+  pub placing-last : (r y s : List ℕ) (u : Used) (k i : ℕ) → argumentsIn d ≤ i → Placing r y s u k i → r ++ (y ++ s) ≡ scatter (r₀ ++ (y₀ ++ s₀)) (addressesOf d) vals
+  placing-last r y s u k i l h =
+      ap (λ (ss : List Shape). scatter (r ++ (y ++ s)) (addresses stackAt eights u ss) (drop k vals)) (sym (shapes-end d i (argumentsIn d) l)) ∙ h .same
 
 -- ---- the loop that gathers
 
-module _ (d r s v₀ : List ℕ) where
+module _ (d r y s v₀ : List ℕ) where
   pub record Gathering (v : List ℕ) (u : Used) (k i : ℕ) : Type 0 where
     pub turn : Turn d u k i
-    pub lent : Lent d (length v) (length r) (length s)
+    pub lent : Lent d (length v) (length r) (length y) (length s)
     pub values : length v ≡ length v₀
-    pub same : scatter v (run k (total (rest d i))) (gather (r ++ s) (addresses stackAt eights u (rest d i))) ≡ gatheredIn (frameOf d) (r ++ s)
+    pub same : scatter v (run k (total (rest d i))) (gather (r ++ (y ++ s)) (addresses stackAt eights u (rest d i))) ≡ gatheredIn (frameOf d) (r ++ (y ++ s))
 
-  pub gathering-first : (u : Used) → Lent d (length v₀) (length r) (length s) → u ≡ usedFirst d → Gathering v₀ u 0 0
+  pub gathering-first : (u : Used) → Lent d (length v₀) (length r) (length y) (length s) → u ≡ usedFirst d → Gathering v₀ u 0 0
   unfolding gatheredIn addressesOf valuesOf
   gathering-first u h e =
-      let long : length (gather (r ++ s) (addresses stackAt eights (usedFirst d) (shapes d))) ≡ total (shapes d) =
-      length-map (addresses stackAt eights (usedFirst d) (shapes d)) (λ p. getD (r ++ s) p 0) ∙ length-addresses stackAt eights (shapes d) (usedFirst d) (all-shaped d (right d (h .accepted))) in
+      let long : length (gather (r ++ (y ++ s)) (addresses stackAt eights (usedFirst d) (shapes d))) ≡ total (shapes d) =
+      length-map (addresses stackAt eights (usedFirst d) (shapes d)) (λ p. getD (r ++ (y ++ s)) p 0) ∙ length-addresses stackAt eights (shapes d) (usedFirst d) (all-shaped d (right d (h .accepted))) in
       record {
         turn = turn-first d u e;
         lent = h;
         values = refl;
         same =
-            ap₂ (λ (w : Used) (ss : List Shape). scatter v₀ (run 0 (total ss)) (gather (r ++ s) (addresses stackAt eights w ss))) e (rest-all d)
-            ∙ ap (λ (n : ℕ). scatter v₀ (run 0 n) (gather (r ++ s) (addresses stackAt eights (usedFirst d) (shapes d)))) (sym long)
-            ∙ scatter-whole (gather (r ++ s) (addresses stackAt eights (usedFirst d) (shapes d))) v₀ (h .values ∙ sym long);
+            ap₂ (λ (w : Used) (ss : List Shape). scatter v₀ (run 0 (total ss)) (gather (r ++ (y ++ s)) (addresses stackAt eights w ss))) e (rest-all d)
+            ∙ ap (λ (n : ℕ). scatter v₀ (run 0 n) (gather (r ++ (y ++ s)) (addresses stackAt eights (usedFirst d) (shapes d)))) (sym long)
+            ∙ scatter-whole (gather (r ++ (y ++ s)) (addresses stackAt eights (usedFirst d) (shapes d))) v₀ (h .values ∙ sym long);
       }
 
   pub gathering-next : (v : List ℕ) (u : Used) (k i : ℕ) → i < argumentsIn d → Gathering v u k i
       → (z : Step) → z ≡ stepAt d u i → (j : ℕ) → j ≡ k + z .placement .size .0
       → (v′ : List ℕ) → length v′ ≡ length v
-      → v′ ≡ scatter v (run k (z .placement .size .0)) (gather (r ++ s) (bytesOf stackAt (placeOf (z .placement .place)) (z .placement .size .0)))
+      → v′ ≡ scatter v (run k (z .placement .size .0)) (gather (r ++ (y ++ s)) (bytesOf stackAt (placeOf (z .placement .place)) (z .placement .size .0)))
       → Gathering v′ (z .used) j (i + 1)
   gathering-next v u k i l h z e j q v′ a m =
       let x = shapeAt d i in
@@ -144,15 +147,15 @@ module _ (d r s v₀ : List ℕ) where
         lent = rw a (h .lent);
         values = a ∙ h .values;
         same =
-            ap₂ (λ (w : List ℕ) (y : Used). scatter w (run j (total xs)) (gather (r ++ s) (addresses stackAt eights y xs)))
-            (m ∙ ap₂ (λ (p : Place) (n : ℕ). scatter v (run k n) (gather (r ++ s) (bytesOf stackAt p n))) (step-place d u k i l (h .turn) z e ok) size)
+            ap₂ (λ (w : List ℕ) (x′ : Used). scatter w (run j (total xs)) (gather (r ++ (y ++ s)) (addresses stackAt eights x′ xs)))
+            (m ∙ ap₂ (λ (p : Place) (n : ℕ). scatter v (run k n) (gather (r ++ (y ++ s)) (bytesOf stackAt p n))) (step-place d u k i l (h .turn) z e ok) size)
             (step-used d u k i l (h .turn) z e)
-            ∙ ap (λ (n : ℕ). scatter (scatter v (run k (x .size)) (gather (r ++ s) (bytesOf stackAt (place eights u x) (x .size)))) (run n (total xs)) (gather (r ++ s) (addresses stackAt eights (next eights u x) xs))) start
-            ∙ sym (gather-argument u x xs (r ++ s) v k (argument-shaped d (right d ok) i l))
-            ∙ ap (λ (ss : List Shape). scatter v (run k (total ss)) (gather (r ++ s) (addresses stackAt eights u ss))) (sym (shapes-cons d i (argumentsIn d) l))
+            ∙ ap (λ (n : ℕ). scatter (scatter v (run k (x .size)) (gather (r ++ (y ++ s)) (bytesOf stackAt (place eights u x) (x .size)))) (run n (total xs)) (gather (r ++ (y ++ s)) (addresses stackAt eights (next eights u x) xs))) start
+            ∙ sym (gather-argument u x xs (r ++ (y ++ s)) v k (argument-shaped d (right d ok) i l))
+            ∙ ap (λ (ss : List Shape). scatter v (run k (total ss)) (gather (r ++ (y ++ s)) (addresses stackAt eights u ss))) (sym (shapes-cons d i (argumentsIn d) l))
             ∙ h .same;
       }
 
-  pub gathering-last : (v : List ℕ) (u : Used) (k i : ℕ) → argumentsIn d ≤ i → Gathering v u k i → v ≡ gatheredIn (frameOf d) (r ++ s)
+  pub gathering-last : (v : List ℕ) (u : Used) (k i : ℕ) → argumentsIn d ≤ i → Gathering v u k i → v ≡ gatheredIn (frameOf d) (r ++ (y ++ s))
   gathering-last v u k i l h =
-      ap (λ (ss : List Shape). scatter v (run k (total ss)) (gather (r ++ s) (addresses stackAt eights u ss))) (sym (shapes-end d i (argumentsIn d) l)) ∙ h .same
+      ap (λ (ss : List Shape). scatter v (run k (total ss)) (gather (r ++ (y ++ s)) (addresses stackAt eights u ss))) (sym (shapes-end d i (argumentsIn d) l)) ∙ h .same

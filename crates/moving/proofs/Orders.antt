@@ -18,15 +18,15 @@ use Rattle.moving.specs.Orders.{isBool, brokenByte, brokenBool, firstBro
 module _ (M : Mover) (O : Ordered M) (d : List ℕ) where
   -- ---- gathering: 1 to 11
 
-  module _ (v r s : ℕ) where
+  module _ (v r y s : ℕ) where
     abbrev eleven : List Rule
-    eleven = rule 11 (M .wrongLength d v r s) ∷ []
+    eleven = rule 11 (M .wrongLength d v r y s) ∷ []
 
-    pub gather-before : first (M .order d) ≢ 0 → gatherRefusal M d v r s ≡ first (M .order d)
+    pub gather-before : first (M .order d) ≢ 0 → gatherRefusal M d v r y s ≡ first (M .order d)
     unfolding gatherRefusal
     gather-before n = first-before (M .order d) eleven n
 
-    pub gather-behind : first (M .order d) ≡ 0 → (b : Bool) → M .wrongLength d v r s ≡ b → gatherRefusal M d v r s ≡ cond b 11 0
+    pub gather-behind : first (M .order d) ≡ 0 → (b : Bool) → M .wrongLength d v r y s ≡ b → gatherRefusal M d v r y s ≡ cond b 11 0
     unfolding gatherRefusal
     gather-behind a b e = first-behind (M .order d) eleven (O .positive d) a ∙ rw e
 
@@ -35,64 +35,65 @@ module _ (M : Mover) (O : Ordered M) (d : List ℕ) where
       pub accepted : first (M .order d) ≡ 0
       pub values : v ≡ length (M .frame d .places)
       pub registers : r ≡ M .frame d .registers
+      pub upper : y ≡ M .frame d .upper
       pub stack : s ≡ M .frame d .stack
 
-    pub gather-fits : gatherRefusal M d v r s ≡ 0 → Fits
+    pub gather-fits : gatherRefusal M d v r y s ≡ 0 → Fits
     unfolding gatherRefusal
     gather-fits e =
         let both = first-both (M .order d) eleven (O .positive d) e in
-        let l = O .lengths d v r s (both .0) .0 (accepts-exactly eleven (omega arith, tt) .0 (both .1) .0) in
-        record { accepted = both .0; values = l .0; registers = l .1; stack = l .2 }
+        let l = O .lengths d v r y s (both .0) .0 (accepts-exactly eleven (omega arith, tt) .0 (both .1) .0) in
+        record { accepted = both .0; values = l .0; registers = l .1; upper = l .2; stack = l .3 }
 
-    pub fits-gather : Fits → gatherRefusal M d v r s ≡ 0
-    fits-gather f = gather-behind (f .accepted) false (O .lengths d v r s (f .accepted) .1 (f .values, f .registers, f .stack))
+    pub fits-gather : Fits → gatherRefusal M d v r y s ≡ 0
+    fits-gather f = gather-behind (f .accepted) false (O .lengths d v r y s (f .accepted) .1 (f .values, f .registers, f .upper, f .stack))
 
-    pub gather-positive : Positive (gatherOrder M d v r s)
+    pub gather-positive : Positive (gatherOrder M d v r y s)
     gather-positive = positive-append (M .order d) eleven (O .positive d) (omega arith, tt)
 
-    gather-without : Without 12 (gatherOrder M d v r s)
+    gather-without : Without 12 (gatherOrder M d v r y s)
     gather-without = without-append (M .order d) eleven 12 (O .without d) ((λ z. omega arith), tt)
 
   -- ---- placing: these, and then its own
 
-  module _ (h : ℕ) (vals : List ℕ) (r s : ℕ) where
+  module _ (h : ℕ) (vals : List ℕ) (r y s : ℕ) where
     abbrev twelve : List Rule
     twelve = rule 12 (wrongBool M d vals) ∷ []
 
-    pub place-before : gatherRefusal M d (length vals) r s ≢ 0 → placeRefusal M d h vals r s ≡ gatherRefusal M d (length vals) r s
+    pub place-before : gatherRefusal M d (length vals) r y s ≢ 0 → placeRefusal M d h vals r y s ≡ gatherRefusal M d (length vals) r y s
     unfolding gatherRefusal placeRefusal
-    place-before n = first-before (gatherOrder M d (length vals) r s) (M .addressOrder d h ++ twelve) n
+    place-before n = first-before (gatherOrder M d (length vals) r y s) (M .addressOrder d h ++ twelve) n
 
-    pub place-behind : gatherRefusal M d (length vals) r s ≡ 0 → NoneHolds (M .addressOrder d h) → (b : Bool) → wrongBool M d vals ≡ b
-        → placeRefusal M d h vals r s ≡ cond b 12 0
+    pub place-behind : gatherRefusal M d (length vals) r y s ≡ 0 → NoneHolds (M .addressOrder d h) → (b : Bool) → wrongBool M d vals ≡ b
+        → placeRefusal M d h vals r y s ≡ cond b 12 0
     unfolding gatherRefusal placeRefusal
     place-behind a n b e =
-        first-behind (gatherOrder M d (length vals) r s) (M .addressOrder d h ++ twelve) (gather-positive (length vals) r s) a
+        first-behind (gatherOrder M d (length vals) r y s) (M .addressOrder d h ++ twelve) (gather-positive (length vals) r y s) a
         ∙ first-behind (M .addressOrder d h) twelve (O .address-positive d h) (accepts-exactly (M .addressOrder d h) (O .address-positive d h) .1 n)
         ∙ rw e
 
     -- an address that is refused
-    pub place-stopped : gatherRefusal M d (length vals) r s ≡ 0 → first (M .addressOrder d h) ≢ 0 → placeRefusal M d h vals r s ≡ first (M .addressOrder d h)
+    pub place-stopped : gatherRefusal M d (length vals) r y s ≡ 0 → first (M .addressOrder d h) ≢ 0 → placeRefusal M d h vals r y s ≡ first (M .addressOrder d h)
     unfolding gatherRefusal placeRefusal
     place-stopped a n =
-        first-behind (gatherOrder M d (length vals) r s) (M .addressOrder d h ++ twelve) (gather-positive (length vals) r s) a
+        first-behind (gatherOrder M d (length vals) r y s) (M .addressOrder d h ++ twelve) (gather-positive (length vals) r y s) a
         ∙ first-before (M .addressOrder d h) twelve n
 
-    pub place-accepted : placeRefusal M d h vals r s ≡ 0
-        → (gatherRefusal M d (length vals) r s ≡ 0) × NoneHolds (M .addressOrder d h) × (wrongBool M d vals ≡ false)
+    pub place-accepted : placeRefusal M d h vals r y s ≡ 0
+        → (gatherRefusal M d (length vals) r y s ≡ 0) × NoneHolds (M .addressOrder d h) × (wrongBool M d vals ≡ false)
     unfolding gatherRefusal placeRefusal
     place-accepted e =
-        let both = first-both (gatherOrder M d (length vals) r s) (M .addressOrder d h ++ twelve) (gather-positive (length vals) r s) e in
+        let both = first-both (gatherOrder M d (length vals) r y s) (M .addressOrder d h ++ twelve) (gather-positive (length vals) r y s) e in
         let late = first-both (M .addressOrder d h) twelve (O .address-positive d h) (both .1) in
         (both .0, accepts-exactly (M .addressOrder d h) (O .address-positive d h) .0 (late .0), accepts-exactly twelve (omega arith, tt) .0 (late .1) .0)
 
-    pub place-twelve : placeRefusal M d h vals r s ≡ 12
-        → (gatherRefusal M d (length vals) r s ≡ 0) × NoneHolds (M .addressOrder d h) × (wrongBool M d vals ≡ true)
+    pub place-twelve : placeRefusal M d h vals r y s ≡ 12
+        → (gatherRefusal M d (length vals) r y s ≡ 0) × NoneHolds (M .addressOrder d h) × (wrongBool M d vals ≡ true)
     unfolding gatherRefusal placeRefusal
     place-twelve e =
-        let ok = none-till (gatherOrder M d (length vals) r s) (M .addressOrder d h ++ twelve) 12 (gather-without (length vals) r s) e in
+        let ok = none-till (gatherOrder M d (length vals) r y s) (M .addressOrder d h ++ twelve) 12 (gather-without (length vals) r y s) e in
         let late = held (M .addressOrder d h) 12 (wrongBool M d vals) [] (O .address-positive d h) (λ z. omega arith) (O .address-without d h) tt
-        (sym (first-behind (gatherOrder M d (length vals) r s) (M .addressOrder d h ++ twelve) (gather-positive (length vals) r s) ok) ∙ e) in
+        (sym (first-behind (gatherOrder M d (length vals) r y s) (M .addressOrder d h ++ twelve) (gather-positive (length vals) r y s) ok) ∙ e) in
         (ok, late .0, late .1)
 
 -- ---- the _Bool arguments

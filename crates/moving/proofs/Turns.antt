@@ -1,12 +1,13 @@
 -- Where a loop over the arguments stands: what is used, the argument, and where its value begins. Assumes nothing.
-use mathlib.Core.Path.{_≡_, refl, sym, ap, _∙_}
+use mathlib.Core.Path.{_≡_, refl, sym, ap, ap₂, _∙_}
+use mathlib.Core.Bool.{Bool}
 use mathlib.Core.List.{List, _∷_}
 use Prim.Native.Nat.{ℕ, zero, suc, _+_, _*_, _-_, _^_, _≤_, _<_}
 use native.Mathlib.Numerals.{add-one}
 use native.Mathlib.Omega.{arith}
+use lib.Dec.{ltb}
 use lib.ListN.{getD}
-use Rattle.units.proofs.Raise.{raise-not-below}
-use Rattle.description.specs.Description.{typesIn, argumentsIn, argumentAt, Whole, modelIn}
+use Rattle.description.specs.Description.{typesIn, namedIn, argumentsIn, argumentAt, Whole, modelIn}
 use Rattle.types.specs.Size.{sizeTy}
 use Rattle.types.specs.Decode.{tyAt}
 use Rattle.types.specs.Asks.{Sized}
@@ -20,13 +21,14 @@ use Rattle.uses.proofs.Uses.{accepted-types, accepted-typed}
 use Rattle.places.specs.declared.Used.{Used}
 use Rattle.places.specs.declared.Placed.{Placed}
 use Rattle.places.specs.Shapes.{Shape, shapeOf, shapeIn}
-use Rattle.places.specs.Places.{eights, place, next, after, area}
+use Rattle.places.specs.Places.{eights, place, next, after}
 use Rattle.places.specs.Images.{total}
 use Rattle.places.specs.Recorded.{placeOf, recorded, Room, Small, IsPlaced}
 use Rattle.places.proofs.Prefix.{total-append}
 use Rattle.places.proofs.Apart.{after-grows}
+use Rattle.places.proofs.Offsets.{area-rounded}
 use Rattle.places.proofs.Records.{place-is, shape-known}
-use Rattle.layout.specs.Arguments.{shapeAt, shapesFrom, shapes, usedFirst, usedAt, areaOf}
+use Rattle.layout.specs.Arguments.{isNamed, shapeAt, shapesFrom, shapes, usedFirst, usedAt, areaOf}
 use Rattle.layout.specs.Asks.{AskArgument}
 use Rattle.layout.specs.Layout.{valuesOf}
 use Rattle.layout.specs.Placements.{stepAt}
@@ -103,7 +105,7 @@ module _ (d : List ℕ) where
     size-is i = refl
 
     next-area : (i : ℕ) → i < argumentsIn d → next eights (usedAt d i) (shapeAt d i) .stack .0 ≤ areaOf d
-    unfolding areaOf area
+    unfolding areaOf
     next-area i h =
         let all : usedAt d (argumentsIn d) ≡ after eights (usedFirst d) (shapes d) = unfold usedAt in refl in
         omega (
@@ -112,7 +114,7 @@ module _ (d : List ℕ) where
           ap (λ (u : Used). u .stack .0) (used-split d (i + 1) (argumentsIn d) (omega arith)),
           after-grows eights (shapesFrom d (i + 1) (argumentsIn d - (i + 1))) (usedAt d (i + 1)),
           ap (λ (u : Used). u .stack .0) all,
-          raise-not-below 16 (after eights (usedFirst d) (shapes d) .stack .0) (omega arith),
+          area-rounded eights (usedFirst d) (shapes d) .behind,
         )
 
   -- ---- the loop
@@ -137,24 +139,25 @@ module _ (d : List ℕ) where
     pub turn-type : verdict d ≡ 0 → (n : ℕ) → n ≡ argumentAt d i → n < 64
     turn-type a n e = omega (arith, e, known a i l, types-few d (right a))
 
-    module _ (table : List ℕ) (tabled : Tabled d table) (a : verdict d ≡ 0) (n : ℕ) (e : n ≡ argumentAt d i) where
-      turn-shape : shapeIn (getD table n 0) ≡ shapeAt d i
-      unfolding shapeAt
-      turn-shape = shape-known d table tabled n (omega (arith, e, known a i l)) ∙ ap (λ (j : ℕ). shapeOf (modelIn d) (tyAt d j)) e
+    module _ (table : List ℕ) (tabled : Tabled d table) (a : verdict d ≡ 0) (n : ℕ) (e : n ≡ argumentAt d i) (b : Bool) (f : b ≡ ltb i (namedIn d)) where
+      turn-shape : shapeIn b (getD table n 0) ≡ shapeAt d i
+      unfolding shapeAt isNamed
+      turn-shape =
+          shape-known d table tabled b n (omega (arith, e, known a i l)) ∙ ap₂ (λ (c : Bool) (j : ℕ). shapeOf (modelIn d) c (tyAt d j)) f e
 
       pub turn-room-left : Room u
       turn-room-left = before-room i u (omega (arith, arguments-few d (right a))) (turn-asks a .before)
 
-      pub turn-small : Small (shapeIn (getD table n 0))
+      pub turn-small : Small (shapeIn b (getD table n 0))
       turn-small = rw turn-shape (argument-small d (right a) i l)
 
-      pub turn-step : (x : Extent) → IsEntry (getD table n 0) x → (p : Placed) → IsPlaced (place eights u (shapeIn (getD table n 0))) (next eights u (shapeIn (getD table n 0))) p
+      pub turn-step : (x : Extent) → IsEntry (getD table n 0) x → (p : Placed) → IsPlaced (place eights u (shapeIn b (getD table n 0))) (next eights u (shapeIn b (getD table n 0))) p
           → _≡_ {A = Step} (record { placement = record { ty = n; size = x .size; align = x .align; place = p .place }; used = p .used }) (stepAt d u i)
       unfolding stepAt shapeIn
       turn-step x h p q =
           let size : x .size .0 ≡ shapeAt d i .size = h .size ∙ ap (λ (s : Shape). s .size) turn-shape in
           let align : x .align .0 ≡ shapeAt d i .align = h .align ∙ ap (λ (s : Shape). s .align) turn-shape in
-          let placed = place-is (p .place) (place eights u (shapeIn (getD table n 0))) (q .place) ∙ ap (λ (s : Shape). recorded (place eights u s)) turn-shape in
+          let placed = place-is (p .place) (place eights u (shapeIn b (getD table n 0))) (q .place) ∙ ap (λ (s : Shape). recorded (place eights u s)) turn-shape in
           let used = q .used ∙ ap (λ (s : Shape). next eights u s) turn-shape in
           λ j. record { placement = record { ty = e j; size = record { 0 = size j }; align = record { 0 = align j }; place = placed j }; used = used j }
 
@@ -171,13 +174,14 @@ module _ (d : List ℕ) where
       unfolding stepAt
       step-record = ap (λ (y : Step). y .placement .place) e
 
-      step-inside : verdict d ≡ 0 → (placeOf (recorded (place eights u (shapeAt d i))) ≡ place eights u (shapeAt d i)) × AskMove (z .placement .place) (z .placement .size .0) k 176 (areaOf d) (valuesOf d)
+      step-inside : verdict d ≡ 0 → (placeOf (recorded (place eights u (shapeAt d i))) ≡ place eights u (shapeAt d i)) × AskMove (z .placement .place) (z .placement .size .0) k 176 128 (areaOf d) (valuesOf d)
       step-inside a =
           let both = place-inside u (shapeAt d i) (areaOf d) (argument-shaped d (right a) i l) (rw (t .used) (next-area a i l)) in (
             both .0,
             rw (step-record, step-size)
                 (record {
                   whole = refl;
+                  above = refl;
                   inside = both .1;
                   there = omega (arith, t .start, value-inside a i l);
                   few = omega (arith, values-small a);
@@ -188,11 +192,11 @@ module _ (d : List ℕ) where
       step-place a = ap placeOf step-record ∙ step-inside a .0
 
       -- what moving this argument asks
-      pub turn-move : (v r s : ℕ) → Lent d v r s → AskMove (z .placement .place) (z .placement .size .0) k r s v
-      turn-move v r s h = rw (h .registers, h .stack, h .values) (step-inside (h .accepted) .1)
+      pub turn-move : (v r y s : ℕ) → Lent d v r y s → AskMove (z .placement .place) (z .placement .size .0) k r y s v
+      turn-move v r y s h = rw (h .registers, h .upper, h .stack, h .values) (step-inside (h .accepted) .1)
 
-      pub turn-room : (v r s : ℕ) → Lent d v r s → k + z .placement .size .0 ≤ 2 ^ 63
-      turn-room v r s h = omega (arith, step-size, t .start, value-inside (h .accepted) i l, values-small (h .accepted))
+      pub turn-room : (v r y s : ℕ) → Lent d v r y s → k + z .placement .size .0 ≤ 2 ^ 63
+      turn-room v r y s h = omega (arith, step-size, t .start, value-inside (h .accepted) i l, values-small (h .accepted))
 
       pub turn-next : (j : ℕ) → j ≡ k + z .placement .size .0 → Turn (z .used) j (i + 1)
       turn-next j q = record {

@@ -15,27 +15,39 @@ use Rattle.moving.specs.declared.GatherAnswer.the-variants.{Gathered, Re
 
 module _ (M : Mover) where
   -- the vector count
-  unfoldable pub placeAnswer : List ℕ → ℕ → List ℕ → ℕ → ℕ → PlaceAnswer
-  placeAnswer d h values registersLength stackLength =
-      cond (eqb (placeRefusal M d h values registersLength stackLength) 0) (Placed (M .count d))
-      (NotPlaced (M .told d (placeRefusal M d h values registersLength stackLength)))
+  unfoldable pub placeAnswer : List ℕ → ℕ → List ℕ → ℕ → ℕ → ℕ → PlaceAnswer
+  placeAnswer d h values registersLength upperLength stackLength =
+      cond (eqb (placeRefusal M d h values registersLength upperLength stackLength) 0) (Placed (M .count d))
+      (NotPlaced (M .told d (placeRefusal M d h values registersLength upperLength stackLength)))
 
-  -- the register image and the stack image at exit, r and s at entry
-  unfoldable pub registersAfter : List ℕ → ℕ → List ℕ → List ℕ → List ℕ → List ℕ
-  registersAfter d h values r s = cond (eqb (placeRefusal M d h values (length r) (length s)) 0) (take (M .frame d .registers) (placedIn (M .frame d) h values)) r
+  -- the register image, the upper image and the stack image at exit; r, y and s at entry
+  unfoldable pub registersAfter : List ℕ → ℕ → List ℕ → List ℕ → List ℕ → List ℕ → List ℕ
+  registersAfter d h values r y s =
+      cond (eqb (placeRefusal M d h values (length r) (length y) (length s)) 0) (take (M .frame d .registers) (placedIn (M .frame d) h values)) r
 
-  unfoldable pub stackAfter : List ℕ → ℕ → List ℕ → List ℕ → List ℕ → List ℕ
-  stackAfter d h values r s = cond (eqb (placeRefusal M d h values (length r) (length s)) 0) (drop (M .frame d .registers) (placedIn (M .frame d) h values)) s
+  unfoldable pub upperAfter : List ℕ → ℕ → List ℕ → List ℕ → List ℕ → List ℕ → List ℕ
+  upperAfter d h values r y s =
+      cond (eqb (placeRefusal M d h values (length r) (length y) (length s)) 0)
+      (take (M .frame d .upper) (drop (M .frame d .registers) (placedIn (M .frame d) h values))) y
+
+  unfoldable pub stackAfter : List ℕ → ℕ → List ℕ → List ℕ → List ℕ → List ℕ → List ℕ
+  stackAfter d h values r y s =
+      cond (eqb (placeRefusal M d h values (length r) (length y) (length s)) 0)
+      (drop (M .frame d .upper) (drop (M .frame d .registers) (placedIn (M .frame d) h values))) s
+
+  -- all of them, one behind the other
+  abbrev pub imagesAfter : List ℕ → ℕ → List ℕ → List ℕ → List ℕ → List ℕ → List ℕ
+  imagesAfter d h values r y s = registersAfter d h values r y s ++ (upperAfter d h values r y s ++ stackAfter d h values r y s)
 
   -- the hidden address, 0 where none is used
-  unfoldable pub gatherAnswer : List ℕ → List ℕ → List ℕ → ℕ → GatherAnswer
-  gatherAnswer d r s valuesLength =
-      cond (eqb (gatherRefusal M d valuesLength (length r) (length s)) 0) (Gathered (ownAddress (M .frame d) (r ++ s)))
-      (NotGathered (M .told d (gatherRefusal M d valuesLength (length r) (length s))))
+  unfoldable pub gatherAnswer : List ℕ → List ℕ → List ℕ → List ℕ → ℕ → GatherAnswer
+  gatherAnswer d r y s valuesLength =
+      cond (eqb (gatherRefusal M d valuesLength (length r) (length y) (length s)) 0) (Gathered (ownAddress (M .frame d) (r ++ (y ++ s))))
+      (NotGathered (M .told d (gatherRefusal M d valuesLength (length r) (length y) (length s))))
 
   -- the values at exit, v at entry
-  unfoldable pub valuesAfter : List ℕ → List ℕ → List ℕ → List ℕ → List ℕ
-  valuesAfter d r s v = cond (eqb (gatherRefusal M d (length v) (length r) (length s)) 0) (gatheredIn (M .frame d) (r ++ s)) v
+  unfoldable pub valuesAfter : List ℕ → List ℕ → List ℕ → List ℕ → List ℕ → List ℕ
+  valuesAfter d r y s v = cond (eqb (gatherRefusal M d (length v) (length r) (length y) (length s)) 0) (gatheredIn (M .frame d) (r ++ (y ++ s))) v
 
 -- the paper's number of an answer: 0 where it is accepted
 abbrev pub placeNumber : PlaceAnswer → ℕ

@@ -2,7 +2,7 @@
 -- the hidden address .. 27, after 11 in placing and putting, a hidden address in use of 2^32 or more". Assumes nothing: these are definitions.
 use mathlib.Core.Path.{_≡_}
 use mathlib.Core.Bool.{true}
-use mathlib.Core.List.{List, _++_}
+use mathlib.Core.List.{List}
 use mathlib.Core.Logic.{_↔_}
 use Prim.Native.Nat.{ℕ, _≤_, _<_}
 use lib.ListN.{length, getD}
@@ -14,7 +14,7 @@ use Rattle.places.specs.Images.{stackAt, bytesOf}
 use Rattle.layout.specs.Arguments.{shapeAt, hidden, usedAt}
 use Rattle.moving.specs.Images.{amd64}
 use Rattle.moving.specs.Orders.{placeRefusal, gatherRefusal}
-use Rattle.moving.specs.Answers.{registersAfter, stackAfter}
+use Rattle.moving.specs.Answers.{imagesAfter}
 
 -- "images placed again under demand 2 need one below that": which hidden address nothing refuses
 abbrev pub AddressRight : Type 0
@@ -28,9 +28,9 @@ pub record TooWide (d : List ℕ) (h : ℕ) : Type 0 where
 
 -- 27 exactly when 1 to 11 do not hold and there is such an address
 abbrev pub TwentySevenExactly : Type 0
-TwentySevenExactly = (d : List ℕ) (h : ℕ) (values : List ℕ) (registersLength stackLength : ℕ)
-    → (placeRefusal amd64 d h values registersLength stackLength ≡ 27)
-    ↔ ((gatherRefusal amd64 d (length values) registersLength stackLength ≡ 0) × TooWide d h)
+TwentySevenExactly = (d : List ℕ) (h : ℕ) (values : List ℕ) (registersLength upperLength stackLength : ℕ)
+    → (placeRefusal amd64 d h values registersLength upperLength stackLength ≡ 27)
+    ↔ ((gatherRefusal amd64 d (length values) registersLength upperLength stackLength ≡ 0) × TooWide d h)
 
 -- argument i's own record is that of a pointer
 pub record PointerAt (d : List ℕ) (i : ℕ) : Type 0 where
@@ -44,11 +44,10 @@ slotByte d i j = getD (bytesOf stackAt (place eights (usedAt d i) (shapeAt d i))
 
 -- "A pointer in a register or a stack slot has its upper half zero"
 abbrev pub PointerUpper : Type 0
-PointerUpper = (d : List ℕ) (h : ℕ) (values r s : List ℕ) → modelIn d ≡ Ilp32 → placeRefusal amd64 d h values (length r) (length s) ≡ 0
-    → (i : ℕ) → PointerAt d i → (j : ℕ) → 4 ≤ j → j < 8
-    → getD (registersAfter amd64 d h values r s ++ stackAfter amd64 d h values r s) (slotByte d i j) 0 ≡ 0
+PointerUpper = (d : List ℕ) (h : ℕ) (values r y s : List ℕ) → modelIn d ≡ Ilp32 → placeRefusal amd64 d h values (length r) (length y) (length s) ≡ 0
+    → (i : ℕ) → PointerAt d i → (j : ℕ) → 4 ≤ j → j < 8 → getD (imagesAfter amd64 d h values r y s) (slotByte d i j) 0 ≡ 0
 
 -- "and so has the hidden address", in rdi
 abbrev pub HiddenUpper : Type 0
-HiddenUpper = (d : List ℕ) (h : ℕ) (values r s : List ℕ) → modelIn d ≡ Ilp32 → placeRefusal amd64 d h values (length r) (length s) ≡ 0 → hidden d ≡ true
-    → (k : ℕ) → 4 ≤ k → k < 8 → getD (registersAfter amd64 d h values r s ++ stackAfter amd64 d h values r s) k 0 ≡ 0
+HiddenUpper = (d : List ℕ) (h : ℕ) (values r y s : List ℕ) → modelIn d ≡ Ilp32 → placeRefusal amd64 d h values (length r) (length y) (length s) ≡ 0
+    → hidden d ≡ true → (k : ℕ) → 4 ≤ k → k < 8 → getD (imagesAfter amd64 d h values r y s) k 0 ≡ 0

@@ -1,5 +1,5 @@
--- The two images of a call, as document 01 has them: "The register image is 176 bytes .. The stack image is the rounded area". Of any bytes. Assumes
--- nothing: these are definitions.
+-- The images of a call: document 01, "The register image is 176 bytes .. The stack image is the rounded area", and, between the two, the upper image of
+-- document 02, request 2026-06, "a second lent image of 128 bytes". Of any bytes. Assumes nothing: these are definitions.
 use mathlib.Core.Bool.{Bool, cond}
 use mathlib.Core.List.{List, [], _∷_}
 use Prim.Native.Nat.{ℕ}
@@ -27,7 +27,7 @@ valueStart d i = total (shapesFrom d 0 i)
 
 -- values at these addresses, so many bytes of stack, and "The hidden address .. fills rdi where it is used": by whether it is
 abbrev pub framed : Bool → List ℕ → ℕ → Frame
-framed used places stackLength = record { places = places; address = cond used rdi []; registers = 176; stack = stackLength }
+framed used places stackLength = record { places = places; address = cond used rdi []; registers = 176; upper = 128; stack = stackLength }
 
 abbrev pub frameOf : List ℕ → Frame
 frameOf d = framed (hidden d) (addressesOf d) (areaOf d)

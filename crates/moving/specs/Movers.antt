@@ -15,7 +15,7 @@ pub record Mover : Type 0 where
   pub frame : List ℕ → Frame  -- what the images of a description are
   pub start : List ℕ → ℕ → ℕ  -- where the value of argument i begins: "packed, argument after argument, size bytes each, no gaps"
   pub order : List ℕ → List Rule  -- 1 to 10, as its paper has them
-  pub wrongLength : List ℕ → ℕ → ℕ → ℕ → Bool  -- 11, by the lengths of values, register image and stack image
+  pub wrongLength : List ℕ → ℕ → ℕ → ℕ → ℕ → Bool  -- 11, by the lengths of values, register image, upper image and stack image
   pub addressOrder : List ℕ → ℕ → List Rule  -- what refuses a hidden address, between 11 and 12
   pub count : List ℕ → Registers  -- "The vector count (for al)"
   pub told : List ℕ → ℕ → Refusal  -- the refusal with this number, and the type that it names
@@ -24,8 +24,9 @@ pub record Mover : Type 0 where
 pub record Ordered (M : Mover) : Type 0 where
   -- an accepted description has sound images, and 11 refuses all lengths but theirs
   pub sound : (d : List ℕ) → first (M .order d) ≡ 0 → Sound (M .frame d)
-  pub lengths : (d : List ℕ) (v r s : ℕ) → first (M .order d) ≡ 0
-      → (M .wrongLength d v r s ≡ false) ↔ ((v ≡ length (M .frame d .places)) × (r ≡ M .frame d .registers) × (s ≡ M .frame d .stack))
+  pub lengths : (d : List ℕ) (v r y s : ℕ) → first (M .order d) ≡ 0
+      → (M .wrongLength d v r y s ≡ false)
+      ↔ ((v ≡ length (M .frame d .places)) × (r ≡ M .frame d .registers) × (y ≡ M .frame d .upper) × (s ≡ M .frame d .stack))
   -- no other rule has the number 12, and none the number 0
   pub positive : (d : List ℕ) → Positive (M .order d)
   pub without : (d : List ℕ) → Without 12 (M .order d)

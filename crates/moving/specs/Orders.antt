@@ -12,10 +12,11 @@ use Rattle.form.specs.Order.{Rule, rule, first}
 use Rattle.layout.specs.declared.Layout.{Layout}
 use Rattle.moving.specs.Movers.{Mover}
 
--- 11: "a lent buffer of wrong length". The values are those of all arguments, "the register image is 176 bytes", "the stack image is
--- the rounded area"; neither less nor more
-unfoldable pub wrongLength : Layout → ℕ → ℕ → ℕ → Bool
-wrongLength l valuesLength registersLength stackLength = not (eqb valuesLength (l .values .0)) || (not (eqb registersLength 176) || not (eqb stackLength (l .area .0)))
+-- 11: "a lent buffer of wrong length". The values are those of all arguments, "the register image is 176 bytes", the upper image is "a second lent image
+-- of 128 bytes" whether or not anything stands in it, "the stack image is the rounded area"; neither less nor more
+unfoldable pub wrongLength : Layout → ℕ → ℕ → ℕ → ℕ → Bool
+wrongLength l valuesLength registersLength upperLength stackLength =
+    not (eqb valuesLength (l .values .0)) || (not (eqb registersLength 176) || (not (eqb upperLength 128) || not (eqb stackLength (l .area .0))))
 
 -- a type whose own record is that of _Bool: kind 0, code 0
 unfoldable pub isBool : List ℕ → ℕ → Bool
@@ -46,18 +47,19 @@ module _ (M : Mover) where
     pub byte : 1 < getD values (M .start d i) 0
 
   -- 1 to 11
-  abbrev pub gatherOrder : List ℕ → ℕ → ℕ → ℕ → List Rule
-  gatherOrder d valuesLength registersLength stackLength = M .order d ++ rule 11 (M .wrongLength d valuesLength registersLength stackLength) ∷ []
+  abbrev pub gatherOrder : List ℕ → ℕ → ℕ → ℕ → ℕ → List Rule
+  gatherOrder d valuesLength registersLength upperLength stackLength =
+      M .order d ++ rule 11 (M .wrongLength d valuesLength registersLength upperLength stackLength) ∷ []
 
   -- and, behind them, what refuses the hidden address h, then 12
-  abbrev pub placeOrder : List ℕ → ℕ → List ℕ → ℕ → ℕ → List Rule
-  placeOrder d h values registersLength stackLength =
-      gatherOrder d (length values) registersLength stackLength ++ (M .addressOrder d h ++ rule 12 (wrongBool d values) ∷ [])
+  abbrev pub placeOrder : List ℕ → ℕ → List ℕ → ℕ → ℕ → ℕ → List Rule
+  placeOrder d h values registersLength upperLength stackLength =
+      gatherOrder d (length values) registersLength upperLength stackLength ++ (M .addressOrder d h ++ rule 12 (wrongBool d values) ∷ [])
 
   -- which of them refuses gathering into so many value bytes, from images of these lengths; or 0
-  unfoldable pub gatherRefusal : List ℕ → ℕ → ℕ → ℕ → ℕ
-  gatherRefusal d valuesLength registersLength stackLength = first (gatherOrder d valuesLength registersLength stackLength)
+  unfoldable pub gatherRefusal : List ℕ → ℕ → ℕ → ℕ → ℕ → ℕ
+  gatherRefusal d valuesLength registersLength upperLength stackLength = first (gatherOrder d valuesLength registersLength upperLength stackLength)
 
   -- and placing the hidden address h and these values
-  unfoldable pub placeRefusal : List ℕ → ℕ → List ℕ → ℕ → ℕ → ℕ
-  placeRefusal d h values registersLength stackLength = first (placeOrder d h values registersLength stackLength)
+  unfoldable pub placeRefusal : List ℕ → ℕ → List ℕ → ℕ → ℕ → ℕ → ℕ
+  placeRefusal d h values registersLength upperLength stackLength = first (placeOrder d h values registersLength upperLength stackLength)

@@ -1,4 +1,4 @@
-// All arguments' bytes into the two images, every byte of which is written, and out of them again (document 01, "Images and moving bytes").
+// All arguments' bytes into the three images, every byte of which is written, and out of them again (document 01, "Images and moving bytes").
 use places::Used;
 use units::Bytes;
 ghost use mathlib.Core.Path.{_≡_};
@@ -14,11 +14,12 @@ ghost use Rattle.moving.specs.Asks.{Lent};
 // ---- before the first argument
 
 // Zeros, and the hidden address in rdi where it is used.
-fn blank_images(used: bool, address: u64, registers: &mut [u8], stack: &mut [u8])
-    requires { ⌜ length (now registers) ≡ 176 ⌝ }
-    ensures { λ _. ⌜ now (registers .exit) ++ now (stack .exit) ≡ emptyIn (framed used [] (length (now (stack .entry)))) address ⌝ }
+fn blank_images(used: bool, address: u64, registers: &mut [u8], upper: &mut [u8], stack: &mut [u8])
+    requires { ⌜ (length (now registers) ≡ 176) × (length (now upper) ≡ 128) ⌝ }
+    ensures { λ _. ⌜ now (registers .exit) ++ (now (upper .exit) ++ now (stack .exit)) ≡ emptyIn (framed used [] (length (now (stack .entry)))) address ⌝ }
 {
     addresses::clear(registers);
+    addresses::clear(upper);
     addresses::clear(stack);
     if !used {
         return;
@@ -34,14 +35,16 @@ fn place_all(
     first: Used,
     values: &[u8],
     registers: &mut [u8],
+    upper: &mut [u8],
     stack: &mut [u8],
     table: &[u32; 64],
 )
-    requires { ⌜ Lent (now d) (length (now values)) (length (now registers)) (length (now stack)) × (first ≡ usedFirst (now d))
+    requires { ⌜ Lent (now d) (length (now values)) (length (now registers)) (length (now upper)) (length (now stack)) × (first ≡ usedFirst (now d))
         × Tabled (now d) (now table) ⌝ }
-    ensures { λ _. ⌜ now (registers .exit) ++ now (stack .exit)
-        ≡ scatter (now (registers .entry) ++ now (stack .entry)) (addressesOf (now (d .entry))) (now (values .entry)) ⌝ }
+    ensures { λ _. ⌜ now (registers .exit) ++ (now (upper .exit) ++ now (stack .exit))
+        ≡ scatter (now (registers .entry) ++ (now (upper .entry) ++ now (stack .entry))) (addressesOf (now (d .entry))) (now (values .entry)) ⌝ }
 {
+    let named = description::byte_at(d, 7);
     let arguments = description::byte_at(d, 8);
     let mut used = first;
     let mut start = Bytes(0);
@@ -50,31 +53,40 @@ fn place_all(
         let k = description::argument_at(d, i);
         let extent = types::extent_in(table, k);
         let size = extent.size;
-        let placed = places::place_type(used, table, k, extent);
+        let placed = places::place_type(used, table, k, extent, i < named);
         let place = placed.place;
-        images::place_one(registers, stack, place, size, values, start);
+        images::place_one(registers, upper, stack, place, size, values, start);
         start = units::plus(start, size);
         used = placed.used;
         i += 1;
     }
 }
 
-// Every byte of both images: blank, and over that the values.
+// Every byte of the three images: blank, and over that the values.
 pub fn fill_images(
     d: &[u8],
     used: bool,
     address: u64,
     values: &[u8],
     registers: &mut [u8],
+    upper: &mut [u8],
     stack: &mut [u8],
     table: &[u32; 64],
 )
-    requires { ⌜ Lent (now d) (length (now values)) (length (now registers)) (length (now stack)) × (used ≡ hidden (now d))
+    requires { ⌜ Lent (now d) (length (now values)) (length (now registers)) (length (now upper)) (length (now stack)) × (used ≡ hidden (now d))
         × Tabled (now d) (now table) ⌝ }
-    ensures { λ _. ⌜ now (registers .exit) ++ now (stack .exit) ≡ placedIn (frameOf (now (d .entry))) address (now (values .entry)) ⌝ }
+    ensures { λ _. ⌜ now (registers .exit) ++ (now (upper .exit) ++ now (stack .exit)) ≡ placedIn (frameOf (now (d .entry))) address (now (values .entry)) ⌝ }
 {
-    blank_images(used, address, registers, stack);
-    place_all(d, places::fresh(used), values, registers, stack, table);
+    blank_images(used, address, registers, upper, stack);
+    place_all(
+        d,
+        places::fresh(used),
+        values,
+        registers,
+        upper,
+        stack,
+        table,
+    );
 }
 
 // Gathers every argument out of the images.
@@ -82,14 +94,16 @@ pub fn gather_all(
     d: &[u8],
     first: Used,
     registers: &[u8],
+    upper: &[u8],
     stack: &[u8],
     values: &mut [u8],
     table: &[u32; 64],
 )
-    requires { ⌜ Lent (now d) (length (now values)) (length (now registers)) (length (now stack)) × (first ≡ usedFirst (now d))
+    requires { ⌜ Lent (now d) (length (now values)) (length (now registers)) (length (now upper)) (length (now stack)) × (first ≡ usedFirst (now d))
         × Tabled (now d) (now table) ⌝ }
-    ensures { λ _. ⌜ now (values .exit) ≡ gatheredIn (frameOf (now (d .entry))) (now (registers .entry) ++ now (stack .entry)) ⌝ }
+    ensures { λ _. ⌜ now (values .exit) ≡ gatheredIn (frameOf (now (d .entry))) (now (registers .entry) ++ (now (upper .entry) ++ now (stack .entry))) ⌝ }
 {
+    let named = description::byte_at(d, 7);
     let arguments = description::byte_at(d, 8);
     let mut used = first;
     let mut start = Bytes(0);
@@ -98,9 +112,9 @@ pub fn gather_all(
         let k = description::argument_at(d, i);
         let extent = types::extent_in(table, k);
         let size = extent.size;
-        let placed = places::place_type(used, table, k, extent);
+        let placed = places::place_type(used, table, k, extent, i < named);
         let place = placed.place;
-        images::gather_one(registers, stack, place, size, values, start);
+        images::gather_one(registers, upper, stack, place, size, values, start);
         start = units::plus(start, size);
         used = placed.used;
         i += 1;

@@ -1,4 +1,4 @@
-// Placing and gathering (document 01, "Images and moving bytes"): the bytes of all values, packed, into the two images and out again.
+// Placing and gathering (document 01, "Images and moving bytes"): the bytes of all values, packed, into the three images and out again.
 pub use calls::gather_values;
 pub use calls::place_values;
 pub use refusals::broken_byte;

@@ -18,13 +18,22 @@ ghost use Rattle.form.specs.Search.{firstFrom};
 // ---- 11
 
 // 11: whether a lent buffer has not exactly the length that the layout says.
-pub fn wrong_length(layout: Layout, values: Bytes, registers: Bytes, stack: Bytes) -> bool
-    ensures { λ r. ⌜ r ≡ wrongLength layout (values .0) (registers .0) (stack .0) ⌝ }
+pub fn wrong_length(
+    layout: Layout,
+    values: Bytes,
+    registers: Bytes,
+    upper: Bytes,
+    stack: Bytes,
+) -> bool
+    ensures { λ r. ⌜ r ≡ wrongLength layout (values .0) (registers .0) (upper .0) (stack .0) ⌝ }
 {
     if !units::same(values, layout.values) {
         return true;
     }
     if !units::same(registers, Bytes(176)) {
+        return true;
+    }
+    if !units::same(upper, Bytes(128)) {
         return true;
     }
     !units::same(stack, layout.area)

@@ -15,7 +15,7 @@ use Rattle.places.specs.declared.Kind.the-variants.{General as general}
 use Rattle.places.specs.declared.Used.{Used}
 use Rattle.places.specs.Shapes.{Shape, Shaped}
 use Rattle.places.specs.Places.{Slot, eights, fits, start, placeIf, nextIf, place, next, after}
-use Rattle.places.specs.Images.{bytesOf, addresses}
+use Rattle.places.specs.Images.{stackAt, bytesOf, addresses}
 use Rattle.places.specs.Statements.{Free, Seated}
 use Rattle.places.proofs.Fits.{fits-true}
 use Rattle.places.proofs.Apart.{TakenBy, free-back, next-grows, argument-packed, addresses-free}
@@ -50,22 +50,22 @@ run-at p (suc n) (suc j) h = run-at (suc p) n j (omega arith) ∙ omega arith
 -- where the register or the slot begins
 abbrev begins : Bool → Used → ℕ
 begins true u = 8 * u .general .0
-begins false u = 176 + start eights u four
+begins false u = stackAt + start eights u four
 
 start-slot : (u : Used) → (start eights u four % 8 ≡ 0) × (u .stack .0 ≤ start eights u four)
 unfolding start
 start-slot u = (raise-multiple 8 (u .stack .0), raise-not-below 8 (u .stack .0) (omega arith))
 
-eight-at : (b : Bool) (u : Used) (j : ℕ) → j < 8 → getD (bytesOf 176 (placeIf eights b u four) 8) j 0 ≡ begins b u + j
+eight-at : (b : Bool) (u : Used) (j : ℕ) → j < 8 → getD (bytesOf stackAt (placeIf eights b u four) 8) j 0 ≡ begins b u + j
 eight-at true u j h = run-at (8 * u .general .0) 8 j h
-eight-at false u j h = run-at (176 + start eights u four) 8 j h
+eight-at false u j h = run-at (stackAt + start eights u four) 8 j h
 
-takes : (b : Bool) (u : Used) → fits u (general ∷ []) ≡ b → (j : ℕ) → j < 8 → TakenBy 176 u (nextIf eights b u four) (begins b u + j)
+takes : (b : Bool) (u : Used) → fits u (general ∷ []) ≡ b → (j : ℕ) → j < 8 → TakenBy stackAt u (nextIf eights b u four) (begins b u + j)
 takes true u e j h =
     let fit = fits-true u (general ∷ []) e in
     let few = fit .general in
     record {
-      was = record { general = λ l m. omega arith; vector = λ l m n. absurd (omega arith); stack = λ l. absurd (omega arith) };
+      was = record { general = λ l m. omega arith; vector = λ l m n. absurd (omega arith); upper = λ l m n. absurd (omega arith); stack = λ l. absurd (omega arith) };
       gone = λ f. omega (arith, f .general (omega arith) (omega arith));
       below = omega arith;
     }
@@ -74,27 +74,27 @@ takes false u e j h =
     let up = raise-multiple 8 (start eights u four + 4) in
     let over = raise-not-below 8 (start eights u four + 4) (omega arith) in
     record {
-      was = record { general = λ l m. absurd (omega arith); vector = λ l m n. absurd (omega arith); stack = λ l. omega (arith, at) };
+      was = record { general = λ l m. absurd (omega arith); vector = λ l m n. absurd (omega arith); upper = λ l m n. absurd (omega arith); stack = λ l. omega (arith, at) };
       gone = λ f. omega (arith, f .stack (omega arith), at, up, over);
       below = omega (arith, at, up, over);
     }
 
-past-four : (b : Bool) (u : Used) (j : ℕ) → 4 ≤ j → Absent (begins b u + j) (bytesOf 176 (placeIf eights b u four) 4)
+past-four : (b : Bool) (u : Used) (j : ℕ) → 4 ≤ j → Absent (begins b u + j) (bytesOf stackAt (placeIf eights b u four) 4)
 past-four true u j h = all-run {P = λ q. begins true u + j ≢ q} (8 * u .general .0) 4 (λ k l m e. omega arith)
-past-four false u j h = all-run {P = λ q. begins false u + j ≢ q} (176 + start eights u four) 4 (λ k l m e. omega arith)
+past-four false u j h = all-run {P = λ q. begins false u + j ≢ q} (stackAt + start eights u four) 4 (λ k l m e. omega arith)
 
 module _ (u : Used) (j : ℕ) (low : 4 ≤ j) (high : j < 8) where
   -- each of the eight bytes is taken, and from the fifth on none is used
-  pub slot-taken : TakenBy 176 u (next eights u four) (getD (bytesOf 176 (place eights u four) 8) j 0)
+  pub slot-taken : TakenBy stackAt u (next eights u four) (getD (bytesOf stackAt (place eights u four) 8) j 0)
   unfolding place next
   slot-taken = by (fits u (general ∷ [])) refl
     where
-      by : (b : Bool) → fits u (general ∷ []) ≡ b → TakenBy 176 u (nextIf eights b u four) (getD (bytesOf 176 (placeIf eights b u four) 8) j 0)
+      by : (b : Bool) → fits u (general ∷ []) ≡ b → TakenBy stackAt u (nextIf eights b u four) (getD (bytesOf stackAt (placeIf eights b u four) 8) j 0)
       by b e = rw (eight-at b u j high) (takes b u e j high)
 
-  pub slot-unused : Absent (getD (bytesOf 176 (place eights u four) 8) j 0) (bytesOf 176 (place eights u four) 4)
+  pub slot-unused : Absent (getD (bytesOf stackAt (place eights u four) 8) j 0) (bytesOf stackAt (place eights u four) 4)
   unfolding place
   slot-unused = by (fits u (general ∷ []))
     where
-      by : (b : Bool) → Absent (getD (bytesOf 176 (placeIf eights b u four) 8) j 0) (bytesOf 176 (placeIf eights b u four) 4)
+      by : (b : Bool) → Absent (getD (bytesOf stackAt (placeIf eights b u four) 8) j 0) (bytesOf stackAt (placeIf eights b u four) 4)
       by b = rw (eight-at b u j high) (past-four b u j low)

@@ -12,17 +12,20 @@ use crate::Used;
 use units::Bytes;
 use units::Registers;
 ghost use mathlib.Core.Path.{_≡_};
+ghost use mathlib.Core.Bool.{not, _&&_, _||_};
+ghost use lib.Dec.{leb};
 ghost use Prim.Native.Nat.{_^_, _≤_, max, _/_, _%_, _<_};
 ghost use Rattle.units.specs.Raise.{raise};
 ghost use Rattle.places.specs.Steps.{stackedAt, IsTaken, foundIf, IsFound};
-ghost use Rattle.places.specs.Places.{eights, enough, stacking, place, next};
+ghost use Rattle.places.specs.Places.{eights, areaAlign, enough, stacking, place, next};
 ghost use Rattle.places.specs.Recorded.{listed, asked, Room, Small, IsPlaced};
 ghost use lib.ListN.{getD};
+ghost use Rattle.classify.specs.Table.{wideIn};
 ghost use Rattle.places.specs.Shapes.{shapeIn, Asking};
 
 // "The lowest offset, after the one before, that is a multiple of 8 and of its alignment".
 fn stack_start(end: Bytes, align: Bytes) -> Bytes
-    requires { ⌜ (end .0 ≤ 2 ^ 20) × (align .0 ≤ 16) ⌝ }
+    requires { ⌜ (end .0 ≤ 2 ^ 20) × (align .0 ≤ 32) ⌝ }
     ensures { λ r. ⌜ r .0 ≡ raise (max 8 (align .0)) (end .0) ⌝ }
 {
     if units::over(align, Bytes(8)) {
@@ -31,9 +34,16 @@ fn stack_start(end: Bytes, align: Bytes) -> Bytes
     units::raise_to(Bytes(8), end)
 }
 
+// Whether an argument aligned to 32 is on the stack once one of this alignment is.
+fn stricter(strict: bool, align: Bytes) -> bool
+    ensures { λ r. ⌜ r ≡ (strict || leb 32 (align .0)) ⌝ }
+{
+    strict || !units::over(Bytes(32), align)
+}
+
 // On the stack: "the lowest offset, after the one before, that is a multiple of 8 and of its alignment; the room it takes is rounded up to 8".
 pub fn on_stack(used: Used, size: Bytes, align: Bytes) -> Placed
-    requires { ⌜ (used .stack .0 ≤ 2 ^ 20) × (size .0 ≤ 4096) × (align .0 ≤ 16) ⌝ }
+    requires { ⌜ (used .stack .0 ≤ 2 ^ 20) × (size .0 ≤ 4096) × (align .0 ≤ 32) ⌝ }
     ensures { λ r. ⌜ r ≡ stackedAt used (size .0) (align .0) ⌝ }
 {
     let general = used.general;
@@ -46,8 +56,16 @@ pub fn on_stack(used: Used, size: Bytes, align: Bytes) -> Placed
             general: general,
             vector: vector,
             stack: end,
+            strict: stricter(used.strict, align),
         },
     }
+}
+
+// What the area is rounded up to: "rounded up to 16", and "an area with a 32-byte aligned argument on it is rounded up to 32".
+pub fn area_align(used: Used) -> Bytes
+    ensures { λ r. ⌜ r .0 ≡ areaAlign used ⌝ }
+{
+    if used.strict { Bytes(32) } else { Bytes(16) }
 }
 
 // ---- registers
@@ -60,6 +78,7 @@ fn take(used: Used, kind: Kind) -> Taken
     let general = used.general;
     let vector = used.vector;
     let stack = used.stack;
+    let strict = used.strict;
     match kind {
         Kind::General => Taken {
             register: Register::General(general),
@@ -67,6 +86,7 @@ fn take(used: Used, kind: Kind) -> Taken
                 general: units::one_more(general),
                 vector: vector,
                 stack: stack,
+                strict: strict,
             },
         },
         Kind::Vector => Taken {
@@ -75,11 +95,21 @@ fn take(used: Used, kind: Kind) -> Taken
                 general: general,
                 vector: units::one_more(vector),
                 stack: stack,
+                strict: strict,
             },
         },
         Kind::Upper => Taken {
             register: Register::Upper(units::before_last(vector)),
             used: used,
+        },
+        Kind::Wide => Taken {
+            register: Register::Wide(vector),
+            used: Used {
+                general: general,
+                vector: units::one_more(vector),
+                stack: stack,
+                strict: strict,
+            },
         },
     }
 }
@@ -152,43 +182,59 @@ struct Asks {
 
 fn asks_in(table: &[u32; 64], k: usize) -> Asks
     requires { ⌜ k < 64 ⌝ }
-    ensures { λ r. ⌜ (r .general .0 ≡ getD (now (table .entry)) k 0 / 33554432 % 16) × (r .vector .0 ≡ getD (now (table .entry)) k 0 / 33554432 / 16)
+    ensures { λ r. ⌜ (r .general .0 ≡ getD (now (table .entry)) k 0 / 67108864 % 16) × (r .vector .0 ≡ getD (now (table .entry)) k 0 / 67108864 / 16)
         × (r .vector .0 ≤ 2 ^ 40) ⌝ }
 {
-    let asks = types::wide(table[k]) / 33554432;
+    let asks = types::wide(table[k]) / 67108864;
     Asks {
         general: Registers(asks % 16),
         vector: Registers(asks / 16),
     }
 }
 
+// "An unnamed one, structures included, is always on the stack": whether an argument of type k is such.
+fn is_unnamed_wide(table: &[u32; 64], k: usize, named: bool) -> bool
+    requires { ⌜ k < 64 ⌝ }
+    ensures { λ r. ⌜ r ≡ (not named && wideIn (getD (now (table .entry)) k 0 / 524288)) ⌝ }
+{
+    if named {
+        return false;
+    }
+    classify::is_wide(table, k)
+}
+
 // What is used once an argument of type k is on the stack.
-fn use_stack(used: Used, table: &[u32; 64], k: usize) -> Used
-    requires { ⌜ (k < 64) × Room used × Small (shapeIn (getD (now table) k 0)) ⌝ }
-    ensures { λ r. ⌜ r ≡ stacking eights used (shapeIn (getD (now (table .entry)) k 0)) ⌝ }
+fn use_stack(used: Used, table: &[u32; 64], k: usize, named: bool) -> Used
+    requires { ⌜ (k < 64) × Room used × Small (shapeIn named (getD (now table) k 0)) ⌝ }
+    ensures { λ r. ⌜ r ≡ stacking eights used (shapeIn named (getD (now (table .entry)) k 0)) ⌝ }
 {
     let extent = types::extent_in(table, k);
     on_stack(used, extent.size, extent.align).used
 }
 
 // What is used after an argument of type k, as `place_shape` says it, without the place.
-pub fn use_type(used: Used, table: &[u32; 64], k: usize) -> Used
-    requires { ⌜ (k < 64) × Room used × Small (shapeIn (getD (now table) k 0)) × Asking (getD (now table) k 0) ⌝ }
-    ensures { λ r. ⌜ r ≡ next eights used (shapeIn (getD (now (table .entry)) k 0)) ⌝ }
+pub fn use_type(used: Used, table: &[u32; 64], k: usize, named: bool) -> Used
+    requires { ⌜ (k < 64) × Room used × Small (shapeIn named (getD (now table) k 0)) × Asking (getD (now table) k 0) ⌝ }
+    ensures { λ r. ⌜ r ≡ next eights used (shapeIn named (getD (now (table .entry)) k 0)) ⌝ }
 {
+    if is_unnamed_wide(table, k, named) {
+        return use_stack(used, table, k, named);
+    }
     let asks = asks_in(table, k);
     let generals = units::with_more(used.general, asks.general);
     if !units::at_most(generals, Registers(6)) {
-        return use_stack(used, table, k);
+        return use_stack(used, table, k, named);
     }
     let vectors = units::with_more(used.vector, asks.vector);
     if !units::at_most(vectors, Registers(8)) {
-        return use_stack(used, table, k);
+        return use_stack(used, table, k, named);
     }
     let stack = used.stack;
+    let strict = used.strict;
     Used {
         general: generals,
         vector: vectors,
         stack: stack,
+        strict: strict,
     }
 }

@@ -13,7 +13,7 @@ use units::Registers;
 ghost use mathlib.Core.Path.{_≡_};
 ghost use Rattle.places.specs.Places.{fresh};
 ghost use mathlib.Core.List.{[], _∷_};
-ghost use Rattle.places.specs.Returns.{outside, returnOf, hiddenBy};
+ghost use Rattle.places.specs.Returns.{outside, returnOf, classesBy, hiddenBy};
 
 // Nothing is used, or rdi by the hidden address.
 pub fn fresh(hidden: bool) -> Used
@@ -24,6 +24,7 @@ pub fn fresh(hidden: bool) -> Used
         general: general,
         vector: Registers(0),
         stack: Bytes(0),
+        strict: false,
     }
 }
 
@@ -45,7 +46,7 @@ fn outside_registers(class: Class) -> ReturnPlace
     }
 }
 
-// Where a value with these classes is returned; void has none.
+// Where a value with these two classes is returned; void has none.
 fn by_kinds(first: Class, second: Class) -> ReturnPlace
     ensures { λ r. ⌜ r ≡ returnOf (first ∷ second ∷ []) ⌝ }
 {
@@ -62,10 +63,13 @@ fn by_kinds(first: Class, second: Class) -> ReturnPlace
     }
 }
 
-// Where a value with these classes is returned.
-pub fn return_place(first: Class, second: Class) -> ReturnPlace
-    ensures { λ r. ⌜ r ≡ returnOf (first ∷ second ∷ []) ⌝ }
+// Where a value with these two classes, or with the four of an __m256, is returned.
+pub fn return_place(first: Class, second: Class, wide: bool) -> ReturnPlace
+    ensures { λ r. ⌜ r ≡ returnOf (classesBy wide first second) ⌝ }
 {
+    if wide {
+        return ReturnPlace::One(Register::Wide(Registers(0)));
+    }
     if !classes::is_same(second, Class::NoClass) {
         return by_kinds(first, second);
     }

@@ -6,11 +6,12 @@ use crate::Shape;
 use classes::Class;
 ghost use mathlib.Core.Path.{_≡_};
 ghost use mathlib.Core.List.{[], _∷_};
-ghost use Rattle.places.specs.Shapes.{kindsOf, shapeIn};
+ghost use Rattle.places.specs.Shapes.{kindsOf, kindsFor, shapeIn};
 ghost use Rattle.places.specs.Recorded.{listed, asked};
 ghost use Rattle.places.specs.Steps.{eightbyteOf};
-ghost use Prim.Native.Nat.{_<_};
+ghost use Prim.Native.Nat.{_<_, _/_};
 ghost use lib.ListN.{getD};
+ghost use Rattle.classify.specs.Table.{unpackedOf};
 
 // What an eightbyte of this class asks for.
 fn eightbyte_of(class: Class) -> Eightbyte
@@ -28,7 +29,7 @@ fn eightbyte_of(class: Class) -> Eightbyte
     }
 }
 
-// What the eightbytes of a value with these classes ask for.
+// What the eightbytes of a value with these two classes ask for.
 pub fn kinds_of(first: Class, second: Class) -> Kinds
     ensures { λ r. ⌜ listed r ≡ kindsOf (first ∷ second ∷ []) ⌝ }
 {
@@ -49,15 +50,31 @@ pub fn kinds_of(first: Class, second: Class) -> Kinds
     }
 }
 
-// What places an argument of type k, by the table.
-pub fn shape_in(table: &[u32; 64], k: usize) -> Shape
+// What an argument of type k asks for, by the table: "A named argument of these four classes takes one vector register; an unnamed one, structures
+// included, is always on the stack".
+fn kinds_for(table: &[u32; 64], k: usize, named: bool) -> Kinds
     requires { ⌜ k < 64 ⌝ }
-    ensures { λ r. ⌜ asked r ≡ shapeIn (getD (now (table .entry)) k 0) ⌝ }
+    ensures { λ r. ⌜ listed r ≡ kindsFor named (unpackedOf (getD (now (table .entry)) k 0 / 524288)) ⌝ }
 {
+    if classify::is_wide(table, k) {
+        return if named {
+            Kinds::One(Kind::Wide)
+        } else {
+            Kinds::Stack
+        };
+    }
     let classes = classify::classes_in(table, k);
     let first = classes[0];
     let second = classes[1];
-    let kinds = kinds_of(first, second);
+    kinds_of(first, second)
+}
+
+// What places an argument of type k, by the table.
+pub fn shape_in(table: &[u32; 64], k: usize, named: bool) -> Shape
+    requires { ⌜ k < 64 ⌝ }
+    ensures { λ r. ⌜ asked r ≡ shapeIn named (getD (now (table .entry)) k 0) ⌝ }
+{
+    let kinds = kinds_for(table, k, named);
     let extent = types::extent_in(table, k);
     let size = extent.size;
     let align = extent.align;

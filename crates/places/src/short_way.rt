@@ -14,7 +14,7 @@ ghost use Rattle.types.specs.Table.{IsEntry};
 ghost use Rattle.places.specs.Places.{eights, place, next};
 ghost use Rattle.places.specs.Shapes.{shapeIn};
 ghost use Rattle.places.specs.Recorded.{Room, Small, IsPlaced};
-ghost use Rattle.places.specs.Asked.{IsLone};
+ghost use Rattle.places.specs.Asked.{IsLoneIn};
 
 // The one register that an argument asks for, or anything else.
 enum Lone {
@@ -23,10 +23,11 @@ enum Lone {
     Other,
 }
 
-// What an argument of type k asks for, by the table: the one register that most ask for, or anything else.
+// What an argument of type k asks for, by the table, named or not: the one register that most ask for, or anything else. The second class of an
+// __m256 is SSEUP.
 fn asked_of(table: &[u32; 64], k: usize) -> Lone
     requires { ⌜ k < 64 ⌝ }
-    ensures { λ r. ⌜ IsLone (shapeIn (getD (now (table .entry)) k 0) .kinds) r ⌝ }
+    ensures { λ r. ⌜ IsLoneIn (getD (now (table .entry)) k 0) r ⌝ }
 {
     let classes = classify::classes_in(table, k);
     let first = classes[0];
@@ -45,16 +46,17 @@ fn asked_of(table: &[u32; 64], k: usize) -> Lone
 
 // The place of an argument of type k, by the table, as `argument_places::place_shape` says it: a short way for one eightbyte of class INTEGER
 // or SSE, which most arguments are.
-pub fn place_type(used: Used, table: &[u32; 64], k: usize, extent: Extent) -> Placed
-    requires { ⌜ (k < 64) × Room used × Small (shapeIn (getD (now table) k 0)) × IsEntry (getD (now table) k 0) extent ⌝ }
-    ensures { λ r. ⌜ IsPlaced (place eights used (shapeIn (getD (now (table .entry)) k 0))) (next eights used (shapeIn (getD (now (table .entry)) k 0))) r ⌝ }
+pub fn place_type(used: Used, table: &[u32; 64], k: usize, extent: Extent, named: bool) -> Placed
+    requires { ⌜ (k < 64) × Room used × Small (shapeIn named (getD (now table) k 0)) × IsEntry (getD (now table) k 0) extent ⌝ }
+    ensures { λ r. ⌜ IsPlaced (place eights used (shapeIn named (getD (now (table .entry)) k 0))) (next eights used (shapeIn named (getD (now (table .entry)) k 0))) r ⌝ }
 {
     let general = used.general;
     let vector = used.vector;
     let stack = used.stack;
+    let strict = used.strict;
     let lone = asked_of(table, k);
     match lone {
-        Lone::Other => argument_places::place_shape(used, shapes::shape_in(table, k)),
+        Lone::Other => argument_places::place_shape(used, shapes::shape_in(table, k, named)),
         Lone::General => {
             if !units::at_most(general, Registers(5)) {
                 return argument_places::on_stack(used, extent.size, extent.align);
@@ -65,6 +67,7 @@ pub fn place_type(used: Used, table: &[u32; 64], k: usize, extent: Extent) -> Pl
                     general: units::one_more(general),
                     vector: vector,
                     stack: stack,
+                    strict: strict,
                 },
             }
         }
@@ -78,6 +81,7 @@ pub fn place_type(used: Used, table: &[u32; 64], k: usize, extent: Extent) -> Pl
                     general: general,
                     vector: units::one_more(vector),
                     stack: stack,
+                    strict: strict,
                 },
             }
         }

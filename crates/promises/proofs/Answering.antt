@@ -49,11 +49,15 @@ answered {rules = rules} {v = v} some e = record {
   );
 }
 
--- an answer that a number decides: `flat` for 0, and else the refusal with that number
+-- an answer that a number decides: `given` for 0, and else the refusal with that number
+pub decided-by : {R X : Type 0} (mean : R → Meaning X) (given : R) (denied : ℕ → R) (v : X) (n : ℕ) → (n ≡ 0 → mean given ≡ accepted v) → ((k : ℕ) → mean (denied k) ≡ refused k)
+    → mean (cond (eqb n 0) given (denied n)) ≡ outcome n v
+decided-by mean given denied v zero e f = e refl
+decided-by mean given denied v (suc n) e f = rw (ne-eqb (suc n) 0 (λ q. absurd (omega (arith, q)))) (f (suc n))
+
 pub decided : {R X : Type 0} (mean : R → Meaning X) (given : R) (denied : ℕ → R) (v : X) → mean given ≡ accepted v → ((n : ℕ) → mean (denied n) ≡ refused n) → (n : ℕ)
     → mean (cond (eqb n 0) given (denied n)) ≡ outcome n v
-decided mean given denied v e f zero = e
-decided mean given denied v e f (suc n) = rw (ne-eqb (suc n) 0 (λ q. absurd (omega (arith, q)))) (f (suc n))
+decided mean given denied v e f n = decided-by mean given denied v n (λ z. e) f
 
 -- the number of such an answer
 pub decided-number : {X : Type 0} {m : Meaning X} (n : ℕ) (v : X) → m ≡ outcome n v → numberOf m ≡ n

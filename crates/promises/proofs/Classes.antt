@@ -1,91 +1,110 @@
 -- What demand 2 says of classes: the table, clean-up rule by rule, and the equations of the classification. Assumes nothing.
 use mathlib.Core.Path.{_≡_, refl, sym, ap, _∙_}
+use mathlib.Core.Logic.{_⊎_}
 use mathlib.Core.Bool.{Bool, true, false, cond, not, _&&_, _||_, true≢false}
 use mathlib.Core.List.{List, [], _∷_, map}
 use Prim.Native.Nat.{ℕ, zero, suc, _+_, _/_, _≤_, _<_}
 use native.Mathlib.Nat.{add-zero}
-use borrow.Author.Tests.{le-ltb}
-use lib.ListN.{getD, set}
+use native.Mathlib.Omega.{arith}
+use borrow.Author.Tests.{lt-ltb}
+use lib.Dec.{ltb}
+use lib.ListN.{length, getD, set}
 use Rattle.description.specs.declared.Model.{Model}
+use Rattle.description.specs.declared.Model.the-variants.{Lp64, Ilp32}
 use Rattle.units.specs.Raise.{raise}
 use Rattle.addresses.specs.Addresses.{run}
-use Rattle.description.specs.Description.{kindAt, aAt, countAt, memberAt}
+use Rattle.description.specs.Description.{kindAt, aAt, countAt, memberAt, modelIn}
 use Rattle.types.specs.Tree.{Ty, basic, array, Tys, none, more, group}
 use Rattle.types.specs.Basic.{basicSize, basicAlign}
 use Rattle.types.specs.Size.{alignTy, sizeTy, offsetAfter, endAfter}
 use Rattle.types.specs.Decode.{tysFrom, tyBy, tyAt}
 use Rattle.types.proofs.Codes.{each-code}
+use Rattle.types.proofs.Laws.{type-filled}
 use Rattle.classes.specs.declared.Class.{Class}
 use Rattle.classes.specs.declared.Class.the-variants.{NoClass, Integer, Sse, SseUp, X87, X87Up, ComplexX87, Memory}
-use Rattle.classes.specs.Classes.{same, isX87, mergeOf, mergeAll}
-use Rattle.classes.specs.CleanUp.{anyMemory, upAlone, anyUpAlone, settled, memoryOf, cleanUp}
-use Rattle.classes.proofs.Laws.{merge-none, or-right}
+use Rattle.classes.specs.Classes.{same, isX87, noClasses, mergeOf, mergeAll}
+use Rattle.classes.specs.CleanUp.{anyMemory, upAlone, anyUpAlone, settled, noneFor, memoryOf, cleanUp, allUps, oneVector}
+use Rattle.classes.proofs.Laws.{merge-none, merge-commutes, or-right}
 use Rattle.classes.proofs.Ups.{settle-at, clean-follows}
-use Rattle.classify.specs.Classify.{firstClass, secondClass, gap, oneClass, basicAt, elementsAt, classesAt, membersAt, isAggregate, classesOf}
+use Rattle.classify.specs.Classify.{firstClass, secondClass, gap, oneClass, vectorAt, basicAt, elementsAt, eightbytesIn, own, closed, classesAt, membersAt, isAggregate, eightbytesOf, shown, memory, classesOf}
+use Rattle.classify.specs.Vectors.{vector}
 use Rattle.classify.specs.Cases.{cases as classCases}
-use Rattle.promises.specs.Demand2.{classTable, pieces, piecesAt, before, UpAlone, CleansUp, mergedIn, elementOffsets, memberClasses, classed}
+use Rattle.classify.proofs.Covered.{closed-small}
+use Rattle.classify.proofs.Wide.{held, wide-or-memory as over-two-eightbytes}
+use Rattle.questions.specs.Questions.{questionRefusal}
+use Rattle.questions.proofs.Questions.{answered-sized}
+use Rattle.promises.specs.Demand2.{classTable, pieces, piecesAt, before, UpAlone, CleansUp, Closes, mergedIn, elementOffsets, memberClasses, classed}
+
+and-false : (b : Bool) → (b && false) ≡ false
+and-false true = refl
+and-false false = refl
 
 -- ---- the table
 
-pub class-table : (model : Model) → map (λ code. classesOf model (basic code)) (run 0 16) ≡ classTable
-unfolding classesOf classesAt basicAt oneClass firstClass secondClass gap mergeAll mergeOf same
-class-table model = refl
+pub class-table : (model : Model) → map (λ code. classesOf model (basic code)) (run 0 17) ≡ classTable
+unfolding basicSize sizeTy eightbytesIn eightbytesOf shown classesOf classesAt vectorAt basicAt oneClass firstClass secondClass gap mergeAll mergeOf isX87 same
+class-table Lp64 = refl
+class-table Ilp32 = refl
 
--- NO_CLASS put among two changes nothing, and nothing is merged by it
-set-none : (k : ℕ) → set (NoClass ∷ NoClass ∷ []) k NoClass ≡ NoClass ∷ NoClass ∷ []
-set-none zero = refl
-set-none (suc zero) = refl
-set-none (suc (suc k)) = refl
+-- NO_CLASS put among others changes nothing, and nothing is merged by it
+set-none : (n k : ℕ) → set (noClasses n) k NoClass ≡ noClasses n
+set-none zero k = refl
+set-none (suc n) zero = refl
+set-none (suc n) (suc k) = ap (λ (cs : List Class). NoClass ∷ cs) (set-none n k)
 
-merge-nothing : (k : ℕ) (c : Class) → mergeAll (set (NoClass ∷ NoClass ∷ []) k c) (NoClass ∷ NoClass ∷ []) ≡ set (NoClass ∷ NoClass ∷ []) k c
+none-merged : (n : ℕ) → mergeAll (noClasses n) (noClasses n) ≡ noClasses n
 unfolding mergeAll
-merge-nothing zero c = rw (merge-none c, merge-none NoClass) refl
-merge-nothing (suc zero) c = rw (merge-none c, merge-none NoClass) refl
-merge-nothing (suc (suc k)) c = rw (merge-none NoClass) refl
+none-merged zero = refl
+none-merged (suc n) = rw (merge-none NoClass, none-merged n) refl
 
--- a basic type of one piece, and of two
-one : (o : ℕ) (c : Class) → mergeAll (oneClass 2 o c) (oneClass 2 (o + 0) NoClass) ≡ piecesAt o ((0, c) ∷ [])
+merge-nothing : (n k : ℕ) (c : Class) → mergeAll (set (noClasses n) k c) (noClasses n) ≡ set (noClasses n) k c
+unfolding mergeAll
+merge-nothing zero k c = refl
+merge-nothing (suc n) zero c = rw (merge-none c, none-merged n) refl
+merge-nothing (suc n) (suc k) c = rw (merge-none NoClass, merge-nothing n k c) refl
+
+-- a basic type of one piece, of two, and of four in a row
+one : (n o : ℕ) (c : Class) → mergeAll (oneClass n o c) (oneClass n (o + 0) NoClass) ≡ piecesAt n o ((0, c) ∷ [])
 unfolding oneClass
-one o c = rw (set-none ((o + 0) / 8), add-zero) refl
+one n o c = rw (set-none n ((o + 0) / 8), add-zero) refl
 
-two : (o g : ℕ) (a b : Class) → mergeAll (oneClass 2 o a) (oneClass 2 (o + g) b) ≡ piecesAt o ((0, a) ∷ (g, b) ∷ [])
+two : (n o g : ℕ) (a b : Class) → mergeAll (oneClass n o a) (oneClass n (o + g) b) ≡ piecesAt n o ((0, a) ∷ (g, b) ∷ [])
 unfolding oneClass
-two o g a b = rw (merge-nothing ((o + g) / 8) b, add-zero) refl
+two n o g a b = rw (merge-nothing n ((o + g) / 8) b, add-zero) refl
 
-pub basic-at : (model : Model) (code o : ℕ) → code < 16 → classesAt model 2 (basic code) o ≡ piecesAt o (getD pieces code [])
+none-first : (a b : Class) → mergeOf (mergeOf NoClass a) b ≡ mergeOf NoClass (mergeOf a b)
+none-first a b = rw (merge-commutes NoClass a, merge-none a, merge-commutes NoClass (mergeOf a b), merge-none (mergeOf a b)) refl
+
+nothing-first : (n : ℕ) (xs ys : List Class) → mergeAll (mergeAll (noClasses n) xs) ys ≡ mergeAll (noClasses n) (mergeAll xs ys)
+unfolding mergeAll
+nothing-first zero xs ys = refl
+nothing-first (suc n) [] ys = refl
+nothing-first (suc n) (x ∷ xs) [] = refl
+nothing-first (suc n) (x ∷ xs) (y ∷ ys) = rw (none-first x y, nothing-first n xs ys) refl
+
+in-a-row : (n j : ℕ) (a b c e : Class)
+    → mergeAll (mergeAll (set (noClasses n) j a) (set (noClasses n) (suc j) b)) (mergeAll (set (noClasses n) (suc (suc j)) c) (set (noClasses n) (suc (suc (suc j))) e))
+    ≡ mergeAll (set (noClasses n) j a) (mergeAll (set (noClasses n) (suc j) b) (mergeAll (set (noClasses n) (suc (suc j)) c) (set (noClasses n) (suc (suc (suc j))) e)))
+unfolding mergeAll
+in-a-row zero j a b c e = refl
+in-a-row (suc n) zero a b c e =
+    rw (merge-none a, merge-none NoClass, merge-none NoClass, merge-none a, nothing-first n (set (noClasses n) 0 b) (mergeAll (set (noClasses n) 1 c) (set (noClasses n) 2 e))) refl
+in-a-row (suc n) (suc j) a b c e = rw (merge-none NoClass, merge-none NoClass, merge-none NoClass, in-a-row n j a b c e) refl
+
+four : (n o : ℕ) → vectorAt n o ≡ piecesAt n o ((0, Sse) ∷ (8, SseUp) ∷ (16, SseUp) ∷ (24, SseUp) ∷ [])
+unfolding vectorAt oneClass
+four n o =
+    let p : (o + 8) / 8 ≡ suc (o / 8) = omega arith in
+    let q : (o + 16) / 8 ≡ suc (suc (o / 8)) = omega arith in
+    let r : (o + 24) / 8 ≡ suc (suc (suc (o / 8))) = omega arith in
+    rw (add-zero, p, q, r, merge-nothing n (suc (suc (suc (o / 8)))) SseUp) (in-a-row n (o / 8) Sse SseUp SseUp SseUp)
+
+pub basic-at : (model : Model) (n code o : ℕ) → code < 17 → classesAt model n (basic code) o ≡ piecesAt n o (getD pieces code [])
 unfolding classesAt basicAt firstClass secondClass gap
-basic-at model code o h =
-    each-code (λ k. classesAt model 2 (basic k) o ≡ piecesAt o (getD pieces k [])) (
-      one o Integer,
-      (
-        one o Integer,
-        (
-          one o Integer,
-          (
-            one o Integer,
-            (
-              one o Integer,
-              (
-                two o 8 Integer Integer,
-                (
-                  one o Sse,
-                  (
-                    one o Sse,
-                    (
-                      two o 8 X87 X87Up,
-                      (
-                        two o 8 Sse SseUp,
-                        (one o Sse, (two o 8 Sse SseUp, (two o 4 Sse Sse, (two o 8 Sse Sse, (one o ComplexX87, (one o Integer, tt)))))),
-                      ),
-                    ),
-                  ),
-                ),
-              ),
-            ),
-          ),
-        ),
-      ),
-    ) code h
+basic-at model n code o h =
+    each-code (λ k. classesAt model n (basic k) o ≡ piecesAt n o (getD pieces k []))
+    (one n o Integer, (one n o Integer, (one n o Integer, (one n o Integer, (one n o Integer, (two n o 8 Integer Integer, (one n o Sse, (one n o Sse, (two n o 8 X87 X87Up, (two n o 8 Sse SseUp, (one n o Sse, (two n o 8 Sse SseUp, (two n o 4 Sse Sse, (two n o 8 Sse Sse, (one n o ComplexX87, (one n o Integer, (four n o, tt)))))))))))))))))
+    code h
 
 -- ---- clean-up
 
@@ -157,6 +176,61 @@ module _ (cs : List Class) where
     ups = clean-follows cs;
   }
 
+pub whole-memory : (a : Class) (cs : List Class) → memoryOf (a ∷ cs) ≡ Memory ∷ noClasses (length cs)
+whole-memory a cs = ap (λ (rest : List Class). Memory ∷ rest) (none-for cs)
+  where
+    none-for : (rest : List Class) → noneFor rest ≡ noClasses (length rest)
+    none-for [] = refl
+    none-for (b ∷ rest) = ap (λ (x : List Class). NoClass ∷ x) (none-for rest)
+
+-- ---- over two eightbytes
+
+not-ups : (cs : List Class) (i : ℕ) → i < length cs → same (getD cs i NoClass) SseUp ≡ false → allUps cs ≡ false
+not-ups [] i l e = absurd (omega arith)
+not-ups (c ∷ cs) zero l e = rw e refl
+not-ups (c ∷ cs) (suc i) l e = rw (not-ups cs i (omega arith) e) (and-false (same c SseUp))
+
+all-up : (cs : List Class) → ((i : ℕ) → i < length cs → same (getD cs i NoClass) SseUp ≡ true) → allUps cs ≡ true
+all-up [] h = refl
+all-up (c ∷ cs) h = rw (h 0 (omega arith), all-up cs (λ i l. h (suc i) (omega arith))) refl
+
+not-first : (cs : List Class) → same (getD cs 0 NoClass) Sse ≡ false → oneVector cs ≡ false
+not-first [] e = refl
+not-first (c ∷ cs) e = rw e refl
+
+not-later : (cs : List Class) (i : ℕ) → suc i < length cs → same (getD cs (suc i) NoClass) SseUp ≡ false → oneVector cs ≡ false
+not-later [] i l e = absurd (omega arith)
+not-later (c ∷ cs) i l e = rw (not-ups cs i (omega arith) e) (and-false (same c Sse))
+
+none-sse : same NoClass Sse ≡ false
+unfolding same
+none-sse = refl
+
+is-vector : (cs : List Class) → same (getD cs 0 NoClass) Sse ≡ true → ((i : ℕ) → suc i < length cs → same (getD cs (suc i) NoClass) SseUp ≡ true) → oneVector cs ≡ true
+is-vector [] e h = absurd (true≢false (sym e ∙ none-sse))
+is-vector (c ∷ cs) e h = rw (e, all-up cs (λ i l. h i (omega arith))) refl
+
+module _ (o s : ℕ) (cs : List Class) where
+  closed-memory : 16 < s → oneVector (own o s cs) ≡ false → closed o s cs ≡ memoryOf cs
+  unfolding closed
+  closed-memory l e = rw (lt-ltb 16 s l, e) refl
+
+  closed-vector : oneVector (own o s cs) ≡ true → closed o s cs ≡ cleanUp cs
+  unfolding closed
+  closed-vector e = rw e (by (ltb 16 s))
+    where
+      by : (b : Bool) → cond (b && false) (memoryOf cs) (cleanUp cs) ≡ cleanUp cs
+      by true = refl
+      by false = refl
+
+  pub closes : Closes o s cs
+  closes = record {
+    first = λ l e. closed-memory l (not-first (own o s cs) e);
+    later = λ l i m e. closed-memory l (not-later (own o s cs) i m e);
+    vector = λ e h. closed-vector (is-vector (own o s cs) e h);
+    small = closed-small o s cs;
+  }
+
 -- ---- the equations of the classification
 
 elements : (f : ℕ → List Class) (s n o : ℕ) (sofar : List Class) → elementsAt f s n o sofar ≡ mergedIn sofar (map f (elementOffsets s n o))
@@ -164,29 +238,38 @@ unfolding elementsAt
 elements f s zero o sofar = refl
 elements f s (suc n) o sofar = elements f s n (o + s) (mergeAll sofar (f o))
 
-pub array-at : (model : Model) (t : Ty) (n o : ℕ) → classesAt model 2 (array t n) o ≡ cleanUp (mergedIn (NoClass ∷ NoClass ∷ []) (map (classesAt model 2 t) (elementOffsets (sizeTy model t) n o)))
+pub array-at : (model : Model) (n : ℕ) (t : Ty) (count o : ℕ)
+    → classesAt model n (array t count) o ≡ closed o (sizeTy model (array t count)) (mergedIn (noClasses n) (map (classesAt model n t) (elementOffsets (sizeTy model t) count o)))
 unfolding classesAt
-array-at model t n o = ap cleanUp (elements (classesAt model 2 t) (sizeTy model t) n o (NoClass ∷ NoClass ∷ []))
+array-at model n t count o = ap (closed o (sizeTy model (array t count))) (elements (classesAt model n t) (sizeTy model t) count o (noClasses n))
 
-members-merged : (model : Model) (u : Bool) (ts : Tys) (o x : ℕ) (sofar : List Class) → membersAt model 2 ts u x o sofar ≡ mergedIn sofar (memberClasses model u ts o x)
+members-merged : (model : Model) (n : ℕ) (u : Bool) (ts : Tys) (o x : ℕ) (sofar : List Class) → membersAt model n ts u x o sofar ≡ mergedIn sofar (memberClasses model n u ts o x)
 unfolding membersAt memberClasses
-members-merged model u none o x sofar = refl
-members-merged model u (more t ts) o x sofar =
-    members-merged model u ts o (endAfter u x (alignTy model t) (sizeTy model t)) (mergeAll sofar (classesAt model 2 t (o + offsetAfter u x (alignTy model t))))
+members-merged model n u none o x sofar = refl
+members-merged model n u (more t ts) o x sofar =
+    members-merged model n u ts o (endAfter u x (alignTy model t) (sizeTy model t)) (mergeAll sofar (classesAt model n t (o + offsetAfter u x (alignTy model t))))
 
-pub group-at : (model : Model) (u : Bool) (ts : Tys) (o : ℕ) → classesAt model 2 (group u ts) o ≡ cleanUp (mergedIn (NoClass ∷ NoClass ∷ []) (memberClasses model u ts o 0))
+pub group-at : (model : Model) (n : ℕ) (u : Bool) (ts : Tys) (o : ℕ)
+    → classesAt model n (group u ts) o ≡ closed o (sizeTy model (group u ts)) (mergedIn (noClasses n) (memberClasses model n u ts o 0))
 unfolding classesAt
-group-at model true ts o = ap cleanUp (members-merged model true ts o 0 (NoClass ∷ NoClass ∷ []))
-group-at model false ts o = ap cleanUp (members-merged model false ts o 0 (NoClass ∷ NoClass ∷ []))
+group-at model n true ts o = ap (closed o (sizeTy model (group true ts))) (members-merged model n true ts o 0 (noClasses n))
+group-at model n false ts o = ap (closed o (sizeTy model (group false ts))) (members-merged model n false ts o 0 (noClasses n))
 
-pub small-classes : (model : Model) (t : Ty) → sizeTy model t ≤ 16 → classesOf model t ≡ classesAt model 2 t 0
+pub over-eight : (model : Model) (t : Ty) → isAggregate t ≡ true → 64 < sizeTy model t → classesOf model t ≡ memory
 unfolding classesOf
-small-classes model t h = rw (le-ltb 16 (sizeTy model t) h) (by (isAggregate t))
-  where
-    by : (b : Bool) → cond (b && false) (Memory ∷ NoClass ∷ []) (classesAt model 2 t 0) ≡ classesAt model 2 t 0
-    by true = refl
-    by false = refl
+over-eight model t a l = rw (a, lt-ltb 64 (sizeTy model t) l) refl
+
+pub whole : (model : Model) (t : Ty) → (isAggregate t && ltb 64 (sizeTy model t)) ≡ false → classesOf model t ≡ shown (classesAt model (eightbytesOf model t) t 0)
+unfolding classesOf
+whole model t e = rw e refl
+
+pub two-or-four : (d : List ℕ) (t : ℕ) → questionRefusal d t ≡ 0 → (length (classesOf (modelIn d) (tyAt d t)) ≡ 2) ⊎ (classesOf (modelIn d) (tyAt d t) ≡ vector)
+two-or-four d t e = held (modelIn d) (tyAt d t) (type-filled d t (answered-sized d t e))
+
+pub wide-or-memory : (d : List ℕ) (t : ℕ) → questionRefusal d t ≡ 0 → isAggregate (tyAt d t) ≡ true → 16 < sizeTy (modelIn d) (tyAt d t)
+    → (classesOf (modelIn d) (tyAt d t) ≡ memory) ⊎ ((classesOf (modelIn d) (tyAt d t) ≡ vector) × (sizeTy (modelIn d) (tyAt d t) ≡ 32))
+wide-or-memory d t e a l = over-two-eightbytes (modelIn d) (tyAt d t) (type-filled d t (answered-sized d t e)) a l
 
 pub all-classed : map classed classCases ≡ classCases
-unfolding classCases raise kindAt aAt countAt memberAt same isX87 mergeOf mergeAll upAlone settled cleanUp basicSize basicAlign alignTy sizeTy offsetAfter endAfter tysFrom tyBy tyAt firstClass secondClass gap oneClass basicAt elementsAt classesAt classesOf
+unfolding classCases raise kindAt aAt countAt memberAt same isX87 mergeOf mergeAll upAlone settled cleanUp basicSize basicAlign alignTy sizeTy offsetAfter endAfter tysFrom tyBy tyAt firstClass secondClass gap oneClass vectorAt basicAt elementsAt eightbytesIn closed classesAt eightbytesOf shown classesOf
 all-classed = refl

@@ -29,9 +29,9 @@ use Rattle.layout.proofs.Verdict.{accepted-uses}
 use Rattle.layout.proofs.Records.{accepted-bounded}
 use Rattle.moving.specs.Images.{amd64}
 use Rattle.moving.specs.Orders.{placeRefusal, gatherRefusal}
-use Rattle.moving.specs.Answers.{registersAfter, stackAfter, valuesAfter}
+use Rattle.moving.specs.Answers.{registersAfter, upperAfter, stackAfter, valuesAfter}
 use Rattle.returning.specs.Orders.{putRefusal, takeRefusal}
-use Rattle.returning.specs.Answers.{imageAfter, valueAfter}
+use Rattle.returning.specs.Answers.{imageAfter, upperAfter as returnedUpper, valueAfter}
 use Rattle.station.specs.declared.Station.{Station}
 use Rattle.station.specs.Paper.{kcb, refusalUnder}
 use Rattle.station.specs.Attachment.{freed, attachRefusal, detachRefusal, changeRefusal, changeStation, changeSeat}
@@ -78,13 +78,13 @@ unfolding verdict listRefusal placeRefusal gatherRefusal
 a2-layout = record {
   layout-of = λ d. answered refl (layout-means d);
   lay-out = λ d room. answered refl (list-means d room);
-  place-values = λ d h values registers stack. answered refl (placing-means d h values registers stack);
-  gather-values = λ d r s values. answered refl (gathering-means d r s values);
+  place-values = λ d h values registers upper stack. answered refl (placing-means d h values registers upper stack);
+  gather-values = λ d r y s values. answered refl (gathering-means d r y s values);
 }
 
 a2-returned : A2-Returned
 unfolding putRefusal takeRefusal
-a2-returned = record { put-returned = λ d h v n. answered refl (putting-means d h v n); take-returned = λ d i n. answered refl (taking-means d i n) }
+a2-returned = record { put-returned = λ d h v n m. answered refl (putting-means d h v n m); take-returned = λ d i y n. answered refl (taking-means d i y n) }
 
 a2-walk : A2-Walk
 unfolding kcb attachRefusal detachRefusal openRefusal stepRefusal showRefusal refusalUnder refusalBy refusalOf refusalAt
@@ -128,16 +128,19 @@ change-refused s seat d n = by (eqb (changeRefusal kcb s seat d) 11) refl
         (t .0 ∙ parts-so (s .attached) (freed s) s, t .1 ∙ parts-so (s .attached) (replicate 586 0) seat)
 
 a3 : A3-Frame
-unfolding filled registersAfter stackAfter valuesAfter imageAfter valueAfter
+unfolding filled registersAfter upperAfter stackAfter valuesAfter imageAfter returnedUpper valueAfter
 a3 = record {
   member-offsets = list-kept;
   lay-out = λ d list h. ap (λ n. filled (placementAt d) n list) (count-none d (length list) (λ e. h (decided-number _ _ (list-means d (length list)) ∙ e)));
-  place-values = λ d h values r s n.
-      let e = ne-eqb (placeRefusal amd64 d h values (length r) (length s)) 0 (λ e. n (decided-number _ _ (placing-means d h values (length r) (length s)) ∙ e)) in
+  place-values = λ d h values r y s n.
+      let e = ne-eqb (placeRefusal amd64 d h values (length r) (length y) (length s)) 0 (λ e. n (decided-number _ _ (placing-means d h values (length r) (length y) (length s)) ∙ e)) in
+      (rw e refl, rw e refl, rw e refl);
+  gather-values = λ d r y s v n.
+      rw (ne-eqb (gatherRefusal amd64 d (length v) (length r) (length y) (length s)) 0 (λ e. n (decided-number _ _ (gathering-means d r y s (length v)) ∙ e))) refl;
+  put-returned = λ d h v i y n.
+      let e = ne-eqb (putRefusal d h v (length i) (length y)) 0 (λ e. n (decided-number _ _ (putting-means d h v (length i) (length y)) ∙ e)) in
       (rw e refl, rw e refl);
-  gather-values = λ d r s v n. rw (ne-eqb (gatherRefusal amd64 d (length v) (length r) (length s)) 0 (λ e. n (decided-number _ _ (gathering-means d r s (length v)) ∙ e))) refl;
-  put-returned = λ d h v i n. rw (ne-eqb (putRefusal d h v (length i)) 0 (λ e. n (decided-number _ _ (putting-means d h v (length i)) ∙ e))) refl;
-  take-returned = λ d i v n. rw (ne-eqb (takeRefusal d i (length v)) 0 (λ e. n (decided-number _ _ (taking-means d i (length v)) ∙ e))) refl;
+  take-returned = λ d i y v n. rw (ne-eqb (takeRefusal d i y (length v)) 0 (λ e. n (decided-number _ _ (taking-means d i y (length v)) ∙ e))) refl;
   attach = λ s seat d h. (sym (attach-left kcb s seat d h .0), sym (attach-left kcb s seat d h .1));
   detach = λ s seat h. (sym (detach-left s seat h .0), sym (detach-left s seat h .1));
   change = change-refused;
@@ -148,7 +151,7 @@ a3 = record {
 
 aligned : (d : List ℕ) → verdict d ≡ 0 → (t : ℕ) → t < typesIn d → Alignment (alignTy (modelIn d) (tyAt d t))
 unfolding shapeOf
-aligned d v t l = accepted-shaped d (accepted-types d (accepted-uses d v)) t l .aligned
+aligned d v t l = accepted-shaped d (accepted-types d (accepted-uses d v)) t l true .aligned
 
 a6 : A6-Bounds
 a6 = record { bounded = accepted-bounded; aligned = aligned }

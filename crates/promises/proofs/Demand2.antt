@@ -4,23 +4,21 @@ use mathlib.Core.Bool.{Bool, true, false}
 use mathlib.Core.List.{List, [], _∷_, map}
 use Prim.Native.Nat.{ℕ, _/_, _%_, _<_, _≤_}
 use native.Mathlib.Omega.{arith}
-use borrow.Author.Tests.{lt-ltb, eq-eqb, ne-eqb}
+use borrow.Author.Tests.{eq-eqb, ne-eqb}
 use lib.ListN.{length, getD}
 use Rattle.description.specs.declared.Model.{Model}
 use Rattle.description.specs.declared.Model.the-variants.{Lp64, Ilp32}
 use Rattle.description.specs.Description.{byteAt, argumentsIn, modelIn}
 use Rattle.addresses.specs.Addresses.{run}
-use Rattle.types.specs.Tree.{Ty, Tys, group}
+use Rattle.types.specs.Tree.{Tys, group}
 use Rattle.types.specs.Basic.{basicSize, basicAlign}
 use Rattle.types.specs.Size.{alignTy, alignTys, sizeTy, offsetAfter, endOf}
 use Rattle.types.proofs.Sizes.{aligns-low}
 use Rattle.types.proofs.Laws.{struct-end, union-end, align-divides}
 use Rattle.types.proofs.Trees.{at-basic, at-array, at-group}
 use Rattle.types.proofs.Table.{filled-below, filled-past, length-filled}
-use Rattle.classes.specs.declared.Class.{Class}
-use Rattle.classes.specs.declared.Class.the-variants.{NoClass, Memory}
-use Rattle.classify.specs.Classify.{isAggregate, classesOf}
 use Rattle.classify.proofs.Coverage.{second-none}
+use Rattle.classify.proofs.Wide.{small-classes}
 use Rattle.questions.specs.Offsets.{offsetAt, offsetsCount, offsetsAfter}
 use Rattle.questions.proofs.Questions.{answered-sized}
 use Rattle.questions.proofs.Runs.{answered-shaped}
@@ -49,7 +47,8 @@ use Rattle.walk.proofs.Agreement.{none-used}
 use Rattle.promises.specs.Demand2.{extents, listAfter, B1-Sizes, B1-Offsets, B2-Classes, B3-Registers, B4-Stack, B5-Counts, B6-Returns, B7-Records, B8-B12-Moving, B13-Steps, B14-Cases, Demand2}
 use Rattle.promises.proofs.MemberOffsets.{as-many, members-lie, offset-below, offset-past, other-stays}
 use Rattle.promises.proofs.Merging.{merges}
-use Rattle.promises.proofs.Classes.{class-table, basic-at, cleans-up, array-at, group-at, small-classes, all-classed}
+use Rattle.promises.proofs.Classes.{class-table, basic-at, cleans-up, whole-memory, closes, array-at, group-at, over-eight, whole, two-or-four, wide-or-memory, all-classed}
+use Rattle.promises.proofs.Wide.{wide-named, wide-unnamed, area-strict, area-plain}
 use Rattle.promises.proofs.Placements.{general-count, vector-count, generals-in-row, vectors-in-row, in-registers, lacks-exactly, takes-none, lowest, room, fetches, moves, hidden-is, hidden-memory}
 use Rattle.places.specs.Places.{eights}
 
@@ -60,7 +59,7 @@ unfolding sizeTy
 size-rounded m true ts = rounded-up (alignTys m ts) (endOf m ts true 0) (aligns-low m ts)
 size-rounded m false ts = rounded-up (alignTys m ts) (endOf m ts false 0) (aligns-low m ts)
 
-extents-are : (m : Model) → map (λ code. (basicSize m code, basicAlign m code)) (run 0 16) ≡ extents m
+extents-are : (m : Model) → map (λ code. (basicSize m code, basicAlign m code)) (run 0 17) ≡ extents m
 unfolding basicSize basicAlign
 extents-are Lp64 = refl
 extents-are Ilp32 = refl
@@ -96,21 +95,21 @@ b1-offsets = record {
 
 -- ---- B2
 
-large-memory : (m : Model) (t : Ty) → isAggregate t ≡ true → 16 < sizeTy m t → classesOf m t ≡ Memory ∷ NoClass ∷ []
-unfolding classesOf
-large-memory m t a l = rw (a, lt-ltb 16 (sizeTy m t) l) refl
-
 b2 : B2-Classes
 b2 = record {
   table = class-table;
   basic-at = basic-at;
   merges = merges;
   cleans-up = cleans-up;
-  whole-memory = λ a b. refl;
+  whole-memory = whole-memory;
+  closes = closes;
   array-at = array-at;
   group-at = group-at;
-  large = large-memory;
+  over-eight = over-eight;
+  whole = whole;
   small = small-classes;
+  two-or-four = two-or-four;
+  wide-or-memory = wide-or-memory;
   shaped = λ d t a. answered-shaped d t a;
   second = λ d t a. second-none _ _ (answered-shaped d t a);
   class-cases = all-classed;
@@ -125,10 +124,12 @@ b3 = record {
   each = λ d i v l. in-registers d v i l;
   lacks = λ d i v l. lacks-exactly d v i l;
   takes-none = λ d i o v l. takes-none d v i l o;
+  wide = λ d i v l. wide-named d v i l;
+  unnamed = λ d i v l. wide-unnamed d v i l;
 }
 
-area-up : (d : List ℕ) → RoundedUp 16 (usedAt d (argumentsIn d) .stack .0) (areaOf d)
-unfolding usedAt areaOf
+area-up : (d : List ℕ) → RoundedUp (layoutOf d .align .0) (usedAt d (argumentsIn d) .stack .0) (areaOf d)
+unfolding layoutOf usedAt areaOf
 area-up d = area-rounded eights (usedFirst d) (shapes d)
 
 b4 : B4-Stack
@@ -136,6 +137,8 @@ b4 = record {
   lowest = λ d i o v l. lowest d v i l o;
   room = λ d i o v l. room d v i l o;
   area = area-up;
+  area-32 = area-strict;
+  area-16 = area-plain;
   first = λ d. ap (λ u. u .stack .0) (used-none d);
 }
 
@@ -198,7 +201,7 @@ b13 : B13-Steps
 b13 = record {
   walk = λ s seat w a. step-done kcb s seat w a;
   starts = none-used;
-  fetches = λ d i v l. fetches d v i l;
+  fetches = λ d i v n l. fetches d v i l n;
   moves = λ d i v l. moves d v i l;
 }
 

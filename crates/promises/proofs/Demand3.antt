@@ -18,12 +18,13 @@ use Rattle.histories.proofs.Kcb.{condition-c}
 use Rattle.promises.specs.Demand3.{C1-C2-Places, C3-Alignment, C5-Starts, C6-Reached, C7-Stale, placedImages, HandsBackPlaced, NeverAnotherPlaced, C8-HandsBack, C9-Shows, C10-Number, C12-Changes, Demand3}
 use Rattle.promises.proofs.Placements.{lowest}
 use Rattle.promises.proofs.PlacedFor.{placed-for, placed-cares}
-use Rattle.promises.proofs.ValueBytes.{each, inside, once, past, recorded, stack-there}
+use Rattle.promises.proofs.ValueBytes.{each, inside, once, past, recorded, registers-there, stack-there}
 
 c1-c2 : C1-C2-Places
 c1-c2 = record {
   each = each;
   recorded = λ d i j v l. recorded d v i l j;
+  in-registers = λ d i j rs v l. registers-there d v i l j rs;
   inside = λ d k v. inside d v k;
   once = λ d k l v. once d v k l;
   past = λ d k v h. past d v h k;
@@ -57,16 +58,16 @@ c7 = record {
 }
 
 hands-back : HandsBackPlaced
-hands-back k v d b h values r s i between cs p connects variadic spares serves stays questions =
-    let e : placedImages d h values r s ≡ imagesFor kcb d (littleEndian 8 h) values = placed-for d h values r s p in
-    let w = condition-c .hands-back k v d b (littleEndian 8 h) values i between cs connects variadic (placed-cares d h values r s p i cs spares)
+hands-back k v d b h values r y s i between cs p connects variadic spares serves stays questions =
+    let e : placedImages d h values r y s ≡ imagesFor kcb d (littleEndian 8 h) values = placed-for d h values r y s p in
+    let w = condition-c .hands-back k v d b (littleEndian 8 h) values i between cs connects variadic (placed-cares d h values r y s p i cs spares)
     (subst (λ (images : List ℕ). All (Serves kcb i images) cs) e serves) stays questions in
     (w .0, subst (Ended kcb i (calls kcb (opened kcb k v d b between i) cs)) (sym e) (w .1))
 
 never-another : NeverAnotherPlaced
-never-another k v d b h values r s i between cs p connects variadic spares serves =
-    condition-c .never-another k v d b (littleEndian 8 h) values i between cs connects variadic (placed-cares d h values r s p i cs spares)
-    (subst (λ (images : List ℕ). Until kcb (Served kcb i images) (opened kcb k v d b between i) cs) (placed-for d h values r s p) serves)
+never-another k v d b h values r y s i between cs p connects variadic spares serves =
+    condition-c .never-another k v d b (littleEndian 8 h) values i between cs connects variadic (placed-cares d h values r y s p i cs spares)
+    (subst (λ (images : List ℕ). Until kcb (Served kcb i images) (opened kcb k v d b between i) cs) (placed-for d h values r y s p) serves)
 
 c8 : C8-HandsBack
 c8 = record {

@@ -21,6 +21,7 @@ use Rattle.types.specs.Decode.{tyAt}
 use Rattle.types.specs.Wrong.{refusalFor}
 use Rattle.types.specs.declared.Extent.{Extent}
 use Rattle.types.proofs.Table.{filled-past}
+use Rattle.classes.specs.declared.Class.{Class}
 use Rattle.classes.specs.declared.Class.the-variants.{NoClass}
 use Rattle.classify.specs.Classify.{classesOf}
 use Rattle.questions.specs.Questions.{questionRefusal, extentAnswer}
@@ -40,11 +41,11 @@ use Rattle.moving.specs.Images.{addressesOf, amd64}
 use Rattle.moving.specs.Frames.{gatheredIn}
 use Rattle.moving.proofs.Amd64.{passed-hidden}
 use Rattle.moving.specs.Orders.{placeRefusal, gatherRefusal}
-use Rattle.moving.specs.Answers.{placeAnswer, gatherAnswer, registersAfter, stackAfter, valuesAfter}
+use Rattle.moving.specs.Answers.{placeAnswer, gatherAnswer, registersAfter, upperAfter, stackAfter, imagesAfter, valuesAfter}
 use Rattle.returning.specs.declared.TakeAnswer.the-variants.{Taken as TakenOut}
 use Rattle.returning.specs.Image.{returnValue, inMemory, trimmed}
 use Rattle.returning.specs.Orders.{putRefusal, takeRefusal}
-use Rattle.returning.specs.Answers.{putAnswer, takeAnswer, imageAfter, valueAfter, putNumber, takeNumber}
+use Rattle.returning.specs.Answers.{putAnswer, takeAnswer, imageAfter, upperAfter as returnedUpper, imagesAfter as returnedImages, valueAfter, putNumber, takeNumber}
 use Rattle.station.specs.declared.Station.{Station as Attached}
 use Rattle.station.specs.Paper.{kcb, refusalUnder}
 use Rattle.station.specs.Outcome.{leaves}
@@ -68,7 +69,7 @@ use Rattle.flat.specs.declared.Placed.{Placed}
 use Rattle.flat.specs.declared.Gathered.{Gathered}
 use Rattle.flat.specs.declared.Station.{Station}
 use Rattle.flat.specs.declared.Walk.{Walk}
-use Rattle.flat.specs.Meanings.{layoutMeant}
+use Rattle.flat.specs.Meanings.{layoutMeant, summaryOf}
 use Rattle.flat.specs.Records.{layoutOf as flatLayout}
 use Rattle.flat.specs.Parts.{nowhere, ofDescription}
 use Rattle.flat.specs.Stations.{stationMeant, flatStation, walkMeant, flatWalk}
@@ -114,13 +115,13 @@ use Rattle.callbridge.proofs.cb_change
 use Rattle.callbridge.proofs.cb_open_walk
 use Rattle.callbridge.proofs.cb_step
 use Rattle.callbridge.proofs.cb_show
-use Rattle.promises.specs.Meaning.{Meaning, accepted, outcome, numberOf, ofRefusal, ofPlacing, ofGathering, ofPutting, ofTaking, none, run, shownPart, Answered}
+use Rattle.promises.specs.Meaning.{Meaning, accepted, outcome, numberOf, ofRefusal, classList, ofPlacing, ofGathering, ofPutting, ofTaking, none, run, shownPart, Answered}
 use Rattle.promises.specs.Orders.{questionOrder, checkOrder, layoutOrder, openOrder, showOrder, attachOrder, detachOrder, changeOrder, stepOrder, putOrder}
 use Rattle.promises.specs.WrongType.{Names}
-use Rattle.promises.specs.Demand1.{members, classPair}
+use Rattle.promises.specs.Demand1.{members}
 use Rattle.promises.specs.Exports.{Fills, GivesPart, extentRead, classesRead, membersRead, layoutRead, shownRead, bytesIn, Checks, OffsetsFlat, LaysOutFlat, Lists, PlacesFlat, GathersFlat, PutsFlat, TakesFlat, AttachesFlat, DetachesFlat, OpensFlat, StepsFlat, ShowsFlat, Exports, Back, GathersBack, NeverTheSame, TakenBack, TakesBack, HostDesk, deskMeant, AttachDone, DetachDone, withRecord, OpenDone, StepDone, ShowDone, WriteDone, Done, Played, nothing, then, PlaysHistory, ChangesFlat, ChangeDone}
 use Rattle.promises.proofs.Answering.{answered, decided-number}
-use Rattle.promises.proofs.Numbers.{extent-means, classes-means, run-means, layout-means as whole-means, list-means, placing-means, gathering-means, putting-means, taking-means, opening-means, shown-means}
+use Rattle.promises.proofs.Numbers.{extent-means, classes-listed, classes-means, run-means, layout-means as whole-means, list-means, placing-means, gathering-means, putting-means, taking-means, opening-means, shown-means}
 use Rattle.promises.proofs.WrongType.{wrong-type}
 use Rattle.promises.proofs.Demand1.{demand-1}
 use Rattle.promises.proofs.Demand2.{demand-2}
@@ -168,10 +169,12 @@ extent-fills d t old =
     fills extentRead d _ _ old _ (questionRefusal d t) _ _ (extent-told d t) (λ z. refl) (demand-1 .questions .type-extent d t) (extent-means d t) (wrong-type .question d t)
 
 classes-fill : (d : List ℕ) (t : ℕ) (old : Classes)
-    → Fills classesRead d (questionOrder d t) (classPair d t) old (refusalIn (classesGiven (classesAnswer d t))) (leftIn (classesGiven (classesAnswer d t)) old)
+    → Fills classesRead d (questionOrder d t) (classesOf (modelIn d) (tyAt d t)) old (refusalIn (classesGiven (classesAnswer d t))) (leftIn (classesGiven (classesAnswer d t)) old)
 classes-fill d t old =
+    let cs : List Class = classesOf (modelIn d) (tyAt d t) in
     fills classesRead d _ _ old _ (questionRefusal d t) _ _ (classes-told d t)
-    (λ z j. (class-meant (getD (classesOf (modelIn d) (tyAt d t)) 0 NoClass) j, class-meant (getD (classesOf (modelIn d) (tyAt d t)) 1 NoClass) j)) (demand-1 .questions .type-classes d t) (classes-means d t) (wrong-type .question d t)
+    (λ z. (λ j. classList (class-meant (getD cs 0 NoClass) j) (class-meant (getD cs 1 NoClass) j) (class-meant (getD cs 2 NoClass) j) (class-meant (getD cs 3 NoClass) j)) ∙ classes-listed d t z)
+    (demand-1 .questions .type-classes d t) (classes-means d t) (wrong-type .question d t)
 
 run-read : (d : List ℕ) (t : ℕ) → membersRead (runOf d t) ≡ members d t
 unfolding runOf
@@ -201,20 +204,22 @@ offsets-flat d t list =
     }
 
 -- the layout, and how many arguments there are
-layout-answered : (d : List ℕ) → Answered {X = Whole × ℕ} (outcome {X = Whole × ℕ} (verdict d) (layoutOf d, argumentsIn d)) (checkOrder d) (layoutOf d, argumentsIn d)
+layout-answered : (d : List ℕ)
+    → Answered {X = Whole × ℕ} (outcome {X = Whole × ℕ} (verdict d) (summaryOf (layoutOf d), argumentsIn d)) (checkOrder d) (summaryOf (layoutOf d), argumentsIn d)
 unfolding verdict
 layout-answered d = answered refl refl
 
-list-answered : (d : List ℕ) (room : ℕ) → Answered {X = Whole × ℕ} (outcome {X = Whole × ℕ} (listRefusal d room) (layoutOf d, argumentsIn d)) (layoutOrder d room) (layoutOf d, argumentsIn d)
+list-answered : (d : List ℕ) (room : ℕ)
+    → Answered {X = Whole × ℕ} (outcome {X = Whole × ℕ} (listRefusal d room) (summaryOf (layoutOf d), argumentsIn d)) (layoutOrder d room) (summaryOf (layoutOf d), argumentsIn d)
 unfolding listRefusal
 list-answered d room = answered refl refl
 
-layout-read : (d : List ℕ) → verdict d ≡ 0 → layoutRead (flatLayout (layoutOf d) (argumentsIn d)) ≡ (layoutOf d, argumentsIn d)
+layout-read : (d : List ℕ) → verdict d ≡ 0 → layoutRead (flatLayout (layoutOf d) (argumentsIn d)) ≡ (summaryOf (layoutOf d), argumentsIn d)
 unfolding flatLayout
 layout-read d v j = (layout-means d v (argumentsIn d) j, argumentsIn d)
 
 layout-fills : (d : List ℕ) (old : Layout)
-    → Fills layoutRead d (checkOrder d) (layoutOf d, argumentsIn d) old (refusalIn (layoutGiven (argumentsIn d) (layoutAnswer d))) (leftIn (layoutGiven (argumentsIn d) (layoutAnswer d)) old)
+    → Fills layoutRead d (checkOrder d) (summaryOf (layoutOf d), argumentsIn d) old (refusalIn (layoutGiven (argumentsIn d) (layoutAnswer d))) (leftIn (layoutGiven (argumentsIn d) (layoutAnswer d)) old)
 layout-fills d old = fills layoutRead d _ _ old _ (verdict d) _ _ (layout-told d) (layout-read d) (layout-answered d) refl (wrong-type .check d)
 
 count-none : (d : List ℕ) (room : ℕ) → listRefusal d room ≢ 0 → listCount d room ≡ 0
@@ -242,31 +247,32 @@ lays-out-flat d old list =
 
 -- ---- moving
 
-places-flat : (d : List ℕ) (h : ℕ) (values q s : List ℕ) (old : Placed)
-    → PlacesFlat d h values q s old (refusalIn (placedGiven (placeAnswer amd64 d h values (length q) (length s)))) (leftIn (placedGiven (placeAnswer amd64 d h values (length q) (length s))) old)
-    (registersAfter amd64 d h values q s) (stackAfter amd64 d h values q s)
-places-flat d h values q s old =
-    let t = placed-told d h values (length q) (length s) in
-    let m = placing-means d h values (length q) (length s) in
+places-flat : (d : List ℕ) (h : ℕ) (values q y s : List ℕ) (old : Placed)
+    → PlacesFlat d h values q y s old (refusalIn (placedGiven (placeAnswer amd64 d h values (length q) (length y) (length s))))
+    (leftIn (placedGiven (placeAnswer amd64 d h values (length q) (length y) (length s))) old)
+    (registersAfter amd64 d h values q y s) (upperAfter amd64 d h values q y s) (stackAfter amd64 d h values q y s)
+places-flat d h values q y s old =
+    let t = placed-told d h values (length q) (length y) (length s) in
+    let m = placing-means d h values (length q) (length y) (length s) in
     record {
-      count = fills (λ (p : Placed). p .vector .0) d _ _ old _ (placeRefusal amd64 d h values (length q) (length s)) _ _ t (λ z. refl) (demand-1 .layout .place-values d h values (length q) (length s)) m (wrong-type .place-values d h values (length q) (length s));
-      refused = λ n. demand-1 .frame .place-values d h values q s (λ z. n (told-number t ∙ sym (decided-number _ _ m) ∙ z));
-      placed = λ z. demand-2 .moving .places-all d h values q s (sym (told-number t) ∙ z) (registersAfter amd64 d h values q s ++ stackAfter amd64 d h values q s) .0 refl;
+      count = fills (λ (p : Placed). p .vector .0) d _ _ old _ (placeRefusal amd64 d h values (length q) (length y) (length s)) _ _ t (λ z. refl) (demand-1 .layout .place-values d h values (length q) (length y) (length s)) m (wrong-type .place-values d h values (length q) (length y) (length s));
+      refused = λ n. demand-1 .frame .place-values d h values q y s (λ z. n (told-number t ∙ sym (decided-number _ _ m) ∙ z));
+      placed = λ z. demand-2 .moving .places-all d h values q y s (sym (told-number t) ∙ z) (imagesAfter amd64 d h values q y s) .0 refl;
     }
 
-gathers-all : (d r s v : List ℕ) → gatherRefusal amd64 d (length v) (length r) (length s) ≡ 0 → valuesAfter amd64 d r s v ≡ gather (r ++ s) (addressesOf d)
+gathers-all : (d r y s v : List ℕ) → gatherRefusal amd64 d (length v) (length r) (length y) (length s) ≡ 0 → valuesAfter amd64 d r y s v ≡ gather (r ++ (y ++ s)) (addressesOf d)
 unfolding valuesAfter gatheredIn
-gathers-all d r s v e = rw (eq-eqb (gatherRefusal amd64 d (length v) (length r) (length s)) 0 e) refl
+gathers-all d r y s v e = rw (eq-eqb (gatherRefusal amd64 d (length v) (length r) (length y) (length s)) 0 e) refl
 
-gathers-flat : (d q s v : List ℕ) (old : Gathered)
-    → GathersFlat d q s v old (refusalIn (gatheredGiven (gatherAnswer amd64 d q s (length v)))) (leftIn (gatheredGiven (gatherAnswer amd64 d q s (length v))) old) (valuesAfter amd64 d q s v)
-gathers-flat d q s v old =
-    let t = gathered-told d q s (length v) in
-    let m = gathering-means d q s (length v) in
+gathers-flat : (d q y s v : List ℕ) (old : Gathered)
+    → GathersFlat d q y s v old (refusalIn (gatheredGiven (gatherAnswer amd64 d q y s (length v)))) (leftIn (gatheredGiven (gatherAnswer amd64 d q y s (length v))) old) (valuesAfter amd64 d q y s v)
+gathers-flat d q y s v old =
+    let t = gathered-told d q y s (length v) in
+    let m = gathering-means d q y s (length v) in
     record {
-      address = fills (λ (g : Gathered). g .hidden) d _ _ old _ (gatherRefusal amd64 d (length v) (length q) (length s)) _ _ t (λ z. refl) (demand-1 .layout .gather-values d q s (length v)) m (wrong-type .gather-values d (length v) (length q) (length s));
-      refused = λ n. demand-1 .frame .gather-values d q s v (λ z. n (told-number t ∙ sym (decided-number _ _ m) ∙ z));
-      gathered = λ z. gathers-all d q s v (sym (told-number t) ∙ z);
+      address = fills (λ (g : Gathered). g .hidden) d _ _ old _ (gatherRefusal amd64 d (length v) (length q) (length y) (length s)) _ _ t (λ z. refl) (demand-1 .layout .gather-values d q y s (length v)) m (wrong-type .gather-values d (length v) (length q) (length y) (length s));
+      refused = λ n. demand-1 .frame .gather-values d q y s v (λ z. n (told-number t ∙ sym (decided-number _ _ m) ∙ z));
+      gathered = λ z. gathers-all d q y s v (sym (told-number t) ∙ z);
     }
 
 -- ---- returned values
@@ -278,30 +284,31 @@ refusal-told d n r e = ap (λ (x : Refusal). x .number) e ∙ number-for d n
 pub answered-by : (d : List ℕ) (n : ℕ) (r : Refusal) (rules : List Rule) → r ≡ refusalFor d n → Answered {X = Unit {0}} (outcome n tt) rules tt → Answered (ofRefusal r) rules tt
 answered-by d n r rules e a = subst (λ (k : ℕ). Answered {X = Unit {0}} (outcome k tt) rules tt) (sym (refusal-told d n r e)) a
 
-puts-flat : (d : List ℕ) (h : ℕ) (v i : List ℕ) → PutsFlat d h v i (putGiven (putAnswer d h v (length i))) (imageAfter d h v i)
-puts-flat d h v i =
-    let n = putRefusal d h v (length i) in
-    let t = put-told d h v (length i) in
+puts-flat : (d : List ℕ) (h : ℕ) (v i y : List ℕ) → PutsFlat d h v i y (putGiven (putAnswer d h v (length i) (length y))) (imageAfter d h v i y) (returnedUpper d h v i y)
+puts-flat d h v i y =
+    let n = putRefusal d h v (length i) (length y) in
+    let t = put-told d h v (length i) (length y) in
+    let m = putting-means d h v (length i) (length y) in
     record {
-      answered = answered-by d n _ (putOrder d h v (length i)) t (subst (λ x. Answered x (putOrder d h v (length i)) tt) (putting-means d h v (length i)) (demand-1 .returned .put-returned d h v (length i)));
-      names = subst (Names d) (sym t) (wrong-type .put-returned d h v (length i));
-      refused = λ p. demand-1 .frame .put-returned d h v i (λ z. p (refusal-told d n _ t ∙ sym (decided-number _ _ (putting-means d h v (length i))) ∙ z));
-      put = λ z. bringing-back .puts-all d h v i (sym (refusal-told d n _ t) ∙ z) (imageAfter d h v i) .0 refl;
+      answered = answered-by d n _ (putOrder d h v (length i) (length y)) t (subst (λ x. Answered x (putOrder d h v (length i) (length y)) tt) m (demand-1 .returned .put-returned d h v (length i) (length y)));
+      names = subst (Names d) (sym t) (wrong-type .put-returned d h v (length i) (length y));
+      refused = λ p. demand-1 .frame .put-returned d h v i y (λ z. p (refusal-told d n _ t ∙ sym (decided-number _ _ m) ∙ z));
+      put = λ z. bringing-back .puts-all d h v i y (sym (refusal-told d n _ t) ∙ z) (returnedImages d h v i y) .0 refl;
     }
 
-takes-all : (d i v : List ℕ) → takeRefusal d i (length v) ≡ 0 → valueAfter d i v ≡ returnValue (returnPlace d) (length v) i
+takes-all : (d i y v : List ℕ) → takeRefusal d i y (length v) ≡ 0 → valueAfter d i y v ≡ returnValue (returnPlace d) (length v) (i ++ y)
 unfolding valueAfter
-takes-all d i v e = rw (eq-eqb (takeRefusal d i (length v)) 0 e) refl
+takes-all d i y v e = rw (eq-eqb (takeRefusal d i y (length v)) 0 e) refl
 
-takes-flat : (d i v : List ℕ) (old : Gathered)
-    → TakesFlat d i v old (refusalIn (takenGiven (takeAnswer d i (length v)))) (leftIn (takenGiven (takeAnswer d i (length v))) old) (valueAfter d i v)
-takes-flat d i v old =
-    let t = taken-told d i (length v) in
-    let m = taking-means d i (length v) in
+takes-flat : (d i y v : List ℕ) (old : Gathered)
+    → TakesFlat d i y v old (refusalIn (takenGiven (takeAnswer d i y (length v)))) (leftIn (takenGiven (takeAnswer d i y (length v))) old) (valueAfter d i y v)
+takes-flat d i y v old =
+    let t = taken-told d i y (length v) in
+    let m = taking-means d i y (length v) in
     record {
-      address = fills (λ (g : Gathered). g .hidden) d _ _ old _ (takeRefusal d i (length v)) _ _ t (λ z. refl) (demand-1 .returned .take-returned d i (length v)) m (wrong-type .take-returned d i (length v));
-      refused = λ n. demand-1 .frame .take-returned d i v (λ z. n (told-number t ∙ sym (decided-number _ _ m) ∙ z));
-      taken = λ z. takes-all d i v (sym (told-number t) ∙ z);
+      address = fills (λ (g : Gathered). g .hidden) d _ _ old _ (takeRefusal d i y (length v)) _ _ t (λ z. refl) (demand-1 .returned .take-returned d i y (length v)) m (wrong-type .take-returned d i y (length v));
+      refused = λ n. demand-1 .frame .take-returned d i y v (λ z. n (told-number t ∙ sym (decided-number _ _ m) ∙ z));
+      taken = λ z. takes-all d i y v (sym (told-number t) ∙ z);
     }
 
 -- ---- station
@@ -447,7 +454,7 @@ shows-flat s seat w a =
 
 -- ---- of the contracts
 
--- two, three and four equations at once
+-- two to five equations at once
 pub along : {A B : Type 0} (P : A → B → Type 0) {a c : A} {b d : B} → a ≡ c → b ≡ d → P c d → P a b
 along P {b = b} e f p = subst (λ x. P x b) (sym e) (subst (P _) (sym f) p)
 
@@ -456,6 +463,9 @@ along-three P {b = b} {x = x} e f g p = subst (λ z. P z b x) (sym e) (along (P 
 
 along-four : {A B C D : Type 0} (P : A → B → C → D → Type 0) {a c : A} {b d : B} {x y : C} {u v : D} → a ≡ c → b ≡ d → x ≡ y → u ≡ v → P c d y v → P a b x u
 along-four P {b = b} {x = x} {u = u} e f g h p = subst (λ z. P z b x u) (sym e) (along-three (P _) f g h p)
+
+along-five : {A B C D E : Type 0} (P : A → B → C → D → E → Type 0) {a c : A} {b d : B} {x y : C} {u v : D} {s t : E} → a ≡ c → b ≡ d → x ≡ y → u ≡ v → s ≡ t → P c d y v t → P a b x u s
+along-five P {b = b} {x = x} {u = u} {s = s} e f g h k p = subst (λ z. P z b x u s) (sym e) (along-four (P _) f g h k p)
 
 checks-flat : (d : List ℕ) → Checks d (refusalFor d (verdict d))
 checks-flat d = record { answered = demand-1 .verdict d; names = wrong-type .check d }
@@ -493,21 +503,21 @@ exports = record {
     text = told bytes (a .ensured) (λ f. f .2);
   };
   place-values = λ c r w a.
-      along-four (PlacesFlat (now (c .passed .0)) (c .passed .1 .0) (now (c .passed .1 .1 .0)) (now (c .passed .1 .1 .1 .0)) (now (c .passed .1 .1 .1 .1 .0)) (now (c .passed .1 .1 .1 .1 .1 .0)))
-      (told (result cb_place_values.ended c) (a .ensured) (λ f. f .0)) (told (placed.the-row .coded) (a .ensured) (λ f. f .1 .0)) (told bytes (a .ensured) (λ f. f .1 .1 .0)) (told bytes (a .ensured) (λ f. f .1 .1 .1))
-      (places-flat (now (c .passed .0)) (c .passed .1 .0) (now (c .passed .1 .1 .0)) (now (c .passed .1 .1 .1 .0)) (now (c .passed .1 .1 .1 .1 .0)) (now (c .passed .1 .1 .1 .1 .1 .0)));
+      along-five (PlacesFlat (now (c .passed .0)) (c .passed .1 .0) (now (c .passed .1 .1 .0)) (now (c .passed .1 .1 .1 .0)) (now (c .passed .1 .1 .1 .1 .0)) (now (c .passed .1 .1 .1 .1 .1 .0)) (now (c .passed .1 .1 .1 .1 .1 .1 .0)))
+      (told (result cb_place_values.ended c) (a .ensured) (λ f. f .0)) (told (placed.the-row .coded) (a .ensured) (λ f. f .1 .0)) (told bytes (a .ensured) (λ f. f .1 .1 .0)) (told bytes (a .ensured) (λ f. f .1 .1 .1 .0)) (told bytes (a .ensured) (λ f. f .1 .1 .1 .1))
+      (places-flat (now (c .passed .0)) (c .passed .1 .0) (now (c .passed .1 .1 .0)) (now (c .passed .1 .1 .1 .0)) (now (c .passed .1 .1 .1 .1 .0)) (now (c .passed .1 .1 .1 .1 .1 .0)) (now (c .passed .1 .1 .1 .1 .1 .1 .0)));
   gather-values = λ c r w a.
-      along-three (GathersFlat (now (c .passed .0)) (now (c .passed .1 .0)) (now (c .passed .1 .1 .0)) (now (c .passed .1 .1 .1 .0)) (now (c .passed .1 .1 .1 .1 .0)))
+      along-three (GathersFlat (now (c .passed .0)) (now (c .passed .1 .0)) (now (c .passed .1 .1 .0)) (now (c .passed .1 .1 .1 .0)) (now (c .passed .1 .1 .1 .1 .0)) (now (c .passed .1 .1 .1 .1 .1 .0)))
       (told (result cb_gather_values.ended c) (a .ensured) (λ f. f .0)) (told (gathered-record.the-row .coded) (a .ensured) (λ f. f .1 .0)) (told bytes (a .ensured) (λ f. f .1 .1))
-      (gathers-flat (now (c .passed .0)) (now (c .passed .1 .0)) (now (c .passed .1 .1 .0)) (now (c .passed .1 .1 .1 .0)) (now (c .passed .1 .1 .1 .1 .0)));
+      (gathers-flat (now (c .passed .0)) (now (c .passed .1 .0)) (now (c .passed .1 .1 .0)) (now (c .passed .1 .1 .1 .0)) (now (c .passed .1 .1 .1 .1 .0)) (now (c .passed .1 .1 .1 .1 .1 .0)));
   put-returned = λ c r w a.
-      along (PutsFlat (now (c .passed .0)) (c .passed .1 .0) (now (c .passed .1 .1 .0)) (now (c .passed .1 .1 .1 .0)))
-      (told (result cb_put_returned.ended c) (a .ensured) (λ f. f .0)) (told bytes (a .ensured) (λ f. f .1))
-      (puts-flat (now (c .passed .0)) (c .passed .1 .0) (now (c .passed .1 .1 .0)) (now (c .passed .1 .1 .1 .0)));
+      along-three (PutsFlat (now (c .passed .0)) (c .passed .1 .0) (now (c .passed .1 .1 .0)) (now (c .passed .1 .1 .1 .0)) (now (c .passed .1 .1 .1 .1 .0)))
+      (told (result cb_put_returned.ended c) (a .ensured) (λ f. f .0)) (told bytes (a .ensured) (λ f. f .1 .0)) (told bytes (a .ensured) (λ f. f .1 .1))
+      (puts-flat (now (c .passed .0)) (c .passed .1 .0) (now (c .passed .1 .1 .0)) (now (c .passed .1 .1 .1 .0)) (now (c .passed .1 .1 .1 .1 .0)));
   take-returned = λ c r w a.
-      along-three (TakesFlat (now (c .passed .0)) (now (c .passed .1 .0)) (now (c .passed .1 .1 .0)) (now (c .passed .1 .1 .1 .0)))
+      along-three (TakesFlat (now (c .passed .0)) (now (c .passed .1 .0)) (now (c .passed .1 .1 .0)) (now (c .passed .1 .1 .1 .0)) (now (c .passed .1 .1 .1 .1 .0)))
       (told (result cb_take_returned.ended c) (a .ensured) (λ f. f .0)) (told (gathered-record.the-row .coded) (a .ensured) (λ f. f .1 .0)) (told bytes (a .ensured) (λ f. f .1 .1))
-      (takes-flat (now (c .passed .0)) (now (c .passed .1 .0)) (now (c .passed .1 .1 .0)) (now (c .passed .1 .1 .1 .0)));
+      (takes-flat (now (c .passed .0)) (now (c .passed .1 .0)) (now (c .passed .1 .1 .0)) (now (c .passed .1 .1 .1 .0)) (now (c .passed .1 .1 .1 .1 .0)));
   new-station = λ c r w a. ap stationMeant (told (result cb_new_station.ended c) (a .ensured) (λ f. f)) ∙ station-means newStation;
   attach = λ c r w a.
       along-three (AttachesFlat (now (c .passed .0)) (now (c .passed .1 .0)) (now (c .passed .1 .1 .0)))
@@ -539,57 +549,62 @@ exports = record {
 
 -- ---- two calls
 
-back : (d : List ℕ) (h : ℕ) (values r s d′ r′ s′ v : List ℕ) → h < 2 ^ 64 → placeRefusal amd64 d h values (length r) (length s) ≡ 0
-    → d′ ≡ d → r′ ≡ registersAfter amd64 d h values r s → s′ ≡ stackAfter amd64 d h values r s → length v ≡ length values
-    → (gatherAnswer amd64 d′ r′ s′ (length v) ≡ GatheredBack (cond (hidden d) h 0)) × (valuesAfter amd64 d′ r′ s′ v ≡ values)
-back d h values r s d′ r′ s′ v small p e f g l = rw (e, f, g, ← passed-hidden d h) (demand-2 .moving .gathers-placed d h values r s v small p l)
+back : (d : List ℕ) (h : ℕ) (values r y s d′ r′ y′ s′ v : List ℕ) → h < 2 ^ 64 → placeRefusal amd64 d h values (length r) (length y) (length s) ≡ 0
+    → d′ ≡ d → r′ ≡ registersAfter amd64 d h values r y s → y′ ≡ upperAfter amd64 d h values r y s → s′ ≡ stackAfter amd64 d h values r y s → length v ≡ length values
+    → (gatherAnswer amd64 d′ r′ y′ s′ (length v) ≡ GatheredBack (cond (hidden d) h 0)) × (valuesAfter amd64 d′ r′ y′ s′ v ≡ values)
+back d h values r y s d′ r′ y′ s′ v small p e f k g l = rw (e, f, k, g, ← passed-hidden d h) (demand-2 .moving .gathers-placed d h values r y s v small p l)
 
 -- an accepted placing is accepted by its order
-placing-zero : (d : List ℕ) (h : ℕ) (values : List ℕ) (q s : ℕ) (r : Refusal) → r ≡ refusalIn (placedGiven (placeAnswer amd64 d h values q s)) → r .number ≡ 0 → placeRefusal amd64 d h values q s ≡ 0
-placing-zero d h values q s r e z = sym (told-number (placed-told d h values q s)) ∙ sym (ap (λ (x : Refusal). x .number) e) ∙ z
+placing-zero : (d : List ℕ) (h : ℕ) (values : List ℕ) (q y s : ℕ) (r : Refusal) → r ≡ refusalIn (placedGiven (placeAnswer amd64 d h values q y s)) → r .number ≡ 0 → placeRefusal amd64 d h values q y s ≡ 0
+placing-zero d h values q y s r e z = sym (told-number (placed-told d h values q y s)) ∙ sym (ap (λ (x : Refusal). x .number) e) ∙ z
 
 pub gathers-back : GathersBack
 gathers-back c r w a z small e q v b k =
-    let right = placing-zero (now (c .passed .0)) (c .passed .1 .0) (now (c .passed .1 .1 .0)) (length (now (c .passed .1 .1 .1 .0))) (length (now (c .passed .1 .1 .1 .1 .0))) r (told (result cb_place_values.ended c) (a .ensured) (λ f. f .0)) z in
-    let t = back (now (c .passed .0)) (c .passed .1 .0) (now (c .passed .1 .1 .0)) (now (c .passed .1 .1 .1 .0)) (now (c .passed .1 .1 .1 .1 .0))
-    (now (e .passed .0)) (now (e .passed .1 .0)) (now (e .passed .1 .1 .0)) (now (e .passed .1 .1 .1 .0)) small right (k .description)
-    (k .registers ∙ told bytes (a .ensured) (λ f. f .1 .1 .0)) (k .stack ∙ told bytes (a .ensured) (λ f. f .1 .1 .1)) (k .values) in (
+    let right = placing-zero (now (c .passed .0)) (c .passed .1 .0) (now (c .passed .1 .1 .0)) (length (now (c .passed .1 .1 .1 .0))) (length (now (c .passed .1 .1 .1 .1 .0))) (length (now (c .passed .1 .1 .1 .1 .1 .0))) r (told (result cb_place_values.ended c) (a .ensured) (λ f. f .0)) z in
+    let t = back (now (c .passed .0)) (c .passed .1 .0) (now (c .passed .1 .1 .0)) (now (c .passed .1 .1 .1 .0)) (now (c .passed .1 .1 .1 .1 .0)) (now (c .passed .1 .1 .1 .1 .1 .0))
+    (now (e .passed .0)) (now (e .passed .1 .0)) (now (e .passed .1 .1 .0)) (now (e .passed .1 .1 .1 .0)) (now (e .passed .1 .1 .1 .1 .0)) small right (k .description)
+    (k .registers ∙ told bytes (a .ensured) (λ f. f .1 .1 .0)) (k .upper ∙ told bytes (a .ensured) (λ f. f .1 .1 .1 .0)) (k .stack ∙ told bytes (a .ensured) (λ f. f .1 .1 .1 .1)) (k .values) in (
       ap (λ (x : Refusal). x .number) (told (result cb_gather_values.ended e) (b .ensured) (λ f. f .0) ∙ ap (λ x. refusalIn (gatheredGiven x)) (t .0)) ∙ number-of 0,
       (
-        ap (λ (g : Gathered). g .hidden) (told (gathered-record.the-row .coded) (b .ensured) (λ f. f .1 .0) ∙ ap (λ x. leftIn (gatheredGiven x) (now (e .passed .1 .1 .1 .1 .0))) (t .0)),
+        ap (λ (g : Gathered). g .hidden) (told (gathered-record.the-row .coded) (b .ensured) (λ f. f .1 .0) ∙ ap (λ x. leftIn (gatheredGiven x) (now (e .passed .1 .1 .1 .1 .1 .0))) (t .0)),
         told bytes (b .ensured) (λ f. f .1 .1) ∙ t .1,
       ),
     )
 
-never-same : (d : List ℕ) (h : ℕ) (values r s d′ : List ℕ) (h′ : ℕ) (others q t : List ℕ) → d′ ≡ d
-    → placeRefusal amd64 d h values (length r) (length s) ≡ 0 → placeRefusal amd64 d′ h′ others (length q) (length t) ≡ 0
-    → registersAfter amd64 d h values r s ≡ registersAfter amd64 d′ h′ others q t → stackAfter amd64 d h values r s ≡ stackAfter amd64 d′ h′ others q t → values ≡ others
-never-same d h values r s d′ h′ others q t e p o g k =
-    demand-3 .no-shared-image d h h′ values others r s q t p (subst (λ x. placeRefusal amd64 x h′ others (length q) (length t) ≡ 0) e o)
-    (g ∙ ap (λ (x : List ℕ). registersAfter amd64 x h′ others q t) e) (k ∙ ap (λ (x : List ℕ). stackAfter amd64 x h′ others q t) e)
+never-same : (d : List ℕ) (h : ℕ) (values r y s d′ : List ℕ) (h′ : ℕ) (others q x t : List ℕ) → d′ ≡ d
+    → placeRefusal amd64 d h values (length r) (length y) (length s) ≡ 0 → placeRefusal amd64 d′ h′ others (length q) (length x) (length t) ≡ 0
+    → registersAfter amd64 d h values r y s ≡ registersAfter amd64 d′ h′ others q x t → upperAfter amd64 d h values r y s ≡ upperAfter amd64 d′ h′ others q x t
+    → stackAfter amd64 d h values r y s ≡ stackAfter amd64 d′ h′ others q x t → values ≡ others
+never-same d h values r y s d′ h′ others q x t e p o g k l =
+    demand-3 .no-shared-image d h h′ values others r y s q x t p (subst (λ z. placeRefusal amd64 z h′ others (length q) (length x) (length t) ≡ 0) e o)
+    (g ∙ ap (λ (z : List ℕ). registersAfter amd64 z h′ others q x t) e) (k ∙ ap (λ (z : List ℕ). upperAfter amd64 z h′ others q x t) e)
+    (l ∙ ap (λ (z : List ℕ). stackAfter amd64 z h′ others q x t) e)
 
 pub never-the-same : NeverTheSame
-never-the-same c e r w q v a b z y d h registers stack =
-    never-same (now (c .passed .0)) (c .passed .1 .0) (now (c .passed .1 .1 .0)) (now (c .passed .1 .1 .1 .0)) (now (c .passed .1 .1 .1 .1 .0))
-    (now (e .passed .0)) (e .passed .1 .0) (now (e .passed .1 .1 .0)) (now (e .passed .1 .1 .1 .0)) (now (e .passed .1 .1 .1 .1 .0)) d
-    (placing-zero _ _ _ _ _ r (told (result cb_place_values.ended c) (a .ensured) (λ f. f .0)) z)
-    (placing-zero _ _ _ _ _ q (told (result cb_place_values.ended e) (b .ensured) (λ f. f .0)) y)
+never-the-same c e r w q v a b z y d h registers upper stack =
+    never-same (now (c .passed .0)) (c .passed .1 .0) (now (c .passed .1 .1 .0)) (now (c .passed .1 .1 .1 .0)) (now (c .passed .1 .1 .1 .1 .0)) (now (c .passed .1 .1 .1 .1 .1 .0))
+    (now (e .passed .0)) (e .passed .1 .0) (now (e .passed .1 .1 .0)) (now (e .passed .1 .1 .1 .0)) (now (e .passed .1 .1 .1 .1 .0)) (now (e .passed .1 .1 .1 .1 .1 .0)) d
+    (placing-zero _ _ _ _ _ _ r (told (result cb_place_values.ended c) (a .ensured) (λ f. f .0)) z)
+    (placing-zero _ _ _ _ _ _ q (told (result cb_place_values.ended e) (b .ensured) (λ f. f .0)) y)
     (sym (told bytes (a .ensured) (λ f. f .1 .1 .0)) ∙ registers ∙ told bytes (b .ensured) (λ f. f .1 .1 .0))
-    (sym (told bytes (a .ensured) (λ f. f .1 .1 .1)) ∙ stack ∙ told bytes (b .ensured) (λ f. f .1 .1 .1))
+    (sym (told bytes (a .ensured) (λ f. f .1 .1 .1 .0)) ∙ upper ∙ told bytes (b .ensured) (λ f. f .1 .1 .1 .0))
+    (sym (told bytes (a .ensured) (λ f. f .1 .1 .1 .1)) ∙ stack ∙ told bytes (b .ensured) (λ f. f .1 .1 .1 .1))
 
-taken-back : (d : List ℕ) (h : ℕ) (v i d′ i′ w : List ℕ) → h < 2 ^ 64 → putRefusal d h v (length i) ≡ 0 → d′ ≡ d → i′ ≡ imageAfter d h v i → length w ≡ length v
-    → (takeAnswer d′ i′ (length w) ≡ TakenOut (cond (inMemory (returnPlace d)) h 0)) × (valueAfter d′ i′ w ≡ trimmed (returnPlace d) v)
-taken-back d h v i d′ i′ w small p e f l = rw (e, f) (bringing-back .takes-put d h v i w small p l)
+taken-back : (d : List ℕ) (h : ℕ) (v i y d′ i′ y′ w : List ℕ) → h < 2 ^ 64 → putRefusal d h v (length i) (length y) ≡ 0 → d′ ≡ d → i′ ≡ imageAfter d h v i y → y′ ≡ returnedUpper d h v i y
+    → length w ≡ length v
+    → (takeAnswer d′ i′ y′ (length w) ≡ TakenOut (cond (inMemory (returnPlace d)) h 0)) × (valueAfter d′ i′ y′ w ≡ trimmed (returnPlace d) v)
+taken-back d h v i y d′ i′ y′ w small p e f g l = rw (e, f, g) (bringing-back .takes-put d h v i y w small p l)
 
 pub takes-back : TakesBack
 takes-back c r w a z small e q v b k =
     let d = now (c .passed .0) in
-    let right = sym (refusal-told d _ _ (put-told d (c .passed .1 .0) (now (c .passed .1 .1 .0)) (length (now (c .passed .1 .1 .1 .0))))) ∙ sym (ap (λ (x : Refusal). x .number) (told (result cb_put_returned.ended c) (a .ensured) (λ f. f .0))) ∙ z in
-    let t = taken-back d (c .passed .1 .0) (now (c .passed .1 .1 .0)) (now (c .passed .1 .1 .1 .0)) (now (e .passed .0)) (now (e .passed .1 .0)) (now (e .passed .1 .1 .0)) small right
-    (k .description) (k .image ∙ told bytes (a .ensured) (λ f. f .1)) (k .value) in (
+    let right = sym (refusal-told d _ _ (put-told d (c .passed .1 .0) (now (c .passed .1 .1 .0)) (length (now (c .passed .1 .1 .1 .0))) (length (now (c .passed .1 .1 .1 .1 .0))))) ∙ sym (ap (λ (x : Refusal). x .number) (told (result cb_put_returned.ended c) (a .ensured) (λ f. f .0))) ∙ z in
+    let t = taken-back d (c .passed .1 .0) (now (c .passed .1 .1 .0)) (now (c .passed .1 .1 .1 .0)) (now (c .passed .1 .1 .1 .1 .0))
+    (now (e .passed .0)) (now (e .passed .1 .0)) (now (e .passed .1 .1 .0)) (now (e .passed .1 .1 .1 .0)) small right
+    (k .description) (k .image ∙ told bytes (a .ensured) (λ f. f .1 .0)) (k .upper ∙ told bytes (a .ensured) (λ f. f .1 .1)) (k .value) in (
       ap (λ (x : Refusal). x .number) (told (result cb_take_returned.ended e) (b .ensured) (λ f. f .0) ∙ ap (λ x. refusalIn (takenGiven x)) (t .0)) ∙ number-of 0,
       (
-        ap (λ (g : Gathered). g .hidden) (told (gathered-record.the-row .coded) (b .ensured) (λ f. f .1 .0) ∙ ap (λ x. leftIn (takenGiven x) (now (e .passed .1 .1 .1 .0))) (t .0)),
+        ap (λ (g : Gathered). g .hidden) (told (gathered-record.the-row .coded) (b .ensured) (λ f. f .1 .0) ∙ ap (λ x. leftIn (takenGiven x) (now (e .passed .1 .1 .1 .1 .0))) (t .0)),
         told bytes (b .ensured) (λ f. f .1 .1) ∙ t .1,
       ),
     )

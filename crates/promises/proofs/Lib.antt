@@ -6,6 +6,7 @@ pub mod WrongType
 pub mod Merging
 pub mod Classes
 pub mod Placements
+pub mod Wide
 pub mod MemberOffsets
 pub mod Demand2
 pub mod BringingBack

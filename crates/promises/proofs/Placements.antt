@@ -8,7 +8,7 @@ use native.Mathlib.Omega.{arith}
 use lib.ListN.{length, getD}
 use Rattle.addresses.specs.Addresses.{run}
 use Rattle.addresses.proofs.Runs.{length-run}
-use Rattle.description.specs.Description.{argumentsIn}
+use Rattle.description.specs.Description.{namedIn, argumentsIn}
 use Rattle.uses.specs.Uses.{usesRefusal}
 use Rattle.classes.specs.declared.Class.the-variants.{NoClass, Memory}
 use Rattle.classes.specs.Classes.{same}
@@ -32,6 +32,7 @@ use Rattle.layout.proofs.Bounds.{argument-shaped}
 use Rattle.layout.proofs.Verdict.{accepted-uses}
 use Rattle.walk.specs.Offsets.{walkAt, sourceIn, readAt, step}
 use Rattle.walk.proofs.Agreement.{read-agrees, step-agrees}
+use Rattle.walk.proofs.Unnamed.{argument-narrow}
 use Rattle.promises.specs.Demand2.{placeAt, placesFrom, allPlaces}
 
 module _ (d : List ℕ) (accepted : verdict d ≡ 0) where
@@ -115,8 +116,8 @@ module _ (d : List ℕ) (accepted : verdict d ≡ 0) where
     unfolding usedAt
     slotted = after-slotted eights (shapesFrom d 0 i) (usedFirst d) refl
 
-    pub fetches : readAt eights (walkAt (usedAt d i)) (shapeAt d i) ≡ sourceIn (placeAt d i)
-    fetches = read-agrees eights (usedAt d i) (shapeAt d i) (argument-shaped d right i there) slotted ∙ ap sourceIn (sym (place-said i there))
+    pub fetches : namedIn d ≤ i → readAt eights (walkAt (usedAt d i)) (shapeAt d i) ≡ sourceIn (placeAt d i)
+    fetches n = read-agrees eights (usedAt d i) (shapeAt d i) (argument-shaped d right i there) (argument-narrow d i n) slotted ∙ ap sourceIn (sym (place-said i there))
 
     pub moves : step eights (walkAt (usedAt d i)) (shapeAt d i) ≡ walkAt (usedAt d (i + 1))
     moves = step-agrees eights (usedAt d i) (shapeAt d i) (argument-shaped d right i there) slotted ∙ ap walkAt (sym (used-next d i))

@@ -21,8 +21,6 @@ use Rattle.types.specs.Wrong.{refusalFor}
 use Rattle.types.specs.Size.{sizeTy, alignTy}
 use Rattle.types.specs.Decode.{tyAt}
 use Rattle.types.specs.Large.{typesRefusal}
-use Rattle.classes.specs.declared.Class.{Class}
-use Rattle.classes.specs.declared.Class.the-variants.{NoClass}
 use Rattle.classify.specs.Classify.{classesOf}
 use Rattle.questions.specs.Questions.{questionRefusal, extentAnswer, sizeAnswer, alignAnswer}
 use Rattle.questions.specs.Runs.{classesAnswer, runAnswer, runIn}
@@ -38,9 +36,9 @@ use Rattle.layout.specs.Lists.{listAnswer, listCount, filled}
 use Rattle.layout.specs.Statements.{Bounded}
 use Rattle.moving.specs.Images.{frameOf, amd64}
 use Rattle.moving.specs.Frames.{ownAddress}
-use Rattle.moving.specs.Answers.{placeAnswer, gatherAnswer, registersAfter, stackAfter, valuesAfter}
+use Rattle.moving.specs.Answers.{placeAnswer, gatherAnswer, registersAfter, upperAfter, stackAfter, valuesAfter}
 use Rattle.returning.specs.Image.{returnedAddress}
-use Rattle.returning.specs.Answers.{putAnswer, takeAnswer, imageAfter, valueAfter}
+use Rattle.returning.specs.Answers.{putAnswer, takeAnswer, imageAfter, upperAfter as returnedUpper, valueAfter}
 use Rattle.station.specs.declared.Station.{Station}
 use Rattle.station.specs.Paper.{kcb, refusalUnder}
 use Rattle.station.specs.Attachment.{described, attachRefusal, attachStation, attachSeat, detachRefusal, detachStation, detachSeat, changeRefusal, changeStation, changeSeat}
@@ -66,20 +64,17 @@ pub record A2-Below : Type 0 where
   pub types-refusal : (d : List ℕ) → Answered (ofNumber (typesRefusal d)) (typesOrder d) tt
   pub uses-refusal : (d : List ℕ) → Answered (ofNumber (usesRefusal d)) (usesOrder d) tt
 
--- "A question about one type (size, alignment, classes, run)"; the values are size and alignment of the type written out, its two classes, and
+-- "A question about one type (size, alignment, classes, run)"; the values are size and alignment of the type written out, its classes, and
 -- its run of members
 abbrev pub members : List ℕ → ℕ → Members
 members d t = cond (ltb (kindAt d t) 2) none (run (11 + 4 * typesIn d + aAt d t) (countAt d t))
-
-abbrev pub classPair : List ℕ → ℕ → Class × Class
-classPair d t = (getD (classesOf (modelIn d) (tyAt d t)) 0 NoClass, getD (classesOf (modelIn d) (tyAt d t)) 1 NoClass)
 
 pub record A2-Questions : Type 0 where
   pub question-refusal : (d : List ℕ) (t : ℕ) → Answered (ofNumber (questionRefusal d t)) (questionOrder d t) tt
   pub type-extent : (d : List ℕ) (t : ℕ) → Answered (ofExtent (extentAnswer d t)) (questionOrder d t) (sizeTy (modelIn d) (tyAt d t), alignTy (modelIn d) (tyAt d t))
   pub type-size : (d : List ℕ) (t : ℕ) → Answered (ofSize (sizeAnswer (extentAnswer d t))) (questionOrder d t) (sizeTy (modelIn d) (tyAt d t))
   pub type-align : (d : List ℕ) (t : ℕ) → Answered (ofAlign (alignAnswer (extentAnswer d t))) (questionOrder d t) (alignTy (modelIn d) (tyAt d t))
-  pub type-classes : (d : List ℕ) (t : ℕ) → Answered (ofClasses (classesAnswer d t)) (questionOrder d t) (classPair d t)
+  pub type-classes : (d : List ℕ) (t : ℕ) → Answered (ofClasses (classesAnswer d t)) (questionOrder d t) (classesOf (modelIn d) (tyAt d t))
   pub run-at : (d : List ℕ) (t : ℕ) → Answered (ofRun (runAnswer d t)) (questionOrder d t) (members d t)
   pub member-offsets : (d : List ℕ) (t room : ℕ) → Answered (ofRefusal (refusalFor d (offsetsRefusal d t room))) (offsetsOrder d t room) tt
 
@@ -87,16 +82,18 @@ pub record A2-Questions : Type 0 where
 pub record A2-Layout : Type 0 where
   pub layout-of : (d : List ℕ) → Answered (ofLayout (layoutAnswer d)) (checkOrder d) (layoutOf d)
   pub lay-out : (d : List ℕ) (room : ℕ) → Answered (ofLayout (listAnswer d room)) (layoutOrder d room) (layoutOf d)
-  pub place-values : (d : List ℕ) (h : ℕ) (values : List ℕ) (registersLength stackLength : ℕ)
-      → Answered (ofPlacing (placeAnswer amd64 d h values registersLength stackLength)) (placeOrder d h values registersLength stackLength) (usedAt d (argumentsIn d) .vector .0)
-  pub gather-values : (d r s : List ℕ) (valuesLength : ℕ)
-      → Answered (ofGathering (gatherAnswer amd64 d r s valuesLength)) (gatherOrder d valuesLength (length r) (length s)) (ownAddress (frameOf d) (r ++ s))
+  pub place-values : (d : List ℕ) (h : ℕ) (values : List ℕ) (registersLength upperLength stackLength : ℕ)
+      → Answered (ofPlacing (placeAnswer amd64 d h values registersLength upperLength stackLength)) (placeOrder d h values registersLength upperLength stackLength)
+      (usedAt d (argumentsIn d) .vector .0)
+  pub gather-values : (d r y s : List ℕ) (valuesLength : ℕ)
+      → Answered (ofGathering (gatherAnswer amd64 d r y s valuesLength)) (gatherOrder d valuesLength (length r) (length y) (length s)) (ownAddress (frameOf d) (r ++ (y ++ s)))
 
 -- returned values (request 2026-02). The hidden address is that of rax
 pub record A2-Returned : Type 0 where
-  pub put-returned : (d : List ℕ) (h : ℕ) (value : List ℕ) (imageLength : ℕ) → Answered (ofPutting (putAnswer d h value imageLength)) (putOrder d h value imageLength) tt
-  pub take-returned : (d image : List ℕ) (valueLength : ℕ)
-      → Answered (ofTaking (takeAnswer d image valueLength)) (takeOrder d image valueLength) (returnedAddress (returnPlace d) image)
+  pub put-returned : (d : List ℕ) (h : ℕ) (value : List ℕ) (imageLength upperLength : ℕ)
+      → Answered (ofPutting (putAnswer d h value imageLength upperLength)) (putOrder d h value imageLength upperLength) tt
+  pub take-returned : (d image upper : List ℕ) (valueLength : ℕ)
+      → Answered (ofTaking (takeAnswer d image upper valueLength)) (takeOrder d image upper valueLength) (returnedAddress (returnPlace d) (image ++ upper))
 
 -- station and walk. What is lent may be anything: the station and the walk record of any making, the seat and the images of any length
 pub record A2-Walk : Type 0 where
@@ -120,11 +117,12 @@ pub record A3-Frame : Type 0 where
   pub member-offsets : (d : List ℕ) (t : ℕ) (list : List ℕ) → offsetsRefusal d t (length list) ≢ 0 → offsetsAfter d t list ≡ list
   pub lay-out : (d : List ℕ) (list : List Placement) → numberOf (ofLayout (listAnswer d (length list))) ≢ 0
       → filled (placementAt d) (listCount d (length list)) list ≡ list
-  pub place-values : (d : List ℕ) (h : ℕ) (values r s : List ℕ) → numberOf (ofPlacing (placeAnswer amd64 d h values (length r) (length s))) ≢ 0
-      → (registersAfter amd64 d h values r s ≡ r) × (stackAfter amd64 d h values r s ≡ s)
-  pub gather-values : (d r s v : List ℕ) → numberOf (ofGathering (gatherAnswer amd64 d r s (length v))) ≢ 0 → valuesAfter amd64 d r s v ≡ v
-  pub put-returned : (d : List ℕ) (h : ℕ) (value image : List ℕ) → numberOf (ofPutting (putAnswer d h value (length image))) ≢ 0 → imageAfter d h value image ≡ image
-  pub take-returned : (d image value : List ℕ) → numberOf (ofTaking (takeAnswer d image (length value))) ≢ 0 → valueAfter d image value ≡ value
+  pub place-values : (d : List ℕ) (h : ℕ) (values r y s : List ℕ) → numberOf (ofPlacing (placeAnswer amd64 d h values (length r) (length y) (length s))) ≢ 0
+      → (registersAfter amd64 d h values r y s ≡ r) × (upperAfter amd64 d h values r y s ≡ y) × (stackAfter amd64 d h values r y s ≡ s)
+  pub gather-values : (d r y s v : List ℕ) → numberOf (ofGathering (gatherAnswer amd64 d r y s (length v))) ≢ 0 → valuesAfter amd64 d r y s v ≡ v
+  pub put-returned : (d : List ℕ) (h : ℕ) (value image upper : List ℕ) → numberOf (ofPutting (putAnswer d h value (length image) (length upper))) ≢ 0
+      → (imageAfter d h value image upper ≡ image) × (returnedUpper d h value image upper ≡ upper)
+  pub take-returned : (d image upper value : List ℕ) → numberOf (ofTaking (takeAnswer d image upper (length value))) ≢ 0 → valueAfter d image upper value ≡ value
   pub attach : (s : Station) (seat d : List ℕ) → attachRefusal kcb s seat d ≢ 0 → (attachStation kcb s seat d ≡ s) × (attachSeat kcb s seat d ≡ seat)
   pub detach : (s : Station) (seat : List ℕ) → detachRefusal s seat ≢ 0 → (detachStation s seat ≡ s) × (detachSeat s seat ≡ seat)
   -- the exception, request 2026-09: "the station ends detached, with a zero seat if one was attached", "Refused under 11 it changes nothing"
@@ -134,7 +132,7 @@ pub record A3-Frame : Type 0 where
   pub step : (s : Station) (seat : List ℕ) (w : Walk) (a : Ask) → stepRefusal kcb s seat w a ≢ 0 → (stepWalk kcb s seat w a ≡ w) × (stepOut kcb s seat w a ≡ a .out)
 
 -- ---- A6: what an accepted description can ask for is bounded (`Bounded`: 586 bytes, sizes 1 to 4,096, six and eight registers, an area of at most
--- 16,384 that is a multiple of 16), so that no sum overflows; and each alignment is 1, 2, 4, 8 or 16
+-- 16,384 that is a multiple of 16), so that no sum overflows; and each alignment is 1, 2, 4, 8, 16 or 32
 
 pub record A6-Bounds : Type 0 where
   pub bounded : (d : List ℕ) → IsBytes d → verdict d ≡ 0 → Bounded d

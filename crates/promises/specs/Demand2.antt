@@ -1,19 +1,19 @@
 -- Demand 2, "Condition B, layout. Reason: modules are built by ordinary compilers, and both sides must agree without talking": "Sizes, classes,
 -- argument and return places and each walk step are those of the System V AMD64 supplement, LP64, as narrowed in document 01. Values placed and
 -- gathered back are the same bytes. Images gathered and placed again, with their own hidden address, are the same images exactly when their unused
--- bytes are zero and each _Bool argument's byte is 0 or 1." Each statement is a type, under the label of docs/CONTRACTS.md; proofs/Demand2.antt
--- proves `Demand2`. Assumes nothing: these are definitions.
+-- bytes are zero and each _Bool argument's byte is 0 or 1." Request 2026-06: "Demands 2 and 3 count the second image among the images". Each statement is a
+-- type, under the label of docs/CONTRACTS.md; proofs/Demand2.antt proves `Demand2`. Assumes nothing: these are definitions.
 use mathlib.Core.Path.{_≡_}
-use mathlib.Core.Logic.{_↔_}
+use mathlib.Core.Logic.{_↔_, _⊎_}
 use mathlib.Core.Bool.{Bool, true, false, cond, not, _&&_, _||_}
 use mathlib.Core.List.{List, [], _∷_, map}
 use Prim.Native.Nat.{ℕ, zero, suc, _+_, _*_, _/_, _%_, _≤_, _<_}
-use lib.Dec.{eqb}
+use lib.Dec.{ltb, eqb}
 use lib.ListN.{length, getD, set}
 use Rattle.addresses.specs.Addresses.{run}
 use Rattle.description.specs.declared.Model.{Model}
 use Rattle.description.specs.declared.Model.the-variants.{Lp64, Ilp32}
-use Rattle.description.specs.Description.{byteAt, argumentsIn, returnIn, kindAt, aAt, countAt, memberAt, argumentAt, modelIn}
+use Rattle.description.specs.Description.{byteAt, namedIn, argumentsIn, returnIn, kindAt, aAt, countAt, memberAt, argumentAt, modelIn}
 use Rattle.types.specs.Tree.{Ty, basic, array, Tys, none, more, group}
 use Rattle.types.specs.Basic.{basicSize, basicAlign}
 use Rattle.types.specs.Size.{alignTy, alignTys, sizeTy, offsetAfter, endAfter, endOf, widest}
@@ -21,15 +21,17 @@ use Rattle.types.specs.Offsets.{memberOffsets, membersOf, count}
 use Rattle.types.specs.Decode.{tysFrom, tyAt}
 use Rattle.classes.specs.declared.Class.{Class}
 use Rattle.classes.specs.declared.Class.the-variants.{NoClass, Integer, Sse, SseUp, X87, X87Up, ComplexX87, Memory}
-use Rattle.classes.specs.Classes.{same, isX87, mergeOf, mergeAll}
+use Rattle.classes.specs.Classes.{same, isX87, noClasses, mergeOf, mergeAll}
 use Rattle.classes.specs.CleanUp.{anyMemory, memoryOf, cleanUp}
 use Rattle.classes.specs.Ups.{UpsFollow, onStack as goesOnStack}
-use Rattle.classify.specs.Classify.{classesAt, isAggregate, classesOf}
+use Rattle.classify.specs.Classify.{own, closed, classesAt, isAggregate, eightbytesOf, shown, memory, classesOf}
+use Rattle.classify.specs.Vectors.{vector}
 use Rattle.classify.specs.Cases.{Case as ClassCase, case as classCase, cases as classCases}
 use Rattle.classify.specs.Coverage.{ClassesCover}
 use Rattle.questions.specs.Questions.{questionRefusal}
 use Rattle.questions.specs.Offsets.{offsetsRefusal, offsetAt, offsetsAfter}
 use Rattle.places.specs.declared.Register.{Register}
+use Rattle.places.specs.declared.Register.the-variants.{Wide}
 use Rattle.places.specs.declared.ReturnPlace.the-variants.{Memory as InMemory}
 use Rattle.places.specs.Cases.{ReturnCase, returns, returnCases}
 use Rattle.places.specs.Returns.{returnOf, hiddenFor}
@@ -59,20 +61,21 @@ use Rattle.walk.specs.Steps.{movedOn, bytesAt, stepWalk, stepOut}
 
 -- ---- B1: sizes and alignments, which `type_size`, `type_align` and every record give
 
--- the table, code by code: size and alignment, in document 01's model and in that of request 2026-11, "Pointers (code 15) become 4 bytes, alignment 4"
+-- the table, code by code: size and alignment, in document 01's model and in that of request 2026-11, "Pointers (code 15) become 4 bytes, alignment 4";
+-- and request 2026-06, "Code 16 is __m256: size and alignment 32"
 abbrev pub extents : Model → List (ℕ × ℕ)
 extents Lp64 =
     (1, 1) ∷ (1, 1) ∷ (2, 2) ∷ (4, 4) ∷ (8, 8) ∷ (16, 16) ∷ (4, 4) ∷ (8, 8) ∷ (16, 16) ∷ (16, 16) ∷ (8, 8) ∷ (16, 16) ∷ (8, 4) ∷ (16, 8) ∷ (32, 16) ∷ (8, 8)
-    ∷ []
+    ∷ (32, 32) ∷ []
 extents Ilp32 =
     (1, 1) ∷ (1, 1) ∷ (2, 2) ∷ (4, 4) ∷ (8, 8) ∷ (16, 16) ∷ (4, 4) ∷ (8, 8) ∷ (16, 16) ∷ (16, 16) ∷ (8, 8) ∷ (16, 16) ∷ (8, 4) ∷ (16, 8) ∷ (32, 16) ∷ (4, 4)
-    ∷ []
+    ∷ (32, 32) ∷ []
 
 pub record B1-Sizes : Type 0 where
   -- request 2026-11: "Bit 1 of byte 6 selects" ILP32. What follows is of any model, and what is said of a description d is of its own
   pub lp64 : (d : List ℕ) → byteAt d 6 / 2 % 2 ≡ 0 → modelIn d ≡ Lp64
   pub ilp32 : (d : List ℕ) → byteAt d 6 / 2 % 2 ≡ 1 → modelIn d ≡ Ilp32
-  pub table : (m : Model) → map (λ code. (basicSize m code, basicAlign m code)) (run 0 16) ≡ extents m
+  pub table : (m : Model) → map (λ code. (basicSize m code, basicAlign m code)) (run 0 17) ≡ extents m
   -- what a type number means, by its record's kind
   pub is-basic : (d : List ℕ) (t : ℕ) → questionRefusal d t ≡ 0 → kindAt d t ≡ 0 → tyAt d t ≡ basic (aAt d t)
   pub is-array : (d : List ℕ) (t : ℕ) → questionRefusal d t ≡ 0 → kindAt d t ≡ 1 → tyAt d t ≡ array (tyAt d (aAt d t)) (countAt d t)
@@ -120,13 +123,13 @@ pub record B1-Offsets : Type 0 where
 
 -- ---- B2: classes, which `type_classes` gives
 
--- the table's column "Classes", code by code: both eightbytes of the type by itself
+-- the table's column "Classes", code by code, of the type by itself; request 2026-06 for code 16, "classes SSE and three SSEUP"
 abbrev pub classTable : List (List Class)
 classTable =
     (Integer ∷ NoClass ∷ []) ∷ (Integer ∷ NoClass ∷ []) ∷ (Integer ∷ NoClass ∷ []) ∷ (Integer ∷ NoClass ∷ []) ∷ (Integer ∷ NoClass ∷ []) ∷ (Integer ∷ Integer ∷ [])
     ∷ (Sse ∷ NoClass ∷ []) ∷ (Sse ∷ NoClass ∷ []) ∷ (X87 ∷ X87Up ∷ []) ∷ (Sse ∷ SseUp ∷ []) ∷ (Sse ∷ NoClass ∷ []) ∷ (Sse ∷ SseUp ∷ [])
     ∷ (Sse ∷ NoClass ∷ []) ∷ (Sse ∷ Sse ∷ []) ∷ (ComplexX87 ∷ NoClass ∷ []) ∷ (Integer ∷ NoClass ∷ [])
-    ∷ []
+    ∷ (Sse ∷ SseUp ∷ SseUp ∷ SseUp ∷ []) ∷ []
 
 -- the same as pieces, each with the offset at which it begins: "as a struct of two" gives complex float a second piece at 4 and complex double one at 8
 abbrev pub pieces : List (List (ℕ × Class))
@@ -134,12 +137,12 @@ pieces =
     ((0, Integer) ∷ []) ∷ ((0, Integer) ∷ []) ∷ ((0, Integer) ∷ []) ∷ ((0, Integer) ∷ []) ∷ ((0, Integer) ∷ []) ∷ ((0, Integer) ∷ (8, Integer) ∷ [])
     ∷ ((0, Sse) ∷ []) ∷ ((0, Sse) ∷ []) ∷ ((0, X87) ∷ (8, X87Up) ∷ []) ∷ ((0, Sse) ∷ (8, SseUp) ∷ []) ∷ ((0, Sse) ∷ []) ∷ ((0, Sse) ∷ (8, SseUp) ∷ [])
     ∷ ((0, Sse) ∷ (4, Sse) ∷ []) ∷ ((0, Sse) ∷ (8, Sse) ∷ []) ∷ ((0, ComplexX87) ∷ []) ∷ ((0, Integer) ∷ [])
-    ∷ []
+    ∷ ((0, Sse) ∷ (8, SseUp) ∷ (16, SseUp) ∷ (24, SseUp) ∷ []) ∷ []
 
--- of two eightbytes, each starting as NO_CLASS: each piece in the eightbyte that it lies in, the type lying at offset o
-abbrev pub piecesAt : ℕ → List (ℕ × Class) → List Class
-piecesAt o [] = NoClass ∷ NoClass ∷ []
-piecesAt o (p ∷ ps) = mergeAll (set (NoClass ∷ NoClass ∷ []) ((o + p .0) / 8) (p .1)) (piecesAt o ps)
+-- of n eightbytes, each starting as NO_CLASS: each piece in the eightbyte that it lies in, the type lying at offset o
+abbrev pub piecesAt : ℕ → ℕ → List (ℕ × Class) → List Class
+piecesAt n o [] = noClasses n
+piecesAt n o (p ∷ ps) = mergeAll (set (noClasses n) ((o + p .0) / 8) (p .1)) (piecesAt n o ps)
 
 -- "Merging, first rule that fits: equal; one NO_CLASS gives the other; one MEMORY gives MEMORY; one INTEGER gives INTEGER; one of X87, X87UP,
 -- COMPLEX_X87 gives MEMORY; else SSE": each rule where none before it fits
@@ -176,6 +179,16 @@ pub record CleansUp (cs : List Class) : Type 0 where
   pub stays : anyMemory cs ≡ false → ((i : ℕ) → UpAlone cs i → ⊥) → (i : ℕ) → loose cs i ≡ false → getD (cleanUp cs) i NoClass ≡ getD cs i NoClass
   pub ups : UpsFollow (cleanUp cs)
 
+-- 000, 5(c), in request 2026-06's words: "after merging, any aggregate over two eightbytes whose first isn't SSE, or with a later one that isn't SSEUP, is
+-- MEMORY". The aggregate has s bytes and lies at offset o of a whole with these classes: its own eightbytes are looked at
+pub record Closes (o s : ℕ) (cs : List Class) : Type 0 where
+  pub first : 16 < s → same (getD (own o s cs) 0 NoClass) Sse ≡ false → closed o s cs ≡ memoryOf cs
+  pub later : 16 < s → (i : ℕ) → suc i < length (own o s cs) → same (getD (own o s cs) (suc i) NoClass) SseUp ≡ false → closed o s cs ≡ memoryOf cs
+  -- the others are cleaned up, and so are those of one or two eightbytes
+  pub vector : same (getD (own o s cs) 0 NoClass) Sse ≡ true → ((i : ℕ) → suc i < length (own o s cs) → same (getD (own o s cs) (suc i) NoClass) SseUp ≡ true)
+      → closed o s cs ≡ cleanUp cs
+  pub small : s ≤ 16 → closed o s cs ≡ cleanUp cs
+
 -- classes merged one after the other, from left to right
 abbrev pub mergedIn : List Class → List (List Class) → List Class
 mergedIn sofar [] = sofar
@@ -186,36 +199,45 @@ abbrev pub elementOffsets : ℕ → ℕ → ℕ → List ℕ
 elementOffsets s zero o = []
 elementOffsets s (suc n) o = o ∷ elementOffsets s n (o + s)
 
--- the classes of each member of a union, or else of a struct, at its own offset in the whole; the aggregate lies at o, and those before end at x
-unfoldable pub memberClasses : Model → Bool → Tys → ℕ → ℕ → List (List Class)
-memberClasses m u none o x = []
-memberClasses m u (more t ts) o x =
-    classesAt m 2 t (o + offsetAfter u x (alignTy m t)) ∷ memberClasses m u ts o (endAfter u x (alignTy m t) (sizeTy m t))
+-- the classes of each member of a union, or else of a struct, at its own offset in a whole of n eightbytes; the aggregate lies at o, and those before end at x
+unfoldable pub memberClasses : Model → ℕ → Bool → Tys → ℕ → ℕ → List (List Class)
+memberClasses m n u none o x = []
+memberClasses m n u (more t ts) o x =
+    classesAt m n t (o + offsetAfter u x (alignTy m t)) ∷ memberClasses m n u ts o (endAfter u x (alignTy m t) (sizeTy m t))
 
 -- what the definitions say of a case's type
 abbrev pub classed : ClassCase → ClassCase
-classed (classCase t a b) = classCase t (getD (classesOf Lp64 t) 0 NoClass) (getD (classesOf Lp64 t) 1 NoClass)
+classed (classCase t cs) = classCase t (classesOf Lp64 t)
 
 pub record B2-Classes : Type 0 where
   -- the table, code by code; and a basic type wherever it lies
-  pub table : (m : Model) → map (λ code. classesOf m (basic code)) (run 0 16) ≡ classTable
-  pub basic-at : (m : Model) (code o : ℕ) → code < 16 → classesAt m 2 (basic code) o ≡ piecesAt o (getD pieces code [])
+  pub table : (m : Model) → map (λ code. classesOf m (basic code)) (run 0 17) ≡ classTable
+  pub basic-at : (m : Model) (n code o : ℕ) → code < 17 → classesAt m n (basic code) o ≡ piecesAt n o (getD pieces code [])
   pub merges : (a b : Class) → Merges a b
   pub cleans-up : (cs : List Class) → CleansUp cs
-  pub whole-memory : (a b : Class) → memoryOf (a ∷ b ∷ []) ≡ Memory ∷ NoClass ∷ []
+  pub whole-memory : (a : Class) (cs : List Class) → memoryOf (a ∷ cs) ≡ Memory ∷ noClasses (length cs)
+  pub closes : (o s : ℕ) (cs : List Class) → Closes o s cs
   -- "A type's classes come from its members', each at its offset in the whole, and theirs again from the types they name; an inner aggregate is cleaned up
   -- before it merges": an array's elements and a struct's or union's members, in their order, each with what these equations give it
-  pub array-at : (m : Model) (t : Ty) (n o : ℕ) → classesAt m 2 (array t n) o ≡ cleanUp (mergedIn (NoClass ∷ NoClass ∷ []) (map (classesAt m 2 t) (elementOffsets (sizeTy m t) n o)))
-  pub group-at : (m : Model) (u : Bool) (ts : Tys) (o : ℕ) → classesAt m 2 (group u ts) o ≡ cleanUp (mergedIn (NoClass ∷ NoClass ∷ []) (memberClasses m u ts o 0))
-  -- "Over 16 bytes: MEMORY. Otherwise there are one or two eightbytes"
-  pub large : (m : Model) (t : Ty) → isAggregate t ≡ true → 16 < sizeTy m t → classesOf m t ≡ Memory ∷ NoClass ∷ []
+  pub array-at : (m : Model) (n : ℕ) (t : Ty) (count o : ℕ)
+      → classesAt m n (array t count) o ≡ closed o (sizeTy m (array t count)) (mergedIn (noClasses n) (map (classesAt m n t) (elementOffsets (sizeTy m t) count o)))
+  pub group-at : (m : Model) (n : ℕ) (u : Bool) (ts : Tys) (o : ℕ)
+      → classesAt m n (group u ts) o ≡ closed o (sizeTy m (group u ts)) (mergedIn (noClasses n) (memberClasses m n u ts o 0))
+  -- "over eight eightbytes is MEMORY": an aggregate. Otherwise the whole has its own eightbytes, two at least
+  pub over-eight : (m : Model) (t : Ty) → isAggregate t ≡ true → 64 < sizeTy m t → classesOf m t ≡ memory
+  pub whole : (m : Model) (t : Ty) → (isAggregate t && ltb 64 (sizeTy m t)) ≡ false → classesOf m t ≡ shown (classesAt m (eightbytesOf m t) t 0)
   pub small : (m : Model) (t : Ty) → sizeTy m t ≤ 16 → classesOf m t ≡ classesAt m 2 t 0
+  -- there are two classes, or the four of one vector register; and an aggregate over two eightbytes is MEMORY, or such a vector of 32 bytes
+  pub two-or-four : (d : List ℕ) (t : ℕ) → questionRefusal d t ≡ 0
+      → (length (classesOf (modelIn d) (tyAt d t)) ≡ 2) ⊎ (classesOf (modelIn d) (tyAt d t) ≡ vector)
+  pub wide-or-memory : (d : List ℕ) (t : ℕ) → questionRefusal d t ≡ 0 → isAggregate (tyAt d t) ≡ true → 16 < sizeTy (modelIn d) (tyAt d t)
+      → (classesOf (modelIn d) (tyAt d t) ≡ memory) ⊎ ((classesOf (modelIn d) (tyAt d t) ≡ vector) × (sizeTy (modelIn d) (tyAt d t) ≡ 32))
   -- each byte of a value that goes in registers lies in an eightbyte that has a class, and there is no class behind it
   pub shaped : (d : List ℕ) (t : ℕ) → questionRefusal d t ≡ 0 → ClassesCover (classesOf (modelIn d) (tyAt d t)) (sizeTy (modelIn d) (tyAt d t))
   -- "A lone class .. with NO_CLASS second"
   pub second : (d : List ℕ) (t : ℕ) → questionRefusal d t ≡ 0 → goesOnStack (classesOf (modelIn d) (tyAt d t)) ≡ false
       → (getD (classesOf (modelIn d) (tyAt d t)) 1 NoClass ≡ NoClass) ↔ (sizeTy (modelIn d) (tyAt d t) ≤ 8)
-  -- the types of P2 to P6 and P9, and others that a wrong bridge gets wrong
+  -- the types of P2 to P6 and P9, those that request 2026-06 names, and others that a wrong bridge gets wrong
   pub class-cases : map classed classCases ≡ classCases
 
 -- ---- B3: "INTEGER takes the next of rdi .. r9; SSE the next of xmm0..xmm7 .. If any eightbyte finds no register, the whole argument goes on the
@@ -232,6 +254,10 @@ placesFrom d i (suc n) = placeAt d i ∷ placesFrom d (i + 1) n
 abbrev pub allPlaces : List ℕ → List Place
 allPlaces d = placesFrom d 0 (argumentsIn d)
 
+-- the classes of argument i
+abbrev pub classesAtPlace : List ℕ → ℕ → List Class
+classesAtPlace d i = classesOf (modelIn d) (tyAt d (argumentAt d i))
+
 pub record B3-Registers : Type 0 where
   -- the general registers in all records are the next ones, in order, from where the hidden address leaves off; and so are the vector registers
   pub generals : (d : List ℕ) → verdict d ≡ 0 → numbersIn generalNumber (allPlaces d) ≡ run (cond (hidden d) 1 0) (length (numbersIn generalNumber (allPlaces d)))
@@ -244,8 +270,21 @@ pub record B3-Registers : Type 0 where
   -- and then it takes no register
   pub takes-none : (d : List ℕ) (i o : ℕ) → verdict d ≡ 0 → i < argumentsIn d → placeAt d i ≡ onStack o
       → (usedAt d (i + 1) .general ≡ usedAt d i .general) × (usedAt d (i + 1) .vector ≡ usedAt d i .vector)
+  -- request 2026-06: "A named argument of these four classes takes one vector register"
+  pub wide : (d : List ℕ) (i : ℕ) → verdict d ≡ 0 → i < argumentsIn d → classesAtPlace d i ≡ vector → i < namedIn d → usedAt d i .vector .0 < 8
+      → (placeAt d i ≡ inRegisters (Wide (usedAt d i .vector) ∷ [])) × (usedAt d (i + 1) .vector .0 ≡ usedAt d i .vector .0 + 1)
+  -- "an unnamed one, structures included, is always on the stack"
+  pub unnamed : (d : List ℕ) (i : ℕ) → verdict d ≡ 0 → i < argumentsIn d → classesAtPlace d i ≡ vector → namedIn d ≤ i → (o : ℕ) × (placeAt d i ≡ onStack o)
 
 -- ---- B4: stack offsets
+
+-- an argument that is aligned to 32 is on the stack
+pub record StrictOn (d : List ℕ) : Type 0 where
+  pub argument : ℕ
+  pub offset : ℕ
+  pub there : argument < argumentsIn d
+  pub on : placeAt d argument ≡ onStack offset
+  pub strict : placementAt d argument .align .0 ≡ 32
 
 pub record B4-Stack : Type 0 where
   -- "the lowest offset, after the one before, that is a multiple of 8 and of its alignment"
@@ -254,8 +293,11 @@ pub record B4-Stack : Type 0 where
   -- "the room it takes is rounded up to 8"
   pub room : (d : List ℕ) (i o : ℕ) → verdict d ≡ 0 → i < argumentsIn d → placeAt d i ≡ onStack o
       → RoundedUp 8 (o + placementAt d i .size .0) (usedAt d (i + 1) .stack .0)
-  -- "The area is rounded up to 16. Offset 0 is the lowest address"
-  pub area : (d : List ℕ) → RoundedUp 16 (usedAt d (argumentsIn d) .stack .0) (areaOf d)
+  -- "The area is rounded up to 16. Offset 0 is the lowest address"; request 2026-06: "an area with a 32-byte aligned argument on it is rounded up to 32".
+  -- Which of the two it is, the layout says
+  pub area : (d : List ℕ) → RoundedUp (layoutOf d .align .0) (usedAt d (argumentsIn d) .stack .0) (areaOf d)
+  pub area-32 : (d : List ℕ) → verdict d ≡ 0 → StrictOn d → layoutOf d .align .0 ≡ 32
+  pub area-16 : (d : List ℕ) → verdict d ≡ 0 → (StrictOn d → ⊥) → layoutOf d .align .0 ≡ 16
   pub first : (d : List ℕ) → usedAt d 0 .stack .0 ≡ 0
 
 -- ---- B5: "A made-up vector or register count: demand 2, where it equals the registers in the places"
@@ -268,13 +310,13 @@ pub record B5-Counts : Type 0 where
 -- ---- B6: "If the return type's class is MEMORY, a hidden address takes rdi first", and the return places
 
 abbrev pub returned : ReturnCase → ReturnCase
-returned (returns a b h p) = returns a b (hiddenFor (a ∷ b ∷ [])) (returnOf (a ∷ b ∷ []))
+returned (returns cs h p) = returns cs (hiddenFor cs) (returnOf cs)
 
 pub record B6-Returns : Type 0 where
   pub hidden-exactly : (d : List ℕ) → (hidden d ≡ true) ↔ ((isVoid d ≡ false) × (same (getD (returnClasses d) 0 NoClass) Memory ≡ true))
   pub in-memory : (d : List ℕ) → (hidden d ≡ true) ↔ (returnPlace d ≡ InMemory)
   pub takes-rdi : (d : List ℕ) → usedFirst d .general .0 ≡ cond (hidden d) 1 0
-  -- "rax, rdx; xmm0, xmm1; xmm0 and its upper half; X87 st0; COMPLEX_X87 st0 and st1"
+  -- "rax, rdx; xmm0, xmm1; xmm0 and its upper half; X87 st0; COMPLEX_X87 st0 and st1"; and the four classes of an __m256 in one vector register
   pub return-places : map returned returnCases ≡ returnCases
   -- the size of the returned value is its type's; void has none
   pub return-size : (d : List ℕ) → isVoid d ≡ false → layoutOf d .returned .0 ≡ sizeTy (modelIn d) (tyAt d (returnIn d))
@@ -320,9 +362,9 @@ pub record B13-Steps : Type 0 where
   pub walk : (s : Station) (seat : List ℕ) (w : Walk) (a : Ask) → stepRefusal kcb s seat w a ≡ 0
       → (stepWalk kcb s seat w a ≡ movedOn kcb (described s seat) w) × (stepOut kcb s seat w a ≡ bytesAt kcb (described s seat) w a)
   -- "With none used they are 0, 48 and 0"
-  pub starts : walkAt (record { general = record { 0 = 0 }; vector = record { 0 = 0 }; stack = record { 0 = 0 } }) ≡ record { general = 0; vector = 48; overflow = 0 }
-  -- before argument i, 3.5.7 reads where the record of argument i says that it lies, and moves on to where the layout goes on
-  pub fetches : (d : List ℕ) (i : ℕ) → verdict d ≡ 0 → i < argumentsIn d → readAt eights (walkAt (usedAt d i)) (shapeAt d i) ≡ sourceIn (placeAt d i)
+  pub starts : walkAt (record { general = record { 0 = 0 }; vector = record { 0 = 0 }; stack = record { 0 = 0 }; strict = false }) ≡ record { general = 0; vector = 48; overflow = 0 }
+  -- before an unnamed argument i, 3.5.7 reads where the record of argument i says that it lies; behind any argument it moves on to where the layout goes on
+  pub fetches : (d : List ℕ) (i : ℕ) → verdict d ≡ 0 → namedIn d ≤ i → i < argumentsIn d → readAt eights (walkAt (usedAt d i)) (shapeAt d i) ≡ sourceIn (placeAt d i)
   pub moves : (d : List ℕ) (i : ℕ) → verdict d ≡ 0 → i < argumentsIn d → step eights (walkAt (usedAt d i)) (shapeAt d i) ≡ walkAt (usedAt d (i + 1))
 
 -- ---- B14: "The cases above are proved of the definitions by a single theorem over a list of them"
@@ -335,7 +377,7 @@ abbrev pub stated : Case → LayoutAnswer × List Placement
 stated c = (Laid (c .laid), c .records)
 
 pub record B14-Cases : Type 0 where
-  -- the lister's case and P1 to P11, from description bytes
+  -- the lister's case, P1 to P11 and those of request 2026-06, 000's figure 3.32 with its __m256 among them, from description bytes
   pub layouts : map derived cases ≡ map stated cases
   -- the same as the lister prints them, byte for byte
   pub texts : map (λ (c : Case). listing (c .bytes)) cases ≡ listings

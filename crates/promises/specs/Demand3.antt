@@ -5,16 +5,17 @@
 -- of attaching and detaching starts as the new description alone says, its attachment number apart, and, over images placed for it and asked by the
 -- right types, hands back each unnamed argument's bytes in order. A walk opened under an earlier attachment is refused." Each statement is a type, under
 -- the label of docs/CONTRACTS.md; proofs/Demand3.antt proves `Demand3`. What calls in a row do is stated in histories/specs/ConditionC.antt, where the
--- host's part is among the hypotheses. Assumes nothing: these are definitions.
+-- host's part is among the hypotheses. Request 2026-06: "Demands 2 and 3 count the second image among the images". Assumes nothing: these are definitions.
 use mathlib.Core.Path.{_≡_}
 use mathlib.Core.Bool.{true}
 use mathlib.Core.List.{List, _++_}
-use Prim.Native.Nat.{ℕ, suc, _+_, _-_, _%_, _≤_, _<_}
+use Prim.Native.Nat.{ℕ, suc, _+_, _-_, _/_, _%_, _≤_, _<_}
 use lib.ListN.{length, getD, take, replicate}
 use Rattle.addresses.specs.Addresses.{All}
 use Rattle.description.specs.Description.{IsBytes, argumentsIn}
-use Rattle.places.specs.Places.{onStack}
-use Rattle.places.specs.Images.{stackAt, bytesOf}
+use Rattle.places.specs.declared.Register.{Register}
+use Rattle.places.specs.Places.{inRegisters, onStack}
+use Rattle.places.specs.Images.{slots, stackAt, bytesOf}
 use Rattle.layout.specs.Arguments.{hidden, areaOf}
 use Rattle.layout.specs.Verdict.{verdict}
 use Rattle.layout.specs.Layout.{valuesOf}
@@ -22,7 +23,7 @@ use Rattle.layout.specs.Placements.{placementAt}
 use Rattle.images.specs.Words.{littleEndian}
 use Rattle.moving.specs.Images.{addressesOf, valueStart, amd64}
 use Rattle.moving.specs.Orders.{placeRefusal}
-use Rattle.moving.specs.Answers.{registersAfter, stackAfter}
+use Rattle.moving.specs.Answers.{imagesAfter}
 use Rattle.moving.specs.Statements.{NoSharedImage}
 use Rattle.station.specs.declared.Station.{Station}
 use Rattle.station.specs.Paper.{kcb}
@@ -35,7 +36,7 @@ use Rattle.promises.specs.Demand2.{placeAt}
 
 -- ---- C1, C2: "each value byte has exactly one place, no two share one"
 
--- where value byte k lies, in the register image with the stack image behind it: these are the addresses that placing and gathering move bytes by
+-- where value byte k lies, in the register image with the upper image and then the stack image behind it: these are the addresses that placing and gathering move bytes by
 abbrev pub lies : List ℕ → ℕ → ℕ
 lies d k = getD (addressesOf d) k 0
 
@@ -45,6 +46,10 @@ pub record C1-C2-Places : Type 0 where
   -- that of byte j of argument i is in the place that its record says
   pub recorded : (d : List ℕ) (i j : ℕ) → verdict d ≡ 0 → i < argumentsIn d → j < placementAt d i .size .0
       → lies d (valueStart d i + j) ≡ getD (bytesOf stackAt (placeAt d i) (placementAt d i .size .0)) j 0
+  -- in registers it is byte j % 8 of eightbyte j / 8, which begins where `slots` says. Request 2026-06: "Bytes 16 to 31 stand in a second lent image of 128
+  -- bytes, xmm0 first", which begins at 176
+  pub in-registers : (d : List ℕ) (i j : ℕ) (rs : List Register) → verdict d ≡ 0 → i < argumentsIn d → placeAt d i ≡ inRegisters rs → j < placementAt d i .size .0
+      → lies d (valueStart d i + j) ≡ getD (slots rs) (j / 8) 0 + j % 8
   -- within the images
   pub inside : (d : List ℕ) (k : ℕ) → verdict d ≡ 0 → k < valuesOf d → lies d k < stackAt + areaOf d
   -- "no two share one"
@@ -60,7 +65,7 @@ pub record C3-Alignment : Type 0 where
   -- the first byte of the value lies there in the stack image
   pub there : (d : List ℕ) (i o : ℕ) → verdict d ≡ 0 → i < argumentsIn d → placeAt d i ≡ onStack o → lies d (valueStart d i) ≡ stackAt + o
 
--- ---- C4: "For one description and one hidden address, different lists never give the same register and stack images": `NoSharedImage`
+-- ---- C4: "For one description and one hidden address, different lists never give the same register and stack images", the upper image among them: `NoSharedImage`
 
 -- ---- C5: "A walk opened after any history of attaching and detaching starts as the new description alone says, its attachment number apart"
 
@@ -96,32 +101,32 @@ pub record C7-Stale : Type 0 where
 -- ---- C8: "over images placed for it and asked by the right types, hands back each unnamed argument's bytes in order"
 
 -- the images as `place_values` leaves them
-abbrev pub placedImages : List ℕ → ℕ → List ℕ → List ℕ → List ℕ → List ℕ
-placedImages d h values r s = registersAfter amd64 d h values r s ++ stackAfter amd64 d h values r s
+abbrev pub placedImages : List ℕ → ℕ → List ℕ → List ℕ → List ℕ → List ℕ → List ℕ
+placedImages d h values r y s = imagesAfter amd64 d h values r y s
 
 -- d comes at any desk k, by an attach or a change, the walk i is opened, and each step of it is lent these images: then the steps hand back the unnamed arguments'
 -- bytes, in order, among any other calls, and the next step is 19
 abbrev pub HandsBackPlaced : Type 0
 HandsBackPlaced =
-    (k : Desk) (v : Arrival) (d : List ℕ) (b : IsBytes d) (h : ℕ) (values r s : List ℕ) (i : ℕ) (between cs : List Call)
-    → placeRefusal amd64 d h values (length r) (length s) ≡ 0 → Connects kcb k v d b between → kcb .variadic d ≡ true → All (Spares i) cs
-    → All (Serves kcb i (placedImages d h values r s)) cs → Along kcb (Stays kcb) (opened kcb k v d b between i) cs → asks i cs ≡ unnamedQuestions kcb d
+    (k : Desk) (v : Arrival) (d : List ℕ) (b : IsBytes d) (h : ℕ) (values r y s : List ℕ) (i : ℕ) (between cs : List Call)
+    → placeRefusal amd64 d h values (length r) (length y) (length s) ≡ 0 → Connects kcb k v d b between → kcb .variadic d ≡ true → All (Spares i) cs
+    → All (Serves kcb i (placedImages d h values r y s)) cs → Along kcb (Stays kcb) (opened kcb k v d b between i) cs → asks i cs ≡ unnamedQuestions kcb d
     → (handed kcb i (opened kcb k v d b between i) cs ≡ unnamed kcb d values)
-    × Ended kcb i (calls kcb (opened kcb k v d b between i) cs) (placedImages d h values r s)
+    × Ended kcb i (calls kcb (opened kcb k v d b between i) cs) (placedImages d h values r y s)
 
 -- in any history whatever, detaches, changes and other modules included, what it hands back is a beginning of its own module's unnamed arguments, as long as
 -- the images are lent to the steps that are accepted before its module leaves
 abbrev pub NeverAnotherPlaced : Type 0
 NeverAnotherPlaced =
-    (k : Desk) (v : Arrival) (d : List ℕ) (b : IsBytes d) (h : ℕ) (values r s : List ℕ) (i : ℕ) (between cs : List Call)
-    → placeRefusal amd64 d h values (length r) (length s) ≡ 0 → Connects kcb k v d b between → kcb .variadic d ≡ true → All (Spares i) cs
-    → Until kcb (Served kcb i (placedImages d h values r s)) (opened kcb k v d b between i) cs
+    (k : Desk) (v : Arrival) (d : List ℕ) (b : IsBytes d) (h : ℕ) (values r y s : List ℕ) (i : ℕ) (between cs : List Call)
+    → placeRefusal amd64 d h values (length r) (length y) (length s) ≡ 0 → Connects kcb k v d b between → kcb .variadic d ≡ true → All (Spares i) cs
+    → Until kcb (Served kcb i (placedImages d h values r y s)) (opened kcb k v d b between i) cs
     → handed kcb i (opened kcb k v d b between i) cs ≡ take (length (handed kcb i (opened kcb k v d b between i) cs)) (unnamed kcb d values)
 
 pub record C8-HandsBack : Type 0 where
   -- the images that `place_values` leaves are those that condition C speaks of
-  pub placed-for : (d : List ℕ) (h : ℕ) (values r s : List ℕ) → placeRefusal amd64 d h values (length r) (length s) ≡ 0
-      → placedImages d h values r s ≡ imagesFor kcb d (littleEndian 8 h) values
+  pub placed-for : (d : List ℕ) (h : ℕ) (values r y s : List ℕ) → placeRefusal amd64 d h values (length r) (length y) (length s) ≡ 0
+      → placedImages d h values r y s ≡ imagesFor kcb d (littleEndian 8 h) values
   pub hands-back : HandsBackPlaced
   pub never-another : NeverAnotherPlaced
   -- what is answered next after any questions, right or wrong; the first m arguments alone; a record of any making; values cut into arguments

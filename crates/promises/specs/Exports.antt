@@ -20,6 +20,7 @@ use Rattle.types.specs.Size.{sizeTy, alignTy}
 use Rattle.types.specs.Decode.{tyAt}
 use Rattle.types.specs.declared.Extent.{Extent}
 use Rattle.classes.specs.declared.Class.{Class}
+use Rattle.classify.specs.Classify.{classesOf}
 use Rattle.layout.specs.declared.Layout.{Layout as Whole}
 use Rattle.layout.specs.Arguments.{hidden, usedAt, returnPlace}
 use Rattle.layout.specs.Layout.{layoutOf}
@@ -45,7 +46,7 @@ use Rattle.flat.specs.declared.Gathered.{Gathered}
 use Rattle.flat.specs.declared.Station.{Station}
 use Rattle.flat.specs.declared.Walk.{Walk}
 use Rattle.flat.specs.Numbers.{classMeant}
-use Rattle.flat.specs.Meanings.{placementMeant, layoutMeant}
+use Rattle.flat.specs.Meanings.{placementMeant, layoutMeant, summaryOf}
 use Rattle.flat.specs.Parts.{nowhere}
 use Rattle.flat.specs.Stations.{stationMeant, walkMeant}
 use Rattle.histories.specs.Calls.{Desk, Call, attaching, detaching, changing, opening, stepping, showing, numbering, writing, calls, answers}
@@ -69,10 +70,10 @@ use Rattle.callbridge.proofs.cb_change
 use Rattle.callbridge.proofs.cb_open_walk
 use Rattle.callbridge.proofs.cb_step
 use Rattle.callbridge.proofs.cb_show
-use Rattle.promises.specs.Meaning.{outcome, ofRefusal, Members, run, none, Part as Shown, inRegisters, inStack, apart, shownPart, Answered}
+use Rattle.promises.specs.Meaning.{outcome, ofRefusal, classList, Members, run, none, Part as Shown, inRegisters, inStack, apart, shownPart, Answered}
 use Rattle.promises.specs.Orders.{questionOrder, offsetsOrder, checkOrder, layoutOrder, placeOrder, gatherOrder, putOrder, takeOrder, attachOrder, detachOrder, openOrder, stepOrder, showOrder, changeOrder}
 use Rattle.promises.specs.WrongType.{Names}
-use Rattle.promises.specs.Demand1.{members, classPair}
+use Rattle.promises.specs.Demand1.{members}
 use Rattle.promises.specs.Demand2.{MembersLie}
 use Rattle.promises.specs.Calls.{Ensures}
 
@@ -96,8 +97,8 @@ pub record GivesPart {X : Type 0} (read : Part → X) (d : List ℕ) (rules : Li
 abbrev pub extentRead : Extent → ℕ × ℕ
 extentRead e = (e .size .0, e .align .0)
 
-abbrev pub classesRead : Classes → Class × Class
-classesRead k = (classMeant (k .first), classMeant (k .second))
+abbrev pub classesRead : Classes → List Class
+classesRead k = classList (classMeant (k .first)) (classMeant (k .second)) (classMeant (k .third)) (classMeant (k .fourth))
 
 -- CB_DESCRIPTION: a run of members
 abbrev pub membersRead : Part → Members
@@ -131,7 +132,7 @@ pub record OffsetsFlat (d : List ℕ) (t : ℕ) (list : List ℕ) (r : Refusal) 
 
 -- cb_lay_out: "Entries past A stay", and a refused list stays
 pub record LaysOutFlat (d : List ℕ) (old : Layout) (list : List Placement) (r : Refusal) (new : Layout) (after : List Placement) : Type 0 where
-  pub summary : Fills layoutRead d (layoutOrder d (length list)) (layoutOf d, argumentsIn d) old r new
+  pub summary : Fills layoutRead d (layoutOrder d (length list)) (summaryOf (layoutOf d), argumentsIn d) old r new
   pub refused : r .number ≢ 0 → after ≡ list
   pub below : r .number ≡ 0 → (i : ℕ) (x : Placement) → i < argumentsIn d → placementMeant (getD after i x) ≡ placementAt d i
   pub past : r .number ≡ 0 → (i : ℕ) (x : Placement) → argumentsIn d ≤ i → getD after i x ≡ getD list i x
@@ -142,27 +143,28 @@ pub record Lists (d out : List ℕ) (n : ℕ) (after : List ℕ) : Type 0 where
   pub text : after ≡ listing d ++ drop (length (listing d)) out
 
 -- cb_place_values, cb_gather_values
-pub record PlacesFlat (d : List ℕ) (h : ℕ) (values registers stack : List ℕ) (old : Placed) (r : Refusal) (new : Placed) (q s : List ℕ) : Type 0 where
-  pub count : Fills (λ (p : Placed). p .vector .0) d (placeOrder d h values (length registers) (length stack)) (usedAt d (argumentsIn d) .vector .0) old r new
-  pub refused : r .number ≢ 0 → (q ≡ registers) × (s ≡ stack)
-  pub placed : r .number ≡ 0 → IsImage (frameOf d) h values (q ++ s)
+pub record PlacesFlat (d : List ℕ) (h : ℕ) (values registers upper stack : List ℕ) (old : Placed) (r : Refusal) (new : Placed) (q y s : List ℕ) : Type 0 where
+  pub count : Fills (λ (p : Placed). p .vector .0) d (placeOrder d h values (length registers) (length upper) (length stack)) (usedAt d (argumentsIn d) .vector .0) old r new
+  pub refused : r .number ≢ 0 → (q ≡ registers) × (y ≡ upper) × (s ≡ stack)
+  pub placed : r .number ≡ 0 → IsImage (frameOf d) h values (q ++ (y ++ s))
 
-pub record GathersFlat (d registers stack values : List ℕ) (old : Gathered) (r : Refusal) (new : Gathered) (v : List ℕ) : Type 0 where
-  pub address : Fills (λ (g : Gathered). g .hidden) d (gatherOrder d (length values) (length registers) (length stack)) (ownAddress (frameOf d) (registers ++ stack)) old r new
+pub record GathersFlat (d registers upper stack values : List ℕ) (old : Gathered) (r : Refusal) (new : Gathered) (v : List ℕ) : Type 0 where
+  pub address : Fills (λ (g : Gathered). g .hidden) d (gatherOrder d (length values) (length registers) (length upper) (length stack))
+      (ownAddress (frameOf d) (registers ++ (upper ++ stack))) old r new
   pub refused : r .number ≢ 0 → v ≡ values
-  pub gathered : r .number ≡ 0 → v ≡ gather (registers ++ stack) (addressesOf d)
+  pub gathered : r .number ≡ 0 → v ≡ gather (registers ++ (upper ++ stack)) (addressesOf d)
 
 -- cb_put_returned, cb_take_returned
-pub record PutsFlat (d : List ℕ) (h : ℕ) (value image : List ℕ) (r : Refusal) (after : List ℕ) : Type 0 where
-  pub answered : Answered (ofRefusal r) (putOrder d h value (length image)) tt
+pub record PutsFlat (d : List ℕ) (h : ℕ) (value image upper : List ℕ) (r : Refusal) (i y : List ℕ) : Type 0 where
+  pub answered : Answered (ofRefusal r) (putOrder d h value (length image) (length upper)) tt
   pub names : Names d r
-  pub refused : r .number ≢ 0 → after ≡ image
-  pub put : r .number ≡ 0 → IsReturnImage (returnPlace d) h value after
+  pub refused : r .number ≢ 0 → (i ≡ image) × (y ≡ upper)
+  pub put : r .number ≡ 0 → IsReturnImage (returnPlace d) h value (i ++ y)
 
-pub record TakesFlat (d image value : List ℕ) (old : Gathered) (r : Refusal) (new : Gathered) (v : List ℕ) : Type 0 where
-  pub address : Fills (λ (g : Gathered). g .hidden) d (takeOrder d image (length value)) (returnedAddress (returnPlace d) image) old r new
+pub record TakesFlat (d image upper value : List ℕ) (old : Gathered) (r : Refusal) (new : Gathered) (v : List ℕ) : Type 0 where
+  pub address : Fills (λ (g : Gathered). g .hidden) d (takeOrder d image upper (length value)) (returnedAddress (returnPlace d) (image ++ upper)) old r new
   pub refused : r .number ≢ 0 → v ≡ value
-  pub taken : r .number ≡ 0 → v ≡ returnValue (returnPlace d) (length value) image
+  pub taken : r .number ≡ 0 → v ≡ returnValue (returnPlace d) (length value) (image ++ upper)
 
 -- cb_attach, cb_detach: a refusal leaves every byte of the station's record, whatever it means
 pub record AttachesFlat (old : Station) (seat d : List ℕ) (r : Refusal) (new : Station) (z : List ℕ) : Type 0 where
@@ -215,32 +217,33 @@ pub record ShowsFlat (s : Station) (seat : List ℕ) (w : Walk) (a : Ask) (r : R
 -- ---- and that it does
 
 pub record Exports : Type 2 where
-  pub version : Ensures cb_version.ended (λ M. cb_version.clauses {M = M}) (λ c r w. r ≡ 3)
+  pub version : Ensures cb_version.ended (λ M. cb_version.clauses {M = M}) (λ c r w. r ≡ 4)
   pub check : Ensures cb_check.ended (λ M. cb_check.clauses {M = M}) (λ c r w. Checks (now (c .passed .0)) r)
   pub type-extent : Ensures cb_type_extent.ended (λ M. cb_type_extent.clauses {M = M})
       (λ c r w. Fills extentRead (now (c .passed .0)) (questionOrder (now (c .passed .0)) (c .passed .1 .0))
       (sizeTy (modelIn (now (c .passed .0))) (tyAt (now (c .passed .0)) (c .passed .1 .0)), alignTy (modelIn (now (c .passed .0))) (tyAt (now (c .passed .0)) (c .passed .1 .0))) (now (c .passed .1 .1 .0)) r (w .1 .1 .0))
   pub type-classes : Ensures cb_type_classes.ended (λ M. cb_type_classes.clauses {M = M})
-      (λ c r w. Fills classesRead (now (c .passed .0)) (questionOrder (now (c .passed .0)) (c .passed .1 .0)) (classPair (now (c .passed .0)) (c .passed .1 .0))
+      (λ c r w. Fills classesRead (now (c .passed .0)) (questionOrder (now (c .passed .0)) (c .passed .1 .0)) (classesOf (modelIn (now (c .passed .0))) (tyAt (now (c .passed .0)) (c .passed .1 .0)))
       (now (c .passed .1 .1 .0)) r (w .1 .1 .0))
   pub member-run : Ensures cb_member_run.ended (λ M. cb_member_run.clauses {M = M})
       (λ c r w. GivesPart membersRead (now (c .passed .0)) (questionOrder (now (c .passed .0)) (c .passed .1 .0)) (members (now (c .passed .0)) (c .passed .1 .0)) r (w .1 .1 .0))
   pub member-offsets : Ensures cb_member_offsets.ended (λ M. cb_member_offsets.clauses {M = M})
       (λ c r w. OffsetsFlat (now (c .passed .0)) (c .passed .1 .0) (now (c .passed .1 .1 .0)) r (w .1 .1 .0))
   pub layout-of : Ensures cb_layout_of.ended (λ M. cb_layout_of.clauses {M = M})
-      (λ c r w. Fills layoutRead (now (c .passed .0)) (checkOrder (now (c .passed .0))) (layoutOf (now (c .passed .0)), argumentsIn (now (c .passed .0))) (now (c .passed .1 .0)) r (w .1 .0))
+      (λ c r w. Fills layoutRead (now (c .passed .0)) (checkOrder (now (c .passed .0))) (summaryOf (layoutOf (now (c .passed .0))), argumentsIn (now (c .passed .0))) (now (c .passed .1 .0)) r (w .1 .0))
   pub lay-out : Ensures cb_lay_out.ended (λ M. cb_lay_out.clauses {M = M})
       (λ c r w. LaysOutFlat (now (c .passed .0)) (now (c .passed .1 .0)) (now (c .passed .1 .1 .0)) r (w .1 .0) (w .1 .1 .0))
   pub write-listing : Ensures cb_write_listing.ended (λ M. cb_write_listing.clauses {M = M}) (λ c r w. Lists (now (c .passed .0)) (now (c .passed .1 .0)) r (w .1 .0))
   pub place-values : Ensures cb_place_values.ended (λ M. cb_place_values.clauses {M = M})
       (λ c r w. PlacesFlat (now (c .passed .0)) (c .passed .1 .0) (now (c .passed .1 .1 .0)) (now (c .passed .1 .1 .1 .0)) (now (c .passed .1 .1 .1 .1 .0)) (now (c .passed .1 .1 .1 .1 .1 .0))
-      r (w .1 .1 .1 .1 .1 .0) (w .1 .1 .1 .0) (w .1 .1 .1 .1 .0))
+      (now (c .passed .1 .1 .1 .1 .1 .1 .0)) r (w .1 .1 .1 .1 .1 .1 .0) (w .1 .1 .1 .0) (w .1 .1 .1 .1 .0) (w .1 .1 .1 .1 .1 .0))
   pub gather-values : Ensures cb_gather_values.ended (λ M. cb_gather_values.clauses {M = M})
-      (λ c r w. GathersFlat (now (c .passed .0)) (now (c .passed .1 .0)) (now (c .passed .1 .1 .0)) (now (c .passed .1 .1 .1 .0)) (now (c .passed .1 .1 .1 .1 .0)) r (w .1 .1 .1 .1 .0) (w .1 .1 .1 .0))
+      (λ c r w. GathersFlat (now (c .passed .0)) (now (c .passed .1 .0)) (now (c .passed .1 .1 .0)) (now (c .passed .1 .1 .1 .0)) (now (c .passed .1 .1 .1 .1 .0)) (now (c .passed .1 .1 .1 .1 .1 .0))
+      r (w .1 .1 .1 .1 .1 .0) (w .1 .1 .1 .1 .0))
   pub put-returned : Ensures cb_put_returned.ended (λ M. cb_put_returned.clauses {M = M})
-      (λ c r w. PutsFlat (now (c .passed .0)) (c .passed .1 .0) (now (c .passed .1 .1 .0)) (now (c .passed .1 .1 .1 .0)) r (w .1 .1 .1 .0))
+      (λ c r w. PutsFlat (now (c .passed .0)) (c .passed .1 .0) (now (c .passed .1 .1 .0)) (now (c .passed .1 .1 .1 .0)) (now (c .passed .1 .1 .1 .1 .0)) r (w .1 .1 .1 .0) (w .1 .1 .1 .1 .0))
   pub take-returned : Ensures cb_take_returned.ended (λ M. cb_take_returned.clauses {M = M})
-      (λ c r w. TakesFlat (now (c .passed .0)) (now (c .passed .1 .0)) (now (c .passed .1 .1 .0)) (now (c .passed .1 .1 .1 .0)) r (w .1 .1 .1 .0) (w .1 .1 .0))
+      (λ c r w. TakesFlat (now (c .passed .0)) (now (c .passed .1 .0)) (now (c .passed .1 .1 .0)) (now (c .passed .1 .1 .1 .0)) (now (c .passed .1 .1 .1 .1 .0)) r (w .1 .1 .1 .1 .0) (w .1 .1 .1 .0))
   pub new-station : Ensures cb_new_station.ended (λ M. cb_new_station.clauses {M = M}) (λ c r w. stationMeant r ≡ newStation)
   pub attach : Ensures cb_attach.ended (λ M. cb_attach.clauses {M = M})
       (λ c r w. AttachesFlat (now (c .passed .0)) (now (c .passed .1 .0)) (now (c .passed .1 .1 .0)) r (w .0) (w .1 .0))
@@ -262,8 +265,9 @@ pub record Exports : Type 2 where
 pub record Back (c : Made cb_place_values.ended) (w : Lasts cb_place_values.ended (c .lifetimes) (c .passed)) (e : Made cb_gather_values.ended) : Type 0 where
   pub description : now (e .passed .0) ≡ now (c .passed .0)
   pub registers : now (e .passed .1 .0) ≡ w .1 .1 .1 .0
-  pub stack : now (e .passed .1 .1 .0) ≡ w .1 .1 .1 .1 .0
-  pub values : length (now (e .passed .1 .1 .1 .0)) ≡ length (now (c .passed .1 .1 .0))
+  pub upper : now (e .passed .1 .1 .0) ≡ w .1 .1 .1 .1 .0
+  pub stack : now (e .passed .1 .1 .1 .0) ≡ w .1 .1 .1 .1 .1 .0
+  pub values : length (now (e .passed .1 .1 .1 .1 .0)) ≡ length (now (c .passed .1 .1 .0))
 
 -- B9, "Values placed and gathered back are the same bytes"
 abbrev pub GathersBack : Type 2
@@ -272,22 +276,23 @@ GathersBack =
     → Admits cb_place_values.ended (λ M. cb_place_values.clauses {M = M}) c r w → r .number ≡ 0 → c .passed .1 .0 < 2 ^ 64
     → (e : Made cb_gather_values.ended) (q : Res (cb_gather_values.ended .signature) (e .lifetimes)) (v : Lasts cb_gather_values.ended (e .lifetimes) (e .passed))
     → Admits cb_gather_values.ended (λ M. cb_gather_values.clauses {M = M}) e q v → Back c w e
-    → (q .number ≡ 0) × ((v .1 .1 .1 .1 .0 .hidden ≡ cond (hidden (now (c .passed .0))) (c .passed .1 .0) 0) × (v .1 .1 .1 .0 ≡ now (c .passed .1 .1 .0)))
+    → (q .number ≡ 0) × ((v .1 .1 .1 .1 .1 .0 .hidden ≡ cond (hidden (now (c .passed .0))) (c .passed .1 .0) 0) × (v .1 .1 .1 .1 .0 ≡ now (c .passed .1 .1 .0)))
 
--- C4, "different lists never give the same register and stack images": two accepted calls of placing with one description and one hidden address
+-- C4, "different lists never give the same register and stack images", nor the same with the upper image among them: two accepted calls of placing with one description and one hidden address
 abbrev pub NeverTheSame : Type 2
 NeverTheSame =
     (c e : Made cb_place_values.ended) (r : Res (cb_place_values.ended .signature) (c .lifetimes)) (w : Lasts cb_place_values.ended (c .lifetimes) (c .passed))
     (q : Res (cb_place_values.ended .signature) (e .lifetimes)) (v : Lasts cb_place_values.ended (e .lifetimes) (e .passed))
     → Admits cb_place_values.ended (λ M. cb_place_values.clauses {M = M}) c r w → Admits cb_place_values.ended (λ M. cb_place_values.clauses {M = M}) e q v
     → r .number ≡ 0 → q .number ≡ 0 → now (e .passed .0) ≡ now (c .passed .0) → e .passed .1 .0 ≡ c .passed .1 .0
-    → w .1 .1 .1 .0 ≡ v .1 .1 .1 .0 → w .1 .1 .1 .1 .0 ≡ v .1 .1 .1 .1 .0 → now (c .passed .1 .1 .0) ≡ now (e .passed .1 .1 .0)
+    → w .1 .1 .1 .0 ≡ v .1 .1 .1 .0 → w .1 .1 .1 .1 .0 ≡ v .1 .1 .1 .1 .0 → w .1 .1 .1 .1 .1 .0 ≡ v .1 .1 .1 .1 .1 .0 → now (c .passed .1 .1 .0) ≡ now (e .passed .1 .1 .0)
 
--- request 2026-02, "Putting then taking gives the same value, those six bytes apart": an accepted putting, and a taking from the image that it left
+-- request 2026-02, "Putting then taking gives the same value, those six bytes apart": an accepted putting, and a taking from the images that it left
 pub record TakenBack (c : Made cb_put_returned.ended) (w : Lasts cb_put_returned.ended (c .lifetimes) (c .passed)) (e : Made cb_take_returned.ended) : Type 0 where
   pub description : now (e .passed .0) ≡ now (c .passed .0)
   pub image : now (e .passed .1 .0) ≡ w .1 .1 .1 .0
-  pub value : length (now (e .passed .1 .1 .0)) ≡ length (now (c .passed .1 .1 .0))
+  pub upper : now (e .passed .1 .1 .0) ≡ w .1 .1 .1 .1 .0
+  pub value : length (now (e .passed .1 .1 .1 .0)) ≡ length (now (c .passed .1 .1 .0))
 
 abbrev pub TakesBack : Type 2
 TakesBack =
@@ -296,7 +301,7 @@ TakesBack =
     → (e : Made cb_take_returned.ended) (q : Res (cb_take_returned.ended .signature) (e .lifetimes)) (v : Lasts cb_take_returned.ended (e .lifetimes) (e .passed))
     → Admits cb_take_returned.ended (λ M. cb_take_returned.clauses {M = M}) e q v → TakenBack c w e
     → (q .number ≡ 0)
-    × ((v .1 .1 .1 .0 .hidden ≡ cond (inMemory (returnPlace (now (c .passed .0)))) (c .passed .1 .0) 0) × (v .1 .1 .0 ≡ trimmed (returnPlace (now (c .passed .0))) (now (c .passed .1 .1 .0))))
+    × ((v .1 .1 .1 .1 .0 .hidden ≡ cond (inMemory (returnPlace (now (c .passed .0)))) (c .passed .1 .0) 0) × (v .1 .1 .1 .0 ≡ trimmed (returnPlace (now (c .passed .0))) (now (c .passed .1 .1 .0))))
 
 -- ---- a history of calls
 

@@ -2,7 +2,8 @@
 -- promises use that definition". Assumes nothing: these are definitions.
 use mathlib.Core.Path.{_≡_}
 use mathlib.Core.Logic.{_↔_, _≢_}
-use mathlib.Core.List.{List}
+use mathlib.Core.Bool.{cond}
+use mathlib.Core.List.{List, [], _∷_}
 use Prim.Native.Nat.{ℕ, zero, suc}
 use Rattle.description.specs.declared.Header.{Header}
 use Rattle.form.specs.declared.Refusal.{Refusal}
@@ -10,6 +11,8 @@ use Rattle.form.specs.declared.Reading.{Reading}
 use Rattle.form.specs.declared.Reading.the-variants.{Accepted, Refused as NotRead}
 use Rattle.form.specs.Order.{Rule, NoneHolds, Answers}
 use Rattle.classes.specs.declared.Class.{Class}
+use Rattle.classes.specs.declared.Class.the-variants.{NoClass}
+use Rattle.classes.specs.Classes.{same}
 use Rattle.questions.specs.declared.ExtentAnswer.{ExtentAnswer}
 use Rattle.questions.specs.declared.ExtentAnswer.the-variants.{Known, Refused as NoExtent}
 use Rattle.questions.specs.declared.SizeAnswer.{SizeAnswer}
@@ -78,9 +81,12 @@ abbrev pub ofAlign : AlignAnswer → Meaning ℕ
 ofAlign (Align n) = accepted (n .0)
 ofAlign (NoAlign r) = refused (r .number)
 
--- the first and the second class
-abbrev pub ofClasses : ClassesAnswer → Meaning (Class × Class)
-ofClasses (Classes a b) = accepted (a, b)
+-- two classes, or, request 2026-06, four: those of two eightbytes have NO_CLASS third
+abbrev pub classList : Class → Class → Class → Class → List Class
+classList a b c e = cond (same c NoClass) (a ∷ b ∷ []) (a ∷ b ∷ c ∷ e ∷ [])
+
+abbrev pub ofClasses : ClassesAnswer → Meaning (List Class)
+ofClasses (Classes a b c e) = accepted (classList a b c e)
 ofClasses (NoClasses r) = refused (r .number)
 
 -- where the run begins in the description, and how many members it has; a type of another kind has none
@@ -93,7 +99,7 @@ ofRun (Run o n) = accepted (run (o .0) n)
 ofRun NoRun = accepted none
 ofRun (NotRun r) = refused (r .number)
 
--- registers used, vector registers used, area, length of the values, return place, hidden address or not, and where a walk starts
+-- registers used, vector registers used, area and its alignment, length of the values, return place, hidden address or not, and where a walk starts
 abbrev pub ofLayout : LayoutAnswer → Meaning Layout
 ofLayout (Laid l) = accepted l
 ofLayout (NotLaid r) = refused (r .number)

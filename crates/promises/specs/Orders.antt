@@ -60,22 +60,23 @@ abbrev pub layoutOrder : List ℕ → ℕ → List Rule
 layoutOrder d room = checkOrder d ++ rule 11 (shortList d room) ∷ []
 
 -- "Placing and gathering: 1..10, 11, then 12 (placing only)", by the lengths of values and images; request 2026-11: "27, after 11 in placing and putting",
--- and so before 12
-abbrev pub gatherOrder : List ℕ → ℕ → ℕ → ℕ → List Rule
-gatherOrder d valuesLength registersLength stackLength = checkOrder d ++ rule 11 (wrongLengths (layoutOf d) valuesLength registersLength stackLength) ∷ []
+-- and so before 12; request 2026-06: "11 covers the new image"
+abbrev pub gatherOrder : List ℕ → ℕ → ℕ → ℕ → ℕ → List Rule
+gatherOrder d valuesLength registersLength upperLength stackLength =
+    checkOrder d ++ rule 11 (wrongLengths (layoutOf d) valuesLength registersLength upperLength stackLength) ∷ []
 
-abbrev pub placeOrder : List ℕ → ℕ → List ℕ → ℕ → ℕ → List Rule
-placeOrder d h values registersLength stackLength =
-    checkOrder d ++ rule 11 (wrongLengths (layoutOf d) (length values) registersLength stackLength)
+abbrev pub placeOrder : List ℕ → ℕ → List ℕ → ℕ → ℕ → ℕ → List Rule
+placeOrder d h values registersLength upperLength stackLength =
+    checkOrder d ++ rule 11 (wrongLengths (layoutOf d) (length values) registersLength upperLength stackLength)
     ∷ rule 27 (wrongAddress (modelIn d) (hidden d) h) ∷ rule 12 (wrongBool amd64 d values) ∷ []
 
 -- request 2026-02: "after 1..10, 11 for lengths .., then 12 for a returned _Bool byte not 0 or 1, in putting only"
-abbrev pub takeOrder : List ℕ → List ℕ → ℕ → List Rule
-takeOrder d image valueLength = checkOrder d ++ rule 11 (wrongReturnLengths (returnLength d) valueLength (length image)) ∷ []
+abbrev pub takeOrder : List ℕ → List ℕ → List ℕ → ℕ → List Rule
+takeOrder d image upper valueLength = checkOrder d ++ rule 11 (wrongReturnLengths (returnLength d) valueLength (length image) (length upper)) ∷ []
 
-abbrev pub putOrder : List ℕ → ℕ → List ℕ → ℕ → List Rule
-putOrder d h value imageLength =
-    checkOrder d ++ rule 11 (wrongReturnLengths (returnLength d) (length value) imageLength)
+abbrev pub putOrder : List ℕ → ℕ → List ℕ → ℕ → ℕ → List Rule
+putOrder d h value imageLength upperLength =
+    checkOrder d ++ rule 11 (wrongReturnLengths (returnLength d) (length value) imageLength upperLength)
     ∷ rule 27 (wrongAddress (modelIn d) (hidden d) h) ∷ rule 12 (wrongReturnedBool d value) ∷ []
 
 -- request 2026-03: "after 10, 29 where the separate runs need over 255 members, then 11 where the lent out buffer is not of the tidy length"; the question for that

@@ -59,10 +59,12 @@ fn print_align(d: &[u8], t: u8) {
 
 fn print_classes(d: &[u8], t: u8) {
     match questions::type_classes(d, t) {
-        ClassesAnswer::Classes(first, second) => {
+        ClassesAnswer::Classes(first, second, third, fourth) => {
             print(b" classes");
             print_class(first);
             print_class(second);
+            print_class(third);
+            print_class(fourth);
         }
         ClassesAnswer::Refused(refusal) => print_refusal(refusal),
     }

@@ -153,7 +153,7 @@ module _ (d : List ℕ) (k a n : ℕ) (u : Bool) where
     member-known = omega (arith, member-low d k (a + i) (n - i) x 1 (b .run) (omega arith) t et, b .run .sized .known)
 
   module _ (i x : ℕ) (b : Before d k a n u i x) (less : i < n) (t : ℕ) (et : t ≡ memberAt d (a + i)) (e : Extent) (ee : IsExtent (modelIn d) (tyAt d t) e) where
-    pub offset-asks : (x ≤ 2 ^ 32) × ((0 < e .align .0) × (e .align .0 ≤ 16))
+    pub offset-asks : (x ≤ 2 ^ 32) × ((0 < e .align .0) × (e .align .0 ≤ 32))
     offset-asks =
         let q = member-asks d k (a + i) (n - i) x 1 (b .run) (omega arith) t et e ee in
         (omega (arith, q .0), q .1 .1)

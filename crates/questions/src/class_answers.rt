@@ -1,6 +1,7 @@
 // The classes of a type (document 01, "A question about one type").
 use crate::ClassesAnswer;
 use crate::refusals;
+use classes::Class;
 ghost use mathlib.Core.Path.{_≡_};
 ghost use Rattle.questions.specs.Runs.{classesAnswer};
 
@@ -14,8 +15,12 @@ pub fn type_classes(d: &[u8], t: u8) -> ClassesAnswer
         return ClassesAnswer::Refused(types::refusal_for(d, number));
     }
     classify::fill_classes(d, &mut table);
-    let classes = classify::classes_in(&table, t as usize);
+    let k = t as usize;
+    if classify::is_wide(&table, k) {
+        return ClassesAnswer::Classes(Class::Sse, Class::SseUp, Class::SseUp, Class::SseUp);
+    }
+    let classes = classify::classes_in(&table, k);
     let first = classes[0];
     let second = classes[1];
-    ClassesAnswer::Classes(first, second)
+    ClassesAnswer::Classes(first, second, Class::NoClass, Class::NoClass)
 }

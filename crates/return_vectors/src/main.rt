@@ -1,4 +1,4 @@
-// Puts and takes what stands in tests/vectors/returns.in, four lines for each record; returns.out has what an independent reading of
+// Puts and takes what stands in tests/vectors/returns.in, five lines for each record; returns.out has what an independent reading of
 // the rules answers.
 use form::Refusal;
 use libc::STDIN_FILENO;
@@ -70,15 +70,16 @@ fn fill(out: &mut [u8]) {
     }
 }
 
-// Puts, and takes from the image as it is then, whether or not putting was refused.
-fn answer(d: &[u8], hidden: u64, value: &[u8], image: &mut [u8], out: &mut [u8]) {
-    match returning::put_returned(d, hidden, value, image) {
+// Puts, and takes from the images as they are then, whether or not putting was refused.
+fn answer(d: &[u8], hidden: u64, value: &[u8], image: &mut [u8], upper: &mut [u8], out: &mut [u8]) {
+    match returning::put_returned(d, hidden, value, image, upper) {
         PutAnswer::Put => print(b"put\n"),
         PutAnswer::Refused(refusal) => print_refusal(refusal),
     }
     print_bytes(b"image", image);
+    print_bytes(b"upper", upper);
     fill(out);
-    match returning::take_returned(d, image, out) {
+    match returning::take_returned(d, image, upper, out) {
         TakeAnswer::Taken(address) => print_number(b"taken ", address),
         TakeAnswer::Refused(refusal) => print_refusal(refusal),
     }
@@ -138,13 +139,22 @@ fn read_room(room: usize) -> usize
     n
 }
 
-// The image and the room for taking, and the answers.
-fn answer_image(d: &[u8], hidden: u64, value: &[u8]) {
+// The two images and the room for taking, and the answers.
+fn answer_images(d: &[u8], hidden: u64, value: &[u8]) {
     let mut image = io::large_buffer();
+    let mut upper = io::large_buffer();
     let mut out = io::large_buffer();
     let n = read_sized(&mut image);
+    let u = read_sized(&mut upper);
     let v = read_room(65536);
-    answer(d, hidden, value, &mut image[..n], &mut out[..v]);
+    answer(
+        d,
+        hidden,
+        value,
+        &mut image[..n],
+        &mut upper[..u],
+        &mut out[..v],
+    );
 }
 
 // The hidden address and the value, and what follows them.
@@ -153,7 +163,7 @@ fn answer_value(d: &[u8]) {
     let mut value = io::large_buffer();
     io::read_full(STDIN_FILENO, &mut address);
     let n = read_sized(&mut value);
-    answer_image(d, images::address_in(&address), &value[..n]);
+    answer_images(d, images::address_in(&address), &value[..n]);
 }
 
 // One record; false at the end of the input.

@@ -15,9 +15,9 @@ use Rattle.types.specs.Size.{sizeTy}
 use Rattle.types.specs.Filled.{Filled}
 use Rattle.classify.specs.Classify.{classesOf}
 use Rattle.places.specs.declared.Kind.{Kind}
-use Rattle.places.specs.declared.Kind.the-variants.{General as general, Vector as vector, Upper as upper}
+use Rattle.places.specs.declared.Kind.the-variants.{General as general, Vector as vector, Upper as upper, Wide as wide}
 use Rattle.places.specs.declared.ReturnPlace.{ReturnPlace}
-use Rattle.places.specs.Shapes.{kindsOf, shapeOf, some?, Led}
+use Rattle.places.specs.Shapes.{kindsOf, kindsFor, shapeOf, some?, wide?, widths, Led}
 use Rattle.places.specs.Returns.{outside, returnBy, returnOf}
 use Rattle.places.proofs.Guaranteed.{shape-shaped}
 use Rattle.returning.specs.Image.{lengthFor}
@@ -38,34 +38,39 @@ outside-suits X87Up size x y = refl
 outside-suits ComplexX87 size x y = y refl
 outside-suits Memory size x y = refl
 
--- the registers of one or two eightbytes
-kinds-suit : (ks : List Kind) (c : Class) (size : ℕ) → Led false ks → length ks ≤ 2 → (some? ks ≡ true → (size ≤ 8 * length ks) × (8 * length ks < size + 8))
+-- the registers of one or two eightbytes, or xmm0 alone
+kinds-suit : (ks : List Kind) (c : Class) (size : ℕ) → Led false ks → length ks ≤ 2 → (wide? ks ≡ true → length ks ≤ 1)
+    → (some? ks ≡ true → (size ≤ 8 * widths ks) × (8 * widths ks < size + 8))
     → Suits (outside c) size → Suits (returnBy ks c) size
 unfolding Returnable
-kinds-suit [] c size led few room out = out
-kinds-suit (general ∷ []) c size led few room out = (omega arith, omega (arith, room refl))
-kinds-suit (vector ∷ []) c size led few room out = (omega arith, omega (arith, room refl))
-kinds-suit (upper ∷ ks) c size led few room out = absurd led
-kinds-suit (general ∷ general ∷ []) c size led few room out =
+kinds-suit [] c size led few lone room out = out
+kinds-suit (general ∷ []) c size led few lone room out = (omega arith, omega (arith, room refl))
+kinds-suit (vector ∷ []) c size led few lone room out = (omega arith, omega (arith, room refl))
+kinds-suit (wide ∷ []) c size led few lone room out = (omega arith, (omega (arith, room refl), omega (arith, room refl)))
+kinds-suit (upper ∷ ks) c size led few lone room out = absurd led
+kinds-suit (general ∷ general ∷ []) c size led few lone room out =
     (omega arith, (omega arith, (inl (omega arith), (omega (arith, room refl), omega (arith, room refl)))))
-kinds-suit (general ∷ vector ∷ []) c size led few room out =
+kinds-suit (general ∷ vector ∷ []) c size led few lone room out =
     (omega arith, (omega arith, (inl (omega arith), (omega (arith, room refl), omega (arith, room refl)))))
-kinds-suit (general ∷ upper ∷ ks) c size led few room out = absurd led
-kinds-suit (vector ∷ general ∷ []) c size led few room out =
+kinds-suit (general ∷ upper ∷ ks) c size led few lone room out = absurd led
+kinds-suit (vector ∷ general ∷ []) c size led few lone room out =
     (omega arith, (omega arith, (inr (omega arith), (omega (arith, room refl), omega (arith, room refl)))))
-kinds-suit (vector ∷ vector ∷ []) c size led few room out =
+kinds-suit (vector ∷ vector ∷ []) c size led few lone room out =
     (omega arith, (omega arith, (inl (omega arith), (omega (arith, room refl), omega (arith, room refl)))))
-kinds-suit (vector ∷ upper ∷ []) c size led few room out =
+kinds-suit (vector ∷ upper ∷ []) c size led few lone room out =
     (omega arith, (omega arith, (inl (omega arith), (omega (arith, room refl), omega (arith, room refl)))))
-kinds-suit (general ∷ general ∷ l ∷ ks) c size led few room out = absurd (omega arith)
-kinds-suit (general ∷ vector ∷ l ∷ ks) c size led few room out = absurd (omega arith)
-kinds-suit (vector ∷ general ∷ l ∷ ks) c size led few room out = absurd (omega arith)
-kinds-suit (vector ∷ vector ∷ l ∷ ks) c size led few room out = absurd (omega arith)
-kinds-suit (vector ∷ upper ∷ l ∷ ks) c size led few room out = absurd (omega arith)
+kinds-suit (general ∷ wide ∷ ks) c size led few lone room out = absurd (omega (arith, lone refl))
+kinds-suit (vector ∷ wide ∷ ks) c size led few lone room out = absurd (omega (arith, lone refl))
+kinds-suit (wide ∷ k ∷ ks) c size led few lone room out = absurd (omega (arith, lone refl))
+kinds-suit (general ∷ general ∷ l ∷ ks) c size led few lone room out = absurd (omega arith)
+kinds-suit (general ∷ vector ∷ l ∷ ks) c size led few lone room out = absurd (omega arith)
+kinds-suit (vector ∷ general ∷ l ∷ ks) c size led few lone room out = absurd (omega arith)
+kinds-suit (vector ∷ vector ∷ l ∷ ks) c size led few lone room out = absurd (omega arith)
+kinds-suit (vector ∷ upper ∷ l ∷ ks) c size led few lone room out = absurd (omega arith)
 
 pub type-suits : (model : Model) (t : Ty) → Filled t → Suits (returnOf (classesOf model t)) (sizeTy model t)
-unfolding returnOf shapeOf
+unfolding returnOf shapeOf kindsFor
 type-suits model t f =
-    let s = shape-shaped model t f in
-    kinds-suit (kindsOf (classesOf model t)) (getD (classesOf model t) 0 NoClass) (sizeTy model t) (s .led) (s .few) (s .room)
+    let s = shape-shaped model true t f in
+    kinds-suit (kindsOf (classesOf model t)) (getD (classesOf model t) 0 NoClass) (sizeTy model t) (s .led) (s .few) (s .lone) (s .room)
     (outside-suits (getD (classesOf model t) 0 NoClass) (sizeTy model t) (x87-size model t f) (complex-size model t f))

@@ -11,21 +11,23 @@ use lib.Seq.{getD-append-add}
 use Rattle.addresses.specs.Addresses.{run, gather, scatter, AgreeOff}
 use Rattle.addresses.proofs.Scatter.{length-scatter, gather-scatter, scatter-gather, scatter-absent, gather-same}
 use Rattle.addresses.proofs.Runs.{all-run, run-append, gather-run, scatter-whole}
+use Rattle.places.specs.declared.Register.{Register}
+use Rattle.places.specs.declared.Register.the-variants.{General, Vector, Upper, Wide}
 use Rattle.places.specs.declared.ReturnPlace.{ReturnPlace}
 use Rattle.places.specs.declared.ReturnPlace.the-variants.{Void, Memory, One, Two, St0, St0St1}
 use Rattle.images.specs.Words.{littleEndian, number}
 use Rattle.images.proofs.Words.{number-of-bytes, bytes-of-number}
 use Rattle.images.proofs.Gathers.{getD-zeros, all-present, gather-at, all-gather}
-use Rattle.returning.specs.Moved.{partsOf, sources, targets}
+use Rattle.returning.specs.Moved.{partsIn, partsOf, sourcesIn, sources, targets}
 use Rattle.returning.specs.Image.{inMemory, rax, blankReturn, returnImage, returnValue, returnedAddress, trimmed}
-use Rattle.returning.specs.ImageAsks.{Returnable}
+use Rattle.returning.specs.ImageAsks.{Alone, Returnable}
 use Rattle.returning.specs.ImageStatements.{MovedOnce}
 use Rattle.returning.proofs.Room.{returnable-sound}
 use Rattle.returning.specs.Statements.{Unused, IsImage}
 
 -- ---- the blank image
 
-length-blank : (b : Bool) (h : ℕ) → length (blankReturn b h) ≡ 80
+length-blank : (b : Bool) (h : ℕ) → length (blankReturn b h) ≡ 96
 unfolding blankReturn
 length-blank true h = refl
 length-blank false h = refl
@@ -33,10 +35,10 @@ length-blank false h = refl
 -- zero wherever the hidden address is not
 blank-zero : (b : Bool) (h k : ℕ) → (b ≡ true → 8 ≤ k) → getD (blankReturn b h) k 0 ≡ 0
 unfolding blankReturn
-blank-zero false h k l = getD-zeros 80 k
+blank-zero false h k l = getD-zeros 96 k
 blank-zero true h k l =
     let q : k ≡ 8 + (k - 8) = omega (arith, l refl) in
-    ap (λ (j : ℕ). getD (littleEndian 8 h ++ replicate 72 0) j 0) q ∙ getD-append-add (littleEndian 8 h) (replicate 72 0) (k - 8) 0 ∙ getD-zeros 72 (k - 8)
+    ap (λ (j : ℕ). getD (littleEndian 8 h ++ replicate 88 0) j 0) q ∙ getD-append-add (littleEndian 8 h) (replicate 88 0) (k - 8) 0 ∙ getD-zeros 88 (k - 8)
 
 -- the hidden address where it is
 blank-rax : (h : ℕ) → gather (blankReturn true h) rax ≡ littleEndian 8 h
@@ -65,14 +67,23 @@ none-moved : (v : List ℕ) (n : ℕ) → length v ≡ n → n ≡ 0 → replica
 none-moved [] n l e = rw e
 none-moved (x ∷ v) n l e = absurd (omega arith)
 
+-- of a value in one register all is moved
+alone-moved : (a : Register) (n : ℕ) → Alone a n → (v : List ℕ) → length v ≡ n
+    → scatter (replicate n 0) (sourcesIn (partsIn a n)) (gather v (sourcesIn (partsIn a n))) ≡ v
+alone-moved (General k) n h v l = ap (λ (ps : List ℕ). scatter (replicate n 0) ps (gather v ps)) (append-nil (run 0 n)) ∙ whole-moved v n l
+alone-moved (Vector k) n h v l = ap (λ (ps : List ℕ). scatter (replicate n 0) ps (gather v ps)) (append-nil (run 0 n)) ∙ whole-moved v n l
+alone-moved (Upper k) n h v l = ap (λ (ps : List ℕ). scatter (replicate n 0) ps (gather v ps)) (append-nil (run 0 n)) ∙ whole-moved v n l
+alone-moved (Wide k) n h v l =
+    let e : 16 + (n - 16) ≡ n = omega (arith, h .1 .0) in
+    ap (λ (ps : List ℕ). scatter (replicate n 0) ps (gather v ps)) (sym (run-append 0 16 (n - 16)) ∙ ap (run 0) e) ∙ whole-moved v n l
+
 -- what is moved of a value, over zeros
 pub moved-trimmed : (place : ReturnPlace) (n : ℕ) → Returnable place n → (v : List ℕ) → length v ≡ n
     → scatter (replicate n 0) (sources place n) (gather v (sources place n)) ≡ trimmed place v
 unfolding Returnable sources partsOf
 moved-trimmed Void n h v l = none-moved v n l h
 moved-trimmed Memory n h v l = none-moved v n l h
-moved-trimmed (One a) n h v l =
-    ap (λ (ps : List ℕ). scatter (replicate n 0) ps (gather v ps)) (append-nil (run 0 n)) ∙ whole-moved v n l
+moved-trimmed (One a) n h v l = alone-moved a n h v l
 moved-trimmed (Two a b) n h v l =
     let e : 8 + (n - 8) ≡ n = omega (arith, h .1 .1 .1 .0) in
     ap (λ (ps : List ℕ). scatter (replicate n 0) ps (gather v ps)) (sym (run-append 0 8 (n - 8)) ∙ ap (run 0) e) ∙ whole-moved v n l
@@ -105,7 +116,7 @@ module _ (place : ReturnPlace) (n : ℕ) (fit : Returnable place n) where
   unfolding returnImage
   image-is h v l = ap (λ (m : ℕ). scatter (blankReturn (inMemory place) h) (targets place m) (gather v (sources place m))) l
 
-  pub length-image : (h : ℕ) (v : List ℕ) → length (returnImage place h v) ≡ 80
+  pub length-image : (h : ℕ) (v : List ℕ) → length (returnImage place h v) ≡ 96
   unfolding returnImage
   length-image h v = length-scatter (targets place (length v)) (blankReturn (inMemory place) h) (gather v (sources place (length v))) ∙ length-blank (inMemory place) h
 
@@ -168,7 +179,7 @@ module _ (place : ReturnPlace) (n : ℕ) (fit : Returnable place n) where
   }
 
   -- an image that agrees with the blank one wherever no value is
-  agree : (h : ℕ) (img : List ℕ) → length img ≡ 80 → (inMemory place ≡ true → gather img rax ≡ littleEndian 8 h)
+  agree : (h : ℕ) (img : List ℕ) → length img ≡ 96 → (inMemory place ≡ true → gather img rax ≡ littleEndian 8 h)
       → ((k : ℕ) → k < length img → Unused place n k → getD img k 0 ≡ 0) → AgreeOff (targets place n) (blankReturn (inMemory place) h) img
   agree h img e a z k l ab = by (decLt k 8) (inMemory place) refl
     where
@@ -181,14 +192,14 @@ module _ (place : ReturnPlace) (n : ℕ) (fit : Returnable place n) where
       by (yes m) true q = unfold blankReturn in rw q
           (sym (gather-at rax img k (omega arith) ∙ ap (λ (j : ℕ). getD img j 0) (run-at 0 8 k m ∙ zero-add k))
           ∙ ap (λ (x : List ℕ). getD x k 0) (a q)
-          ∙ sym (List·getD-append (littleEndian 8 h) (replicate 72 0) 0 k (omega arith)))
+          ∙ sym (List·getD-append (littleEndian 8 h) (replicate 88 0) 0 k (omega arith)))
         where
           run-at : (p m j : ℕ) → j < m → getD (run p m) j 0 ≡ p + j
           run-at p zero j g = absurd (omega arith)
           run-at p (suc m) zero g = omega arith
           run-at p (suc m) (suc j) g = run-at (suc p) m j (omega arith) ∙ omega arith
 
-  put-agrees : (h : ℕ) (v img : List ℕ) → length v ≡ n → gather v (sources place n) ≡ gather img (targets place n) → length img ≡ 80
+  put-agrees : (h : ℕ) (v img : List ℕ) → length v ≡ n → gather v (sources place n) ≡ gather img (targets place n) → length img ≡ 96
       → (inMemory place ≡ true → gather img rax ≡ littleEndian 8 h) → ((k : ℕ) → k < length img → Unused place n k → getD img k 0 ≡ 0)
       → returnImage place h v ≡ img
   put-agrees h v img l same e a z =
@@ -203,7 +214,7 @@ module _ (place : ReturnPlace) (n : ℕ) (fit : Returnable place n) where
       put-agrees h v img l (sym (j .0)) (i .long) (i .address) (λ k m u. j .1 k u)
 
   -- an image taken and put again
-  pub image-value : (h : ℕ) (img : List ℕ) → length img ≡ 80 → (inMemory place ≡ true → gather img rax ≡ littleEndian 8 h)
+  pub image-value : (h : ℕ) (img : List ℕ) → length img ≡ 96 → (inMemory place ≡ true → gather img rax ≡ littleEndian 8 h)
       → ((k : ℕ) → k < length img → Unused place n k → getD img k 0 ≡ 0) → returnImage place h (returnValue place n img) ≡ img
   image-value h img e a z = put-agrees h (returnValue place n img) img (length-value img) (value-moved img) e a z
 

@@ -26,110 +26,111 @@ use Rattle.layout.proofs.Verdict.{check-positive}
 module _ (d : List ℕ) where
   -- ---- the lengths
 
-  pub lent-right : (v i : ℕ) → Lent d v i → wrongLength (returnLength d) v i ≡ false
+  pub lent-right : (v i y : ℕ) → Lent d v i y → wrongLength (returnLength d) v i y ≡ false
   unfolding wrongLength
-  lent-right v i h = rw (eq-eqb v (returnLength d) (h .value), eq-eqb i 80 (h .image))
+  lent-right v i y h = rw (eq-eqb v (returnLength d) (h .value), eq-eqb i 80 (h .image), eq-eqb y 16 (h .upper))
 
-  pub right-lent : (v i : ℕ) → verdict d ≡ 0 → wrongLength (returnLength d) v i ≡ false → Lent d v i
+  pub right-lent : (v i y : ℕ) → verdict d ≡ 0 → wrongLength (returnLength d) v i y ≡ false → Lent d v i y
   unfolding wrongLength
-  right-lent v i a h =
+  right-lent v i y a h =
       let p = or-none _ _ h in
-      record { accepted = a; value = eqb-true _ _ (not-false _ (p .0)); image = eqb-true _ _ (not-false _ (p .1)) }
+      let q = or-none _ _ (p .1) in
+      record { accepted = a; value = eqb-true _ _ (not-false _ (p .0)); image = eqb-true _ _ (not-false _ (q .0)); upper = eqb-true _ _ (not-false _ (q .1)) }
 
   -- ---- taking
 
-  module _ (img : List ℕ) (v : ℕ) where
-    pub take-verdict : (verdict d ≡ 0 → ⊥) → takeRefusal d img v ≡ verdict d
+  module _ (img upper : List ℕ) (v : ℕ) where
+    pub take-verdict : (verdict d ≡ 0 → ⊥) → takeRefusal d img upper v ≡ verdict d
     unfolding takeRefusal verdict
-    take-verdict h = first-before (checkOrder d) (furtherTaking d img v) h
+    take-verdict h = first-before (checkOrder d) (furtherTaking d img upper v) h
 
-    take-behind : verdict d ≡ 0 → (b : Bool) → wrongLength (returnLength d) v (length img) ≡ b → takeRefusal d img v ≡ cond b 11 0
+    take-behind : verdict d ≡ 0 → (b : Bool) → wrongLength (returnLength d) v (length img) (length upper) ≡ b → takeRefusal d img upper v ≡ cond b 11 0
     unfolding takeRefusal verdict
-    take-behind a b e = first-behind (checkOrder d) (furtherTaking d img v) (check-positive d) a ∙ rw e
+    take-behind a b e = first-behind (checkOrder d) (furtherTaking d img upper v) (check-positive d) a ∙ rw e
 
-    pub take-eleven : verdict d ≡ 0 → wrongLength (returnLength d) v (length img) ≡ true → takeRefusal d img v ≡ 11
+    pub take-eleven : verdict d ≡ 0 → wrongLength (returnLength d) v (length img) (length upper) ≡ true → takeRefusal d img upper v ≡ 11
     take-eleven a e = take-behind a true e
 
-    take-lent : takeRefusal d img v ≡ 0 → Lent d v (length img)
+    take-lent : takeRefusal d img upper v ≡ 0 → Lent d v (length img) (length upper)
     unfolding takeRefusal verdict
     take-lent h =
-        let both = first-both (checkOrder d) (furtherTaking d img v) (check-positive d) h in
-        right-lent v (length img) (both .0) (accepts-exactly (furtherTaking d img v) (omega arith, tt) .0 (both .1) .0)
+        let both = first-both (checkOrder d) (furtherTaking d img upper v) (check-positive d) h in
+        right-lent v (length img) (length upper) (both .0) (accepts-exactly (furtherTaking d img upper v) (omega arith, tt) .0 (both .1) .0)
 
     -- taking is accepted exactly when the description is and the lengths are right
-    pub take-accepted : (takeRefusal d img v ≡ 0) ↔ Lent d v (length img)
-    take-accepted = (take-lent, λ h. take-behind (h .accepted) false (lent-right v (length img) h))
+    pub take-accepted : (takeRefusal d img upper v ≡ 0) ↔ Lent d v (length img) (length upper)
+    take-accepted = (take-lent, λ h. take-behind (h .accepted) false (lent-right v (length img) (length upper) h))
 
     -- the number is n exactly where condition n holds and none before it
-    pub take-exactly : (n : ℕ) → n ≢ 0 → (takeRefusal d img v ≡ n) ↔ Answers (takeOrder d img v) n
+    pub take-exactly : (n : ℕ) → n ≢ 0 → (takeRefusal d img upper v ≡ n) ↔ Answers (takeOrder d img upper v) n
     unfolding takeRefusal
-    take-exactly n h = refuses-exactly (takeOrder d img v) n h
+    take-exactly n h = refuses-exactly (takeOrder d img upper v) n h
 
     -- there is no twelfth
-    pub take-never : takeRefusal d img v ≢ 12
+    pub take-never : takeRefusal d img upper v ≢ 12
     unfolding takeRefusal
-    take-never = never (takeOrder d img v) 12 (λ z. omega arith) (without-append (checkOrder d) (furtherTaking d img v) 12 (check-without d 12 (omega arith)) ((λ z. omega arith), tt))
+    take-never = never (takeOrder d img upper v) 12 (λ z. omega arith) (without-append (checkOrder d) (furtherTaking d img upper v) 12 (check-without d 12 (omega arith)) ((λ z. omega arith), tt))
 
   -- ---- putting
 
-  module _ (h : ℕ) (v : List ℕ) (i : ℕ) where
-    pub put-verdict : (verdict d ≡ 0 → ⊥) → putRefusal d h v i ≡ verdict d
+  module _ (h : ℕ) (v : List ℕ) (i y : ℕ) where
+    pub put-verdict : (verdict d ≡ 0 → ⊥) → putRefusal d h v i y ≡ verdict d
     unfolding putRefusal verdict
-    put-verdict n = first-before (checkOrder d) (furtherPutting d h v i) n
+    put-verdict n = first-before (checkOrder d) (furtherPutting d h v i y) n
 
     abbrev late : List Rule
-    late = furtherPutting d h v i
+    late = furtherPutting d h v i y
 
-    put-behind : verdict d ≡ 0 → (a b c : Bool) → wrongLength (returnLength d) (length v) i ≡ a → wrongAddress (modelIn d) (hidden d) h ≡ b → wrongBool d v ≡ c
-        → putRefusal d h v i ≡ cond a 11 (cond b 27 (cond c 12 0))
+    put-behind : verdict d ≡ 0 → (a b c : Bool) → wrongLength (returnLength d) (length v) i y ≡ a → wrongAddress (modelIn d) (hidden d) h ≡ b → wrongBool d v ≡ c
+        → putRefusal d h v i y ≡ cond a 11 (cond b 27 (cond c 12 0))
     unfolding putRefusal verdict
     put-behind ok a b c e f g = first-behind (checkOrder d) late (check-positive d) ok ∙ rw (e, f, g)
 
-    pub put-eleven : verdict d ≡ 0 → wrongLength (returnLength d) (length v) i ≡ true → putRefusal d h v i ≡ 11
+    pub put-eleven : verdict d ≡ 0 → wrongLength (returnLength d) (length v) i y ≡ true → putRefusal d h v i y ≡ 11
     put-eleven ok e = put-behind ok true _ _ e refl refl
 
-    pub put-twenty-seven : Lent d (length v) i → wrongAddress (modelIn d) (hidden d) h ≡ true → putRefusal d h v i ≡ 27
-    put-twenty-seven l e = put-behind (l .accepted) false true _ (lent-right (length v) i l) e refl
+    pub put-twenty-seven : Lent d (length v) i y → wrongAddress (modelIn d) (hidden d) h ≡ true → putRefusal d h v i y ≡ 27
+    put-twenty-seven l e = put-behind (l .accepted) false true _ (lent-right (length v) i y l) e refl
 
-    pub put-twelve : Lent d (length v) i → wrongAddress (modelIn d) (hidden d) h ≡ false → wrongBool d v ≡ true → putRefusal d h v i ≡ 12
-    put-twelve l a e = put-behind (l .accepted) false false true (lent-right (length v) i l) a e
+    pub put-twelve : Lent d (length v) i y → wrongAddress (modelIn d) (hidden d) h ≡ false → wrongBool d v ≡ true → putRefusal d h v i y ≡ 12
+    put-twelve l a e = put-behind (l .accepted) false false true (lent-right (length v) i y l) a e
 
-    pub put-none : Lent d (length v) i → wrongAddress (modelIn d) (hidden d) h ≡ false → wrongBool d v ≡ false → putRefusal d h v i ≡ 0
-    put-none l a e = put-behind (l .accepted) false false false (lent-right (length v) i l) a e
+    pub put-none : Lent d (length v) i y → wrongAddress (modelIn d) (hidden d) h ≡ false → wrongBool d v ≡ false → putRefusal d h v i y ≡ 0
+    put-none l a e = put-behind (l .accepted) false false false (lent-right (length v) i y l) a e
 
     -- what is sure of a call that is accepted
-    pub put-accepted : putRefusal d h v i ≡ 0 → Lent d (length v) i × (wrongAddress (modelIn d) (hidden d) h ≡ false) × (wrongBool d v ≡ false)
+    pub put-accepted : putRefusal d h v i y ≡ 0 → Lent d (length v) i y × (wrongAddress (modelIn d) (hidden d) h ≡ false) × (wrongBool d v ≡ false)
     unfolding putRefusal verdict
     put-accepted e =
         let both = first-both (checkOrder d) late (check-positive d) e in
         let none = accepts-exactly late (omega arith, (omega arith, (omega arith, tt))) .0 (both .1) in
-        (right-lent (length v) i (both .0) (none .0), none .1 .0, none .1 .1 .0)
+        (right-lent (length v) i y (both .0) (none .0), none .1 .0, none .1 .1 .0)
 
-    pub put-exactly : (n : ℕ) → n ≢ 0 → (putRefusal d h v i ≡ n) ↔ Answers (putOrder d h v i) n
+    pub put-exactly : (n : ℕ) → n ≢ 0 → (putRefusal d h v i y ≡ n) ↔ Answers (putOrder d h v i y) n
     unfolding putRefusal
-    put-exactly n z = refuses-exactly (putOrder d h v i) n z
+    put-exactly n z = refuses-exactly (putOrder d h v i y) n z
 
     abbrev lengths : Rule
-    lengths = rule 11 (wrongLength (returnLength d) (length v) i)
+    lengths = rule 11 (wrongLength (returnLength d) (length v) i y)
 
     abbrev address : Rule
     address = rule 27 (wrongAddress (modelIn d) (hidden d) h)
 
-    pub twelve-lent : putRefusal d h v i ≡ 12 → Lent d (length v) i × (wrongBool d v ≡ true)
+    pub twelve-lent : putRefusal d h v i y ≡ 12 → Lent d (length v) i y × (wrongBool d v ≡ true)
     unfolding putRefusal verdict
     twelve-lent e =
         let ok : verdict d ≡ 0 = none-till (checkOrder d) late 12 (check-without d 12 (omega arith)) e in
         let k = held (lengths ∷ address ∷ []) 12 (wrongBool d v) [] (omega arith, (omega arith, tt)) (λ z. omega arith) ((λ z. omega arith), ((λ z. omega arith), tt)) tt
         (sym (first-behind (checkOrder d) late (check-positive d) ok) ∙ e) in
-        (right-lent (length v) i ok (k .0 .0), k .1)
+        (right-lent (length v) i y ok (k .0 .0), k .1)
 
-    pub address-lent : putRefusal d h v i ≡ 27 → Lent d (length v) i × (wrongAddress (modelIn d) (hidden d) h ≡ true)
+    pub address-lent : putRefusal d h v i y ≡ 27 → Lent d (length v) i y × (wrongAddress (modelIn d) (hidden d) h ≡ true)
     unfolding putRefusal verdict
     address-lent e =
         let ok : verdict d ≡ 0 = none-till (checkOrder d) late 27 (check-without d 27 (omega arith)) e in
         let k = held (lengths ∷ []) 27 (wrongAddress (modelIn d) (hidden d) h) (rule 12 (wrongBool d v) ∷ []) (omega arith, tt) (λ z. omega arith) ((λ z. omega arith), tt) ((λ z. omega arith), tt)
         (sym (first-behind (checkOrder d) late (check-positive d) ok) ∙ e) in
-        (right-lent (length v) i ok (k .0 .0), k .1)
+        (right-lent (length v) i y ok (k .0 .0), k .1)
 
   -- ---- a returned _Bool
 

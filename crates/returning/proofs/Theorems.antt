@@ -1,13 +1,14 @@
 -- The theorems on putting and taking a returned value, each from the laws of the image and of orders. Assumes nothing.
 use mathlib.Core.Path.{_≡_, refl, sym, ap, ap₂, _∙_}
 use mathlib.Core.Bool.{Bool, true, false, cond, true≢false}
-use mathlib.Core.List.{List}
-use Prim.Native.Nat.{ℕ, _≤_, _<_}
+use mathlib.Core.List.{List, _++_}
+use Prim.Native.Nat.{ℕ, _+_, _≤_, _<_}
 use native.Mathlib.Decide.{decLt}
 use native.Mathlib.Omega.{arith}
 use borrow.Author.Tests.{eq-eqb, ne-eqb, eqb-true}
 use lib.Dec.{eqb}
-use lib.ListN.{length, getD}
+use lib.ListN.{length, getD, take, drop, length-take, length-drop, length-append, take-append-drop}
+use lib.Seq.{take-at, drop-at}
 use Rattle.addresses.specs.Addresses.{gather, scatter}
 use Rattle.description.specs.Description.{modelIn, IsBytes}
 use Rattle.form.specs.Reading.{refusalAt, refusalBy}
@@ -21,13 +22,13 @@ use Rattle.images.proofs.Words.{upper-zero}
 use Rattle.moving.specs.Address.{wrongAddress}
 use Rattle.moving.proofs.Address.{address-right, address-unused}
 use Rattle.moving.proofs.Ilp32.{wide-wrong}
-use Rattle.returning.specs.Moved.{partsOf, sources, targets}
+use Rattle.returning.specs.Moved.{upperAt, partsOf, sources, targets}
 use Rattle.returning.specs.Image.{inMemory, returnImage, returnValue, returnedAddress}
 use Rattle.returning.specs.ImageAsks.{Returnable}
 use Rattle.returning.specs.Returned.{returnLength}
 use Rattle.returning.specs.Orders.{putRefusal, takeRefusal}
 use Rattle.returning.specs.Asks.{Lent}
-use Rattle.returning.specs.Answers.{putAnswer, imageAfter, takeAnswer, valueAfter, putNumber, takeNumber}
+use Rattle.returning.specs.Answers.{putAnswer, imageAfter, upperAfter, imagesAfter, takeAnswer, valueAfter, putNumber, takeNumber}
 use Rattle.returning.specs.Statements.{Unused, PutsAll, AddressUnseen, TakesPut, SameElsewhere, ReturnsBool, Clean, ComesBack, PutsTaken, UnusedUnseen, RefusalsTold, TwelveExactly, TwentySevenExactly, NeverTwelve, PointerUpper, HiddenUpper, NoSharedImage}
 use Rattle.returning.specs.declared.PutAnswer.{PutAnswer}
 use Rattle.returning.specs.declared.PutAnswer.the-variants.{Put, Refused as NotPut}
@@ -38,46 +39,58 @@ use Rattle.returning.proofs.Images.{blank-unseen, length-image, length-
 
 -- ---- what stands in the buffers after a call that is accepted
 
-module _ (d : List ℕ) (h : ℕ) (v i : List ℕ) (accepted : putRefusal d h v (length i) ≡ 0) where
-  lent : Lent d (length v) (length i)
-  lent = put-accepted d h v (length i) accepted .0
+module _ (d : List ℕ) (h : ℕ) (v i y : List ℕ) (accepted : putRefusal d h v (length i) (length y) ≡ 0) where
+  lent : Lent d (length v) (length i) (length y)
+  lent = put-accepted d h v (length i) (length y) accepted .0
 
   suits : Returnable (returnPlace d) (returnLength d)
   suits = accepted-returnable d (lent .accepted)
 
-  image-is : imageAfter d h v i ≡ returnImage (returnPlace d) h v
+  abbrev put : List ℕ
+  put = returnImage (returnPlace d) h v
+
+  image-is : imageAfter d h v i y ≡ take upperAt put
   unfolding imageAfter
-  image-is = rw (eq-eqb (putRefusal d h v (length i)) 0 accepted)
+  image-is = rw (eq-eqb (putRefusal d h v (length i) (length y)) 0 accepted)
 
-  image-long : length (imageAfter d h v i) ≡ 80
-  image-long = ap length image-is ∙ length-image (returnPlace d) (returnLength d) suits h v
+  upper-is : upperAfter d h v i y ≡ drop upperAt put
+  unfolding upperAfter
+  upper-is = rw (eq-eqb (putRefusal d h v (length i) (length y)) 0 accepted)
 
-module _ (d img v : List ℕ) (accepted : takeRefusal d img (length v) ≡ 0) where
-  value-is : valueAfter d img v ≡ returnValue (returnPlace d) (length v) img
+  images-are : imagesAfter d h v i y ≡ put
+  images-are = ap₂ (λ (x z : List ℕ). x ++ z) image-is upper-is ∙ take-append-drop upperAt put
+
+  put-long : length put ≡ 96
+  put-long = length-image (returnPlace d) (returnLength d) suits h v
+
+  image-long : length (imageAfter d h v i y) ≡ 80
+  image-long = ap length image-is ∙ length-take upperAt put ∙ omega (arith, put-long)
+
+  upper-long : length (upperAfter d h v i y) ≡ 16
+  upper-long = ap length upper-is ∙ length-drop upperAt put ∙ omega (arith, put-long)
+
+module _ (d img up v : List ℕ) (accepted : takeRefusal d img up (length v) ≡ 0) where
+  value-is : valueAfter d img up v ≡ returnValue (returnPlace d) (length v) (img ++ up)
   unfolding valueAfter
-  value-is = rw (eq-eqb (takeRefusal d img (length v)) 0 accepted)
+  value-is = rw (eq-eqb (takeRefusal d img up (length v)) 0 accepted)
 
-  answer-is : takeAnswer d img (length v) ≡ Taken (returnedAddress (returnPlace d) img)
+  answer-is : takeAnswer d img up (length v) ≡ Taken (returnedAddress (returnPlace d) (img ++ up))
   unfolding takeAnswer
-  answer-is = rw (eq-eqb (takeRefusal d img (length v)) 0 accepted)
+  answer-is = rw (eq-eqb (takeRefusal d img up (length v)) 0 accepted)
 
 -- ---- the theorems
 
 pub puts-all : PutsAll
-puts-all d h v i a img =
-    let l = lent d h v i a in
-    let s = suits d h v i a in (
-      λ e. rw (sym (image-is d h v i a) ∙ e) at (put-image (returnPlace d) (returnLength d) s h v (l .value)),
-      λ j. image-is d h v i a ∙ image-put (returnPlace d) (returnLength d) s h v img (l .value) j,
+puts-all d h v i y a img =
+    let l = lent d h v i y a in
+    let s = suits d h v i y a in (
+      λ e. rw (sym (images-are d h v i y a) ∙ e) at (put-image (returnPlace d) (returnLength d) s h v (l .value)),
+      λ j. images-are d h v i y a ∙ image-put (returnPlace d) (returnLength d) s h v img (l .value) j,
     )
 
 pub address-unseen : AddressUnseen
-unfolding putAnswer imageAfter putRefusal returnImage
-address-unseen d h g v i e = (
-  ap answer same,
-  ap₂ (λ (n : ℕ) (x : List ℕ). cond (eqb n 0) (scatter x (targets (returnPlace d) (length v)) (gather v (sources (returnPlace d) (length v)))) i) same
-      (blank-unseen (inMemory (returnPlace d)) h g e),
-)
+unfolding putAnswer imageAfter upperAfter putRefusal returnImage
+address-unseen d h g v i y e = (ap answer same, image (take upperAt) i, image (drop upperAt) y)
   where
     none : hidden d ≡ false
     none = sym (memory-hidden d) ∙ e
@@ -85,17 +98,29 @@ address-unseen d h g v i e = (
     answer : ℕ → PutAnswer
     answer n = cond (eqb n 0) Put (NotPut (refusalFor d n))
 
-    same : putRefusal d h v (length i) ≡ putRefusal d g v (length i)
+    same : putRefusal d h v (length i) (length y) ≡ putRefusal d g v (length i) (length y)
     same = rw (none, address-unused (modelIn d) h, address-unused (modelIn d) g)
 
+    image : (f : List ℕ → List ℕ) (before : List ℕ)
+        → cond (eqb (putRefusal d h v (length i) (length y)) 0) (f (returnImage (returnPlace d) h v)) before
+        ≡ cond (eqb (putRefusal d g v (length i) (length y)) 0) (f (returnImage (returnPlace d) g v)) before
+    image f before =
+        ap₂ (λ (n : ℕ) (x : List ℕ). cond (eqb n 0) (f (scatter x (targets (returnPlace d) (length v)) (gather v (sources (returnPlace d) (length v))))) before) same
+        (blank-unseen (inMemory (returnPlace d)) h g e)
+
 pub takes-put : TakesPut
-takes-put d h v i w b a e =
-    let l = lent d h v i a in
-    let s = suits d h v i a in
-    let ok : takeRefusal d (imageAfter d h v i) (length w) ≡ 0 =
-    take-accepted d (imageAfter d h v i) (length w) .1 (record { accepted = l .accepted; value = e ∙ l .value; image = image-long d h v i a }) in (
-      answer-is d (imageAfter d h v i) w ok ∙ ap Taken (ap (returnedAddress (returnPlace d)) (image-is d h v i a) ∙ address-image (returnPlace d) (returnLength d) s h v b),
-      value-is d (imageAfter d h v i) w ok ∙ ap₂ (returnValue (returnPlace d)) (e ∙ l .value) (image-is d h v i a) ∙ value-image (returnPlace d) (returnLength d) s h v (l .value),
+takes-put d h v i y w b a e =
+    let l = lent d h v i y a in
+    let s = suits d h v i y a in
+    let img = imageAfter d h v i y in
+    let up = upperAfter d h v i y in
+    let ok : takeRefusal d img up (length w) ≡ 0 =
+    take-accepted d img up (length w) .1 (record { accepted = l .accepted; value = e ∙ l .value; image = image-long d h v i y a; upper = upper-long d h v i y a }) in (
+      answer-is d img up w ok
+          ∙ ap Taken (ap (returnedAddress (returnPlace d)) (images-are d h v i y a) ∙ address-image (returnPlace d) (returnLength d) s h v b),
+      value-is d img up w ok
+          ∙ ap₂ (returnValue (returnPlace d)) (e ∙ l .value) (images-are d h v i y a)
+          ∙ value-image (returnPlace d) (returnLength d) s h v (l .value),
     )
 
 pub same-elsewhere : SameElsewhere
@@ -107,37 +132,37 @@ same-elsewhere St0 v e = absurd (true≢false e)
 same-elsewhere St0St1 v e = absurd (true≢false e)
 
 pub no-shared-image : NoSharedImage
-no-shared-image d h v w i j a b e =
-    let l = lent d h v i a in
-    let m = lent d h w j b in
-    sym (value-image (returnPlace d) (returnLength d) (suits d h v i a) h v (l .value))
-    ∙ ap (returnValue (returnPlace d) (returnLength d)) (sym (image-is d h v i a) ∙ e ∙ image-is d h w j b)
-    ∙ value-image (returnPlace d) (returnLength d) (suits d h w j b) h w (m .value)
+no-shared-image d h v w i y j z a b e f =
+    let l = lent d h v i y a in
+    let m = lent d h w j z b in
+    sym (value-image (returnPlace d) (returnLength d) (suits d h v i y a) h v (l .value))
+    ∙ ap (returnValue (returnPlace d) (returnLength d)) (sym (images-are d h v i y a) ∙ ap₂ (λ (x t : List ℕ). x ++ t) e f ∙ images-are d h w j z b)
+    ∙ value-image (returnPlace d) (returnLength d) (suits d h w j z b) h w (m .value)
 
-module _ (d img jmg v : List ℕ) (as-long : length img ≡ length jmg) where
-  refusal-same : takeRefusal d img (length v) ≡ takeRefusal d jmg (length v)
+module _ (d img up i y v : List ℕ) (as-long : length img ≡ length i) (as-high : length up ≡ length y) where
+  refusal-same : takeRefusal d img up (length v) ≡ takeRefusal d i y (length v)
   unfolding takeRefusal
-  refusal-same = rw as-long
+  refusal-same = rw (as-long, as-high)
 
-  refused-same : eqb (takeRefusal d img (length v)) 0 ≡ false → (takeAnswer d img (length v) ≡ takeAnswer d jmg (length v)) × (valueAfter d img v ≡ valueAfter d jmg v)
+  refused-same : eqb (takeRefusal d img up (length v)) 0 ≡ false → (takeAnswer d img up (length v) ≡ takeAnswer d i y (length v)) × (valueAfter d img up v ≡ valueAfter d i y v)
   unfolding takeAnswer valueAfter
   refused-same t =
-      let u : eqb (takeRefusal d jmg (length v)) 0 ≡ false = rw refusal-same at t in
+      let u : eqb (takeRefusal d i y (length v)) 0 ≡ false = rw refusal-same at t in
       (rw (t, u) (ap (λ (m : ℕ). NotTaken (refusalFor d m)) refusal-same), rw (t, u))
 
 pub unused-unseen : UnusedUnseen
-unused-unseen d img jmg v e same = by (eqb (takeRefusal d img (length v)) 0) refl
+unused-unseen d img up i y v e f same = by (eqb (takeRefusal d img up (length v)) 0) refl
   where
-    by : (b : Bool) → eqb (takeRefusal d img (length v)) 0 ≡ b
-        → (takeAnswer d img (length v) ≡ takeAnswer d jmg (length v)) × (valueAfter d img v ≡ valueAfter d jmg v)
-    by false t = refused-same d img jmg v e t
+    by : (b : Bool) → eqb (takeRefusal d img up (length v)) 0 ≡ b
+        → (takeAnswer d img up (length v) ≡ takeAnswer d i y (length v)) × (valueAfter d img up v ≡ valueAfter d i y v)
+    by false t = refused-same d img up i y v e f t
     by true t =
-        let ok = eqb-true (takeRefusal d img (length v)) 0 t in
-        let n : length v ≡ returnLength d = take-accepted d img (length v) .0 ok .value in
-        let other = sym (refusal-same d img jmg v e) ∙ ok in (
-          answer-is d img v ok ∙ ap Taken (address-same (returnPlace d) (returnLength d) img jmg same) ∙ sym (answer-is d jmg v other),
-          value-is d img v ok ∙ ap (λ (m : ℕ). returnValue (returnPlace d) m img) n ∙ value-same (returnPlace d) (returnLength d) img jmg same
-              ∙ ap (λ (m : ℕ). returnValue (returnPlace d) m jmg) (sym n) ∙ sym (value-is d jmg v other),
+        let ok = eqb-true (takeRefusal d img up (length v)) 0 t in
+        let n : length v ≡ returnLength d = take-accepted d img up (length v) .0 ok .value in
+        let other = sym (refusal-same d img up i y v e f) ∙ ok in (
+          answer-is d img up v ok ∙ ap Taken (address-same (returnPlace d) (returnLength d) (img ++ up) (i ++ y) same) ∙ sym (answer-is d i y v other),
+          value-is d img up v ok ∙ ap (λ (m : ℕ). returnValue (returnPlace d) m (img ++ up)) n ∙ value-same (returnPlace d) (returnLength d) (img ++ up) (i ++ y) same
+              ∙ ap (λ (m : ℕ). returnValue (returnPlace d) m (i ++ y)) (sym n) ∙ sym (value-is d i y v other),
         )
 
 -- the number of an answer that is made by whether the number is 0
@@ -159,12 +184,12 @@ module _ (d : List ℕ) (n : ℕ) where
       by false e = refl
 
 pub refusals-told : RefusalsTold
-unfolding putAnswer imageAfter takeAnswer valueAfter
-refusals-told d h v i = record {
-  put = put-told d (putRefusal d h v (length i));
-  unput = λ z. rw (ne-eqb (putRefusal d h v (length i)) 0 z);
-  take = take-told d (takeRefusal d i (length v)) (returnedAddress (returnPlace d) i);
-  untaken = λ z. rw (ne-eqb (takeRefusal d i (length v)) 0 z);
+unfolding putAnswer imageAfter upperAfter takeAnswer valueAfter
+refusals-told d h v i y = record {
+  put = put-told d (putRefusal d h v (length i) (length y));
+  unput = λ z. (rw (ne-eqb (putRefusal d h v (length i) (length y)) 0 z), rw (ne-eqb (putRefusal d h v (length i) (length y)) 0 z));
+  take = take-told d (takeRefusal d i y (length v)) (returnedAddress (returnPlace d) (i ++ y));
+  untaken = λ z. rw (ne-eqb (takeRefusal d i y (length v)) 0 z);
 }
 
 -- a _Bool is returned in rax, so that no hidden address is refused
@@ -172,15 +197,15 @@ bool-narrow : (d : List ℕ) → verdict d ≡ 0 → ReturnsBool d → (h : ℕ)
 bool-narrow d a b h = ap (λ (x : Bool). wrongAddress (modelIn d) x h) (bool-seen d a b) ∙ address-unused (modelIn d) h
 
 pub twelve-exactly : TwelveExactly
-twelve-exactly d h v image = (
-  λ e. let l = twelve-lent d h v image e in (l .0, bool-broken d v (l .1)),
-  λ p. put-twelve d h v image (p .0) (bool-narrow d (p .0 .accepted) (p .1 .0) h) (broken-bool d v (p .1 .0) (p .1 .1)),
+twelve-exactly d h v image upper = (
+  λ e. let l = twelve-lent d h v image upper e in (l .0, bool-broken d v (l .1)),
+  λ p. put-twelve d h v image upper (p .0) (bool-narrow d (p .0 .accepted) (p .1 .0) h) (broken-bool d v (p .1 .0) (p .1 .1)),
 )
 
 pub twenty-seven-exactly : TwentySevenExactly
-twenty-seven-exactly d h v image = (
-  λ e. let l = address-lent d h v image e in (l .0, wide-wrong d h .0 (l .1)),
-  λ p. put-twenty-seven d h v image (p .0) (wide-wrong d h .1 (p .1)),
+twenty-seven-exactly d h v image upper = (
+  λ e. let l = address-lent d h v image upper e in (l .0, wide-wrong d h .0 (l .1)),
+  λ p. put-twenty-seven d h v image upper (p .0) (wide-wrong d h .1 (p .1)),
 )
 
 -- ---- ILP32: the upper half of rax
@@ -191,81 +216,102 @@ unfolding targets partsOf
 upper-unused k l = record { absent = ((λ e. omega arith), ((λ e. omega arith), ((λ e. omega arith), ((λ e. omega arith), tt)))); past = λ e. absurd (true≢false (sym e)) }
 
 pub pointer-upper : PointerUpper
-pointer-upper d h v i m a p k l u =
-    let ok = lent d h v i a .accepted in
-    let narrow : length v ≡ 4 = lent d h v i a .value ∙ pointer-length d ok p m in
-    puts-all d h v i a (imageAfter d h v i) .0 refl .zeros k (rw (pointer-place d ok p, narrow) (upper-unused k l))
+pointer-upper d h v i y m a p k l u =
+    let ok = lent d h v i y a .accepted in
+    let narrow : length v ≡ 4 = lent d h v i y a .value ∙ pointer-length d ok p m in
+    puts-all d h v i y a (imagesAfter d h v i y) .0 refl .zeros k (rw (pointer-place d ok p, narrow) (upper-unused k l))
 
 pub hidden-upper : HiddenUpper
-hidden-upper d h v i m a used k l u =
-    let e = puts-all d h v i a (imageAfter d h v i) .0 refl .address (memory-hidden d ∙ used) in
-    let low : h < 4294967296 = address-right (modelIn d) (hidden d) h .0 (put-accepted d h v (length i) a .1) m used in
-    upper-zero (imageAfter d h v i) h low e k l u
+hidden-upper d h v i y m a used k l u =
+    let e = puts-all d h v i y a (imagesAfter d h v i y) .0 refl .address (memory-hidden d ∙ used) in
+    let low : h < 4294967296 = address-right (modelIn d) (hidden d) h .0 (put-accepted d h v (length i) (length y) a .1) m used in
+    upper-zero (imagesAfter d h v i y) h low e k l u
 
 pub never-twelve : NeverTwelve
-never-twelve d img value = take-never d img value
+never-twelve d img upper value = take-never d img upper value
 
 -- ---- a value taken and put again
 
-module _ (d img v i : List ℕ) (bytes : IsBytes img) (accepted : takeRefusal d img (length v) ≡ 0) (as-long : length i ≡ length img) where
+module _ (d img up v i y : List ℕ) (bytes : IsBytes (img ++ up)) (accepted : takeRefusal d img up (length v) ≡ 0) (as-long : length i ≡ length img)
+    (as-high : length y ≡ length up) where
   abbrev place : ReturnPlace
   place = returnPlace d
 
   abbrev n : ℕ
   n = returnLength d
 
+  abbrev both : List ℕ
+  both = img ++ up
+
   abbrev value : List ℕ
-  value = valueAfter d img v
+  value = valueAfter d img up v
 
   abbrev own : ℕ
-  own = returnedAddress place img
+  own = returnedAddress place both
 
-  fit : Lent d (length v) (length img)
-  fit = take-accepted d img (length v) .0 accepted
+  fit : Lent d (length v) (length img) (length up)
+  fit = take-accepted d img up (length v) .0 accepted
 
   fits : Returnable place n
   fits = accepted-returnable d (fit .accepted)
 
-  taken-is : value ≡ returnValue place n img
-  taken-is = value-is d img v accepted ∙ ap (λ (m : ℕ). returnValue place m img) (fit .value)
+  taken-is : value ≡ returnValue place n both
+  taken-is = value-is d img up v accepted ∙ ap (λ (m : ℕ). returnValue place m both) (fit .value)
 
   taken-long : length value ≡ n
-  taken-long = ap length taken-is ∙ length-value place n fits img
+  taken-long = ap length taken-is ∙ length-value place n fits both
+
+  both-long : length both ≡ 96
+  both-long = length-append img up ∙ omega (arith, fit .image, fit .upper)
 
   -- a _Bool's byte is the first of rax
-  first-byte : ReturnsBool d → getD value 0 0 ≡ getD img 0 0
-  first-byte b = ap (λ (x : List ℕ). getD x 0 0) (taken-is ∙ ap₂ (λ (p : ReturnPlace) (m : ℕ). returnValue p m img) (bool-place d (fit .accepted) b) (bool-length d (fit .accepted) b)) ∙ one
+  first-byte : ReturnsBool d → getD value 0 0 ≡ getD both 0 0
+  first-byte b = ap (λ (x : List ℕ). getD x 0 0) (taken-is ∙ ap₂ (λ (p : ReturnPlace) (m : ℕ). returnValue p m both) (bool-place d (fit .accepted) b) (bool-length d (fit .accepted) b)) ∙ one
     where
-      one : getD (returnValue (One (General (record { 0 = 0 }))) 1 img) 0 0 ≡ getD img 0 0
+      one : getD (returnValue (One (General (record { 0 = 0 }))) 1 both) 0 0 ≡ getD both 0 0
       one = unfold returnValue sources targets partsOf in refl
 
-  back-clean : ComesBack d own value img i → Clean d img
-  back-clean c = record { zeros = zeros; bool = bool; address = address-right (modelIn d) (hidden d) own .0 (put-accepted d own value (length i) (c .accepted) .1) }
+  back-clean : ComesBack d own value img up i y → Clean d both
+  back-clean c = record {
+    zeros = zeros;
+    bool = bool;
+    address = address-right (modelIn d) (hidden d) own .0 (put-accepted d own value (length i) (length y) (c .accepted) .1);
+  }
     where
-      image : returnImage place own value ≡ img
-      image = sym (image-is d own value i (c .accepted)) ∙ c .again
+      image : returnImage place own value ≡ both
+      image = sym (images-are d own value i y (c .accepted)) ∙ ap₂ (λ (x z : List ℕ). x ++ z) (c .again) (c .above)
 
-      zeros : (k : ℕ) → k < length img → Unused place n k → getD img k 0 ≡ 0
+      zeros : (k : ℕ) → k < length both → Unused place n k → getD both k 0 ≡ 0
       zeros k l u = ap (λ (x : List ℕ). getD x k 0) (sym image) ∙ image-zero place n fits own value k taken-long u
 
-      bool : ReturnsBool d → getD img 0 0 ≤ 1
+      bool : ReturnsBool d → getD both 0 0 ≤ 1
       bool b = by (decLt 1 (getD value 0 0))
         where
-          by : Dec (1 < getD value 0 0) → getD img 0 0 ≤ 1
-          by (yes m) = absurd (omega (arith, sym (c .accepted) ∙ put-twelve d own value (length i) (lent d own value i (c .accepted)) (bool-narrow d (fit .accepted) b own) (broken-bool d value b m)))
+          by : Dec (1 < getD value 0 0) → getD both 0 0 ≤ 1
+          by (yes m) =
+              absurd (omega (
+                arith,
+                sym (c .accepted)
+                    ∙ put-twelve d own value (length i) (length y) (lent d own value i y (c .accepted)) (bool-narrow d (fit .accepted) b own) (broken-bool d value b m),
+              ))
           by (no m) = omega (arith, first-byte b)
 
-  clean-back : Clean d img → ComesBack d own value img i
-  clean-back c = record { accepted = ok; again = image-is d own value i ok ∙ back }
+  clean-back : Clean d both → ComesBack d own value img up i y
+  clean-back c = record {
+    accepted = ok;
+    again = image-is d own value i y ok ∙ ap (take upperAt) back ∙ take-at img up upperAt (fit .image);
+    above = upper-is d own value i y ok ∙ ap (drop upperAt) back ∙ drop-at img up upperAt (fit .image);
+  }
     where
-      ok : putRefusal d own value (length i) ≡ 0
+      ok : putRefusal d own value (length i) (length y) ≡ 0
       ok =
-          put-none d own value (length i) (record { accepted = fit .accepted; value = taken-long; image = as-long ∙ fit .image })
+          put-none d own value (length i) (length y)
+          (record { accepted = fit .accepted; value = taken-long; image = as-long ∙ fit .image; upper = as-high ∙ fit .upper })
           (address-right (modelIn d) (hidden d) own .1 (c .address))
           (bool-right d value (λ b. omega (arith, first-byte b, c .bool b)))
 
-      back : returnImage place own value ≡ img
-      back = ap (returnImage place own) taken-is ∙ image-value place n fits own img (fit .image) (own-address place n fits img bytes) (c .zeros)
+      back : returnImage place own value ≡ both
+      back = ap (returnImage place own) taken-is ∙ image-value place n fits own both both-long (own-address place n fits both bytes) (c .zeros)
 
 pub puts-taken : PutsTaken
-puts-taken d img v i b a e = (back-clean d img v i b a e, clean-back d img v i b a e)
+puts-taken d img up v i y b a e f = (back-clean d img up v i y b a e f, clean-back d img up v i y b a e f)

@@ -1,14 +1,16 @@
 -- What is sure of the value that an accepted description returns. Assumes nothing.
 use mathlib.Core.Path.{_≡_, refl, sym, ap, _∙_}
 use mathlib.Core.Bool.{Bool, true, false, cond, not, _&&_, false≢true}
-use mathlib.Core.List.{List}
+use mathlib.Core.List.{List, [], _∷_}
 use Prim.Native.Nat.{ℕ, _<_}
 use borrow.Author.Tests.{ne-eqb}
 use lib.ListN.{length}
 use mathlib.Core.Logic.{_≢_}
 use Rattle.description.specs.Description.{typesIn, returnIn, modelIn, kindAt, aAt, Whole}
-use Rattle.description.specs.declared.Model.the-variants.{Ilp32}
+use Rattle.description.specs.declared.Model.{Model}
+use Rattle.description.specs.declared.Model.the-variants.{Lp64, Ilp32}
 use Rattle.classes.specs.declared.Class.{Class}
+use Rattle.classes.specs.declared.Class.the-variants.{NoClass, Integer}
 use Rattle.classes.specs.Classes.{same, isX87, mergeOf, mergeAll}
 use Rattle.types.specs.Basic.{basicSize}
 use Rattle.types.specs.Tree.{basic}
@@ -19,7 +21,7 @@ use Rattle.types.specs.Asks.{Sized}
 use Rattle.types.proofs.Large.{accepted-sized}
 use Rattle.types.proofs.Laws.{type-filled}
 use Rattle.types.proofs.Trees.{at-basic}
-use Rattle.classify.specs.Classify.{firstClass, secondClass, gap, oneClass, basicAt, classesAt, classesOf}
+use Rattle.classify.specs.Classify.{firstClass, secondClass, gap, oneClass, basicAt, eightbytesIn, classesAt, eightbytesOf, shown, classesOf}
 use Rattle.uses.proofs.Uses.{right-below, accepted-types, accepted-return, accepted-typed}
 use Rattle.places.specs.declared.Register.the-variants.{General}
 use Rattle.places.specs.declared.ReturnPlace.{ReturnPlace}
@@ -62,6 +64,17 @@ memory-hidden d = by (isVoid d) refl
     by : (b : Bool) → isVoid d ≡ b → inMemory (cond b Void (returnOf (returnClasses d))) ≡ (not b && hiddenFor (returnClasses d))
     by true e = refl
     by false e = memory-classes (returnClasses d)
+
+-- ---- the classes of _Bool and of a pointer
+
+bool-classes : (m : Model) → classesOf m (basic 0) ≡ Integer ∷ NoClass ∷ []
+unfolding same isX87 mergeOf mergeAll oneClass gap firstClass secondClass basicAt classesAt eightbytesIn eightbytesOf shown classesOf sizeTy basicSize
+bool-classes m = refl
+
+pointer-classes : (m : Model) → classesOf m (basic 15) ≡ Integer ∷ NoClass ∷ []
+unfolding same isX87 mergeOf mergeAll oneClass gap firstClass secondClass basicAt classesAt eightbytesIn eightbytesOf shown classesOf sizeTy basicSize
+pointer-classes Lp64 = refl
+pointer-classes Ilp32 = refl
 
 -- ---- an accepted description
 
@@ -112,8 +125,8 @@ module _ (d : List ℕ) (accepted : verdict d ≡ 0) where
 
     -- it is one byte, the first of rax
     pub bool-place : returnPlace d ≡ One (General (record { 0 = 0 }))
-    unfolding returnPlace returnOf kindsOf same isX87 mergeOf mergeAll oneClass gap firstClass secondClass basicAt classesAt classesOf
-    bool-place = rw (not-void (b .some) (b .kind), bool-type)
+    unfolding returnPlace returnOf kindsOf same isX87
+    bool-place = rw (not-void (b .some) (b .kind), bool-type, bool-classes (modelIn d))
 
     pub bool-length : returnLength d ≡ 1
     unfolding returnLength returnedSize sizeTy basicSize
@@ -131,8 +144,8 @@ module _ (d : List ℕ) (accepted : verdict d ≡ 0) where
 
     -- it is in rax; in ILP32 it has four bytes
     pub pointer-place : returnPlace d ≡ One (General (record { 0 = 0 }))
-    unfolding returnPlace returnOf kindsOf same isX87 mergeOf mergeAll oneClass gap firstClass secondClass basicAt classesAt classesOf
-    pointer-place = rw (not-void (p .some) (p .kind), pointer-type)
+    unfolding returnPlace returnOf kindsOf same isX87
+    pointer-place = rw (not-void (p .some) (p .kind), pointer-type, pointer-classes (modelIn d))
 
     pub pointer-length : modelIn d ≡ Ilp32 → returnLength d ≡ 4
     unfolding returnLength returnedSize sizeTy basicSize

@@ -1,5 +1,5 @@
--- The return image and the value in it: document 02, request 2026-02, "Putting and taking follow the return places; unused bytes are
--- zero". Assumes nothing: these are definitions.
+-- The return images and the value in them: document 02, request 2026-02, "Putting and taking follow the return places; unused bytes are
+-- zero". The return image and the upper return image are one list. Assumes nothing: these are definitions.
 use mathlib.Core.Bool.{Bool, true, false, cond}
 use mathlib.Core.List.{List, _++_}
 use Prim.Native.Nat.{ℕ}
@@ -42,9 +42,9 @@ rax = run 0 8
 
 -- no value put yet: "A MEMORY return carries the hidden address in rax", by whether it is one; zeros elsewhere
 unfoldable pub blankReturn : Bool → ℕ → List ℕ
-blankReturn memory h = cond memory (littleEndian 8 h) (replicate 8 0) ++ replicate 72 0
+blankReturn memory h = cond memory (littleEndian 8 h) (replicate 8 0) ++ replicate 88 0
 
--- all 80 bytes, where the value v is put
+-- all 96 bytes, where the value v is put
 unfoldable pub returnImage : ReturnPlace → ℕ → List ℕ → List ℕ
 returnImage place h v = scatter (blankReturn (inMemory place) h) (targets place (length v)) (gather v (sources place (length v)))
 

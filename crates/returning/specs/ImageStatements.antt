@@ -12,7 +12,7 @@ use Rattle.returning.specs.Image.{inMemory}
 pub record MovedOnce (place : ReturnPlace) (n : ℕ) : Type 0 where
   pub pairs : length (targets place n) ≡ length (sources place n)
   pub once : NoDup (targets place n)
-  pub inside : Below 80 (targets place n)
+  pub inside : Below 96 (targets place n)
   pub apart : NoDup (sources place n)
   pub within : Below n (sources place n)
   pub past : inMemory place ≡ true → All (λ k. 8 ≤ k) (targets place n)

@@ -1,8 +1,9 @@
-// Bringing the result back (document 02, request 2026-02): a returned value into the return image and out of it.
+// Bringing the result back (document 02, request 2026-02): a returned value into the return image and the upper return image (request 2026-06), and out of
+// them.
 pub use calls::put_returned;
 pub use calls::take_returned;
 
-mod return_image; // a value into the return image and out again
+mod return_image; // a value into the return images and out again
 mod refusals; // 11 and 12
 mod calls; // the calls: put_returned, take_returned
 

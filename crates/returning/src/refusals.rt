@@ -6,14 +6,17 @@ ghost use Rattle.returning.specs.Returned.{returnLength};
 ghost use Rattle.returning.specs.Orders.{wrongLength, wrongBool};
 ghost use lib.ListN.{length};
 
-// 11: whether the value has not exactly so many bytes, or the image not exactly 80.
-pub fn wrong_length(right: Bytes, value: Bytes, image: Bytes) -> bool
-    ensures { λ r. ⌜ r ≡ wrongLength (right .0) (value .0) (image .0) ⌝ }
+// 11: whether the value has not exactly so many bytes, the image not exactly 80, or the upper image not exactly 16.
+pub fn wrong_length(right: Bytes, value: Bytes, image: Bytes, upper: Bytes) -> bool
+    ensures { λ r. ⌜ r ≡ wrongLength (right .0) (value .0) (image .0) (upper .0) ⌝ }
 {
     if !units::same(value, right) {
         return true;
     }
-    !units::same(image, Bytes(80))
+    if !units::same(image, Bytes(80)) {
+        return true;
+    }
+    !units::same(upper, Bytes(16))
 }
 
 // 12: whether a _Bool is returned whose byte is not 0 or 1. Void and a value in memory have no byte.

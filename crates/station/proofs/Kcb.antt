@@ -32,6 +32,10 @@ pub kcb-registers : kcb .registers ≡ 176
 unfolding kcb
 kcb-registers = refl
 
+pub kcb-stack : kcb .stackAt ≡ 304
+unfolding kcb
+kcb-stack = refl
+
 pub kcb-slot : kcb .slot ≡ eights
 unfolding kcb
 kcb-slot = refl

@@ -16,6 +16,7 @@ use Rattle.types.specs.Large.{firstLarge}
 use Rattle.places.specs.declared.Used.{Used}
 use Rattle.places.specs.Shapes.{Shape}
 use Rattle.places.specs.Places.{Slot, eights, after, area}
+use Rattle.places.specs.Images.{stackAt}
 use Rattle.layout.specs.Arguments.{shapes as layoutShapes, hidden, usedFirst}
 use Rattle.layout.specs.Verdict.{checkOrder}
 
@@ -31,7 +32,8 @@ pub record Paper : Type 0 where
   pub types : List ℕ → List ℕ  -- each argument's type number
   pub shapes : List ℕ → List Shape  -- what places each argument
   pub slot : Slot  -- stack places and rooms are multiples of this
-  pub registers : ℕ  -- bytes of the register image
+  pub registers : ℕ  -- bytes of the register image, which a step is lent
+  pub stackAt : ℕ  -- where the stack image begins in the images that placing leaves, the upper image before it
 
 module _ (P : Paper) where
   -- 1 to 10, or 0
@@ -76,4 +78,5 @@ kcb = record {
   shapes = layoutShapes;
   slot = eights;
   registers = 176;
+  stackAt = stackAt;
 }

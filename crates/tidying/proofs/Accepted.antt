@@ -45,7 +45,7 @@ first-all f k (suc n) h = rw (h k (omega arith) (omega arith)) (first-all f (k +
 -- ---- what a type of an accepted description is sure of
 
 unfoldable pub Fine : Ty → Type 0
-Fine (basic c) = c < 16
+Fine (basic c) = c < 17
 Fine (array t n) = (1 ≤ n) × (n ≤ 4096)
 Fine (struct ts) = 1 ≤ manyOf ts
 Fine (union ts) = 1 ≤ manyOf ts
@@ -169,7 +169,7 @@ module _ (d : List ℕ) (table : List Ty) (k m : ℕ) where
   record-right : (t : Ty) → kindAt d k ≡ kindOf t → aAt d k ≡ secondOf table m t → countAt d k ≡ countOf t → m + manyOf (membersOf t) ≤ membersIn d
       → ((j : ℕ) → j < manyOf (membersOf t) → memberAt d (m + j) ≡ byteAt (numbersOf table (membersOf t)) j) → Below table k t → Fine t → brokenRecord d k ≡ false
   unfolding brokenRecord Below Fine brokenBasic brokenArray
-  record-right (basic c) e a n r h p f = rw (e, a, n, lt-leb 16 c f)
+  record-right (basic c) e a n r h p f = rw (e, a, n, lt-leb 17 c f)
   record-right (array t x) e a n r h p f = rw (e, a, n, lt-leb k (indexOf table t) p, ne-eqb x 0 (omega (arith, f .0)), le-ltb 4096 x (f .1))
   record-right (struct ts) e a n r h p f = rw (e, a, n) (run-right ts f r h p)
   record-right (union ts) e a n r h p f = rw (e, a, n) (run-right ts f r h p)

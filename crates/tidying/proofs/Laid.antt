@@ -1,7 +1,7 @@
 -- "the layout is the same apart from type numbers": a description's layout is that of the call that it says. Assumes nothing.
 use mathlib.Core.Path.{_≡_, refl, sym, ap, ap₂, _∙_}
 use mathlib.Core.Bool.{Bool, true, false, cond}
-use mathlib.Core.List.{List, [], _∷_, _++_, map}
+use mathlib.Core.List.{List, [], _∷_, _++_}
 use Prim.Native.Nat.{ℕ, zero, suc, _+_, _-_, _/_, _%_, _≤_, _<_}
 use native.Mathlib.Omega.{arith}
 use lib.Dec.{eqb}
@@ -12,14 +12,14 @@ use Rattle.description.specs.Description.{flagsIn, modelIn, argumentsIn, namedI
 use Rattle.types.specs.Tree.{Ty, basic}
 use Rattle.types.specs.Decode.{tyAt}
 use Rattle.classify.specs.Classify.{classesOf}
-use Rattle.places.specs.Shapes.{Shape, shapeOf}
+use Rattle.places.specs.Shapes.{Shape}
 use Rattle.places.specs.Places.{eights, fresh, after, area}
-use Rattle.layout.specs.Arguments.{shapeAt, shapesFrom, shapes, isVoid, returnPlace, returnedSize, hidden, usedAt, areaOf}
+use Rattle.layout.specs.Arguments.{isNamed, shapeAt, shapesFrom, shapes, isVoid, returnPlace, returnedSize, hidden, usedAt, areaOf}
 use Rattle.layout.specs.Placements.{placementAt}
 use Rattle.layout.proofs.Arguments.{length-shapes, shapes-split}
 use Rattle.layout.specs.Layout.{valuesOf, layoutOf}
 use Rattle.tidying.specs.Call.{Returned, void, returned, Call, treesFrom, returnedBy, callOf}
-use Rattle.tidying.specs.Laid.{hiddenIn, placeIn, sizeIn, shapesIn, usedIn, layoutIn, placementIn}
+use Rattle.tidying.specs.Laid.{hiddenIn, placeIn, sizeIn, shapesBy, shapesIn, usedIn, layoutIn, placementIn}
 
 pub length-trees : (d : List ℕ) (i n : ℕ) → length (treesFrom d i n) ≡ n
 unfolding treesFrom
@@ -32,10 +32,10 @@ trees-at d i zero j h = absurd (omega arith)
 trees-at d i (suc n) zero h = let q : i + 0 ≡ i = omega arith in rw q
 trees-at d i (suc n) (suc j) h = let q : i + suc j ≡ i + 1 + j = omega arith in rw q (trees-at d (i + 1) n j (omega arith))
 
-shapes-trees : (d : List ℕ) (i n : ℕ) → shapesFrom d i n ≡ map (shapeOf (modelIn d)) (treesFrom d i n)
-unfolding shapesFrom treesFrom shapeAt
+shapes-trees : (d : List ℕ) (i n : ℕ) → shapesFrom d i n ≡ shapesBy (modelIn d) (namedIn d) i (treesFrom d i n)
+unfolding shapesFrom treesFrom shapeAt isNamed shapesBy
 shapes-trees d i zero = refl
-shapes-trees d i (suc n) = ap (λ (l : List Shape). shapeOf (modelIn d) (tyAt d (argumentAt d i)) ∷ l) (shapes-trees d (i + 1) n)
+shapes-trees d i (suc n) = ap (λ (l : List Shape). shapeAt d i ∷ l) (shapes-trees d (i + 1) n)
 
 -- the model is told by byte 6
 pub model-flags : (d e : List ℕ) → flagsIn d ≡ flagsIn e → modelIn d ≡ modelIn e
@@ -104,8 +104,8 @@ module _ (d : List ℕ) where
 
   -- the record of an argument, its type number apart
   pub placement-call : (i : ℕ) → i < argumentsIn d → placementAt d i ≡ placementIn (modelIn d) (callOf d) i (argumentAt d i)
-  unfolding placementAt placementIn shapeAt
-  placement-call i l = rw (← used-call i (omega arith), argument-call i l)
+  unfolding placementAt placementIn shapeAt isNamed
+  placement-call i l = rw (← used-call i (omega arith), argument-call i l, named-call)
 
 pub model-call : (d e : List ℕ) → callOf d ≡ callOf e → modelIn d ≡ modelIn e
 model-call d e h = model-flags d e (sym (flags-call d) ∙ ap (λ (x : Call). x .flags) h ∙ flags-call e)

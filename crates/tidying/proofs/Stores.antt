@@ -47,7 +47,7 @@ write-all bytes out from w e =
 
 basic-count : (d : List ℕ) (k : ℕ) → kindAt d k ≡ 0 → brokenRecord d k ≡ false → countAt d k ≡ 0
 unfolding brokenRecord brokenBasic
-basic-count d k e h = eqb-true (countAt d k) 0 (not-false _ (or-none (leb 16 (aAt d k)) _ (rw (eq-eqb (kindAt d k) 0 e) at h) .1))
+basic-count d k e h = eqb-true (countAt d k) 0 (not-false _ (or-none (leb 17 (aAt d k)) _ (rw (eq-eqb (kindAt d k) 0 e) at h) .1))
 
 numbers-at : (d : List ℕ) (table : List Ty) (a n i : ℕ) → i < n → byteAt (numbersOf table (tysFrom (tyAt d) d a n)) i ≡ indexOf table (tyAt d (memberAt d (a + i)))
 unfolding numbersOf tysFrom

@@ -1,17 +1,18 @@
 -- The layout of a call written out: no type number counts. Assumes nothing: these are definitions.
 use mathlib.Core.Bool.{Bool, false}
-use mathlib.Core.List.{List, map}
-use Prim.Native.Nat.{ℕ}
+use mathlib.Core.List.{List, [], _∷_}
+use Prim.Native.Nat.{ℕ, _+_}
+use lib.Dec.{ltb}
 use lib.ListN.{length, getD, take}
 use Rattle.description.specs.declared.Model.{Model}
-use Rattle.types.specs.Tree.{basic}
+use Rattle.types.specs.Tree.{Ty, basic}
 use Rattle.types.specs.Size.{sizeTy}
 use Rattle.classify.specs.Classify.{classesOf}
 use Rattle.places.specs.declared.Used.{Used}
 use Rattle.places.specs.declared.ReturnPlace.{ReturnPlace}
 use Rattle.places.specs.declared.ReturnPlace.the-variants.{Void}
 use Rattle.places.specs.Shapes.{Shape, shapeOf}
-use Rattle.places.specs.Places.{eights, fresh, place, after, area}
+use Rattle.places.specs.Places.{eights, fresh, place, after, areaAlign, area}
 use Rattle.places.specs.Images.{total}
 use Rattle.places.specs.Returns.{returnOf, hiddenFor}
 use Rattle.places.specs.Recorded.{recorded}
@@ -33,8 +34,16 @@ module _ (m : Model) where
   sizeIn void = 0
   sizeIn (returned t) = sizeTy m t
 
+  -- arguments from number i on, the first `named` of all being named
+  unfoldable pub shapesBy : ℕ → ℕ → List Ty → List Shape
+  shapesBy named i [] = []
+  shapesBy named i (t ∷ ts) = shapeOf m (ltb i named) t ∷ shapesBy named (i + 1) ts
+
   unfoldable pub shapesIn : Call → List Shape
-  shapesIn c = map (shapeOf m) (c .arguments)
+  shapesIn c = shapesBy (c .named) 0 (c .arguments)
+
+  abbrev pub shapeFor : Call → ℕ → Shape
+  shapeFor c i = shapeOf m (ltb i (c .named)) (getD (c .arguments) i (basic 0))
 
   unfoldable pub usedIn : Call → ℕ → Used
   usedIn c i = after eights (fresh (hiddenIn (c .returns))) (take i (shapesIn c))
@@ -43,6 +52,7 @@ module _ (m : Model) where
   layoutIn c = record {
     used = usedIn c (length (c .arguments));
     area = record { 0 = area eights (fresh (hiddenIn (c .returns))) (shapesIn c) };
+    align = record { 0 = areaAlign (usedIn c (length (c .arguments))) };
     values = record { 0 = total (shapesIn c) };
     returns = placeIn (c .returns);
     returned = record { 0 = sizeIn (c .returns) };
@@ -54,7 +64,7 @@ module _ (m : Model) where
   unfoldable pub placementIn : Call → ℕ → ℕ → Placement
   placementIn c i n = record {
     ty = n;
-    size = record { 0 = shapeOf m (getD (c .arguments) i (basic 0)) .size };
-    align = record { 0 = shapeOf m (getD (c .arguments) i (basic 0)) .align };
-    place = recorded (place eights (usedIn c i) (shapeOf m (getD (c .arguments) i (basic 0))));
+    size = record { 0 = shapeFor c i .size };
+    align = record { 0 = shapeFor c i .align };
+    place = recorded (place eights (usedIn c i) (shapeFor c i));
   }

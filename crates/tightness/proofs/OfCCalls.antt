@@ -79,39 +79,45 @@ pub meets-c-calls-place-values : Meets place_values.ended (λ M. place_values.cl
 meets-c-calls-place-values M = place-values-met.met
 
 pub tight-c-calls-place-values : Tight place_values.ended (λ M. place_values.clauses {M = M})
-tight-c-calls-place-values c r q w v a b = (settle (result place_values.ended c) (a .ensured) (b .ensured) (λ e f i. record { placed = (e .1 .0 ∙ sym (f .1 .0)) i; refusal = (e .0 ∙ sym (f .0)) i }), λ i. (tt, (tt, (tt, (same-registers i, (same-stack i, (tt, tt)))))))
+tight-c-calls-place-values c r q w v a b = (settle (result place_values.ended c) (a .ensured) (b .ensured) (λ e f i. record { placed = (e .1 .0 ∙ sym (f .1 .0)) i; refusal = (e .0 ∙ sym (f .0)) i }), λ i. (tt, (tt, (tt, (same-registers i, (same-upper i, (same-stack i, (tt, tt))))))))
   where
     same-registers : w .1 .1 .1 .0 ≡ v .1 .1 .1 .0
     same-registers = settle bytes (a .ensured) (b .ensured) (λ e f. e .1 .1 .0 ∙ sym (f .1 .1 .0))
 
-    same-stack : w .1 .1 .1 .1 .0 ≡ v .1 .1 .1 .1 .0
-    same-stack = settle bytes (a .ensured) (b .ensured) (λ e f. e .1 .1 .1 ∙ sym (f .1 .1 .1))
+    same-upper : w .1 .1 .1 .1 .0 ≡ v .1 .1 .1 .1 .0
+    same-upper = settle bytes (a .ensured) (b .ensured) (λ e f. e .1 .1 .1 .0 ∙ sym (f .1 .1 .1 .0))
+
+    same-stack : w .1 .1 .1 .1 .1 .0 ≡ v .1 .1 .1 .1 .1 .0
+    same-stack = settle bytes (a .ensured) (b .ensured) (λ e f. e .1 .1 .1 .1 ∙ sym (f .1 .1 .1 .1))
 
 pub meets-c-calls-gather-values : Meets gather_values.ended (λ M. gather_values.clauses {M = M}) gather-values-symbol.routine
 meets-c-calls-gather-values M = gather-values-met.met
 
 pub tight-c-calls-gather-values : Tight gather_values.ended (λ M. gather_values.clauses {M = M})
-tight-c-calls-gather-values c r q w v a b = (settle (result gather_values.ended c) (a .ensured) (b .ensured) (λ e f i. record { gathered = (e .1 .0 ∙ sym (f .1 .0)) i; refusal = (e .0 ∙ sym (f .0)) i }), λ i. (tt, (tt, (tt, (same-values i, (tt, tt))))))
+tight-c-calls-gather-values c r q w v a b = (settle (result gather_values.ended c) (a .ensured) (b .ensured) (λ e f i. record { gathered = (e .1 .0 ∙ sym (f .1 .0)) i; refusal = (e .0 ∙ sym (f .0)) i }), λ i. (tt, (tt, (tt, (tt, (same-values i, (tt, tt)))))))
   where
-    same-values : w .1 .1 .1 .0 ≡ v .1 .1 .1 .0
+    same-values : w .1 .1 .1 .1 .0 ≡ v .1 .1 .1 .1 .0
     same-values = settle bytes (a .ensured) (b .ensured) (λ e f. e .1 .1 ∙ sym (f .1 .1))
 
 pub meets-c-calls-put-returned : Meets put_returned.ended (λ M. put_returned.clauses {M = M}) put-returned-symbol.routine
 meets-c-calls-put-returned M = put-returned-met.met
 
 pub tight-c-calls-put-returned : Tight put_returned.ended (λ M. put_returned.clauses {M = M})
-tight-c-calls-put-returned c r q w v a b = (settle (result put_returned.ended c) (a .ensured) (b .ensured) (λ e f. e .0 ∙ sym (f .0)), λ i. (tt, (tt, (tt, (same-image i, tt)))))
+tight-c-calls-put-returned c r q w v a b = (settle (result put_returned.ended c) (a .ensured) (b .ensured) (λ e f. e .0 ∙ sym (f .0)), λ i. (tt, (tt, (tt, (same-image i, (same-upper i, tt))))))
   where
     same-image : w .1 .1 .1 .0 ≡ v .1 .1 .1 .0
-    same-image = settle bytes (a .ensured) (b .ensured) (λ e f. e .1 ∙ sym (f .1))
+    same-image = settle bytes (a .ensured) (b .ensured) (λ e f. e .1 .0 ∙ sym (f .1 .0))
+
+    same-upper : w .1 .1 .1 .1 .0 ≡ v .1 .1 .1 .1 .0
+    same-upper = settle bytes (a .ensured) (b .ensured) (λ e f. e .1 .1 ∙ sym (f .1 .1))
 
 pub meets-c-calls-take-returned : Meets take_returned.ended (λ M. take_returned.clauses {M = M}) take-returned-symbol.routine
 meets-c-calls-take-returned M = take-returned-met.met
 
 pub tight-c-calls-take-returned : Tight take_returned.ended (λ M. take_returned.clauses {M = M})
-tight-c-calls-take-returned c r q w v a b = (settle (result take_returned.ended c) (a .ensured) (b .ensured) (λ e f i. record { gathered = (e .1 .0 ∙ sym (f .1 .0)) i; refusal = (e .0 ∙ sym (f .0)) i }), λ i. (tt, (tt, (same-value i, (tt, tt)))))
+tight-c-calls-take-returned c r q w v a b = (settle (result take_returned.ended c) (a .ensured) (b .ensured) (λ e f i. record { gathered = (e .1 .0 ∙ sym (f .1 .0)) i; refusal = (e .0 ∙ sym (f .0)) i }), λ i. (tt, (tt, (tt, (same-value i, (tt, tt))))))
   where
-    same-value : w .1 .1 .0 ≡ v .1 .1 .0
+    same-value : w .1 .1 .1 .0 ≡ v .1 .1 .1 .0
     same-value = settle bytes (a .ensured) (b .ensured) (λ e f. e .1 .1 ∙ sym (f .1 .1))
 
 pub meets-c-calls-needs-stack : Meets needs_stack.ended (λ M. needs_stack.clauses {M = M}) needs-stack-symbol.routine

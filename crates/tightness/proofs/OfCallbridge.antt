@@ -193,48 +193,54 @@ pub meets-callbridge-cb-place-values : Meets cb_place_values.ended (λ M. cb_pla
 meets-callbridge-cb-place-values M = cb-place-values-met.met
 
 pub tight-callbridge-cb-place-values : Tight cb_place_values.ended (λ M. cb_place_values.clauses {M = M})
-tight-callbridge-cb-place-values c r q w v a b = (settle (result cb_place_values.ended c) (a .ensured) (b .ensured) (λ e f. e .0 ∙ sym (f .0)), λ i. (tt, (tt, (tt, (same-registers i, (same-stack i, (same-placed i, tt)))))))
+tight-callbridge-cb-place-values c r q w v a b = (settle (result cb_place_values.ended c) (a .ensured) (b .ensured) (λ e f. e .0 ∙ sym (f .0)), λ i. (tt, (tt, (tt, (same-registers i, (same-upper i, (same-stack i, (same-placed i, tt))))))))
   where
     same-registers : w .1 .1 .1 .0 ≡ v .1 .1 .1 .0
     same-registers = settle bytes (a .ensured) (b .ensured) (λ e f. e .1 .1 .0 ∙ sym (f .1 .1 .0))
 
-    same-stack : w .1 .1 .1 .1 .0 ≡ v .1 .1 .1 .1 .0
-    same-stack = settle bytes (a .ensured) (b .ensured) (λ e f. e .1 .1 .1 ∙ sym (f .1 .1 .1))
+    same-upper : w .1 .1 .1 .1 .0 ≡ v .1 .1 .1 .1 .0
+    same-upper = settle bytes (a .ensured) (b .ensured) (λ e f. e .1 .1 .1 .0 ∙ sym (f .1 .1 .1 .0))
 
-    same-placed : w .1 .1 .1 .1 .1 .0 ≡ v .1 .1 .1 .1 .1 .0
+    same-stack : w .1 .1 .1 .1 .1 .0 ≡ v .1 .1 .1 .1 .1 .0
+    same-stack = settle bytes (a .ensured) (b .ensured) (λ e f. e .1 .1 .1 .1 ∙ sym (f .1 .1 .1 .1))
+
+    same-placed : w .1 .1 .1 .1 .1 .1 .0 ≡ v .1 .1 .1 .1 .1 .1 .0
     same-placed = settle (flat-Placed.the-row .coded) (a .ensured) (b .ensured) (λ e f. e .1 .0 ∙ sym (f .1 .0))
 
 pub meets-callbridge-cb-gather-values : Meets cb_gather_values.ended (λ M. cb_gather_values.clauses {M = M}) cb-gather-values-symbol.routine
 meets-callbridge-cb-gather-values M = cb-gather-values-met.met
 
 pub tight-callbridge-cb-gather-values : Tight cb_gather_values.ended (λ M. cb_gather_values.clauses {M = M})
-tight-callbridge-cb-gather-values c r q w v a b = (settle (result cb_gather_values.ended c) (a .ensured) (b .ensured) (λ e f. e .0 ∙ sym (f .0)), λ i. (tt, (tt, (tt, (same-values i, (same-gathered i, tt))))))
+tight-callbridge-cb-gather-values c r q w v a b = (settle (result cb_gather_values.ended c) (a .ensured) (b .ensured) (λ e f. e .0 ∙ sym (f .0)), λ i. (tt, (tt, (tt, (tt, (same-values i, (same-gathered i, tt)))))))
   where
-    same-values : w .1 .1 .1 .0 ≡ v .1 .1 .1 .0
+    same-values : w .1 .1 .1 .1 .0 ≡ v .1 .1 .1 .1 .0
     same-values = settle bytes (a .ensured) (b .ensured) (λ e f. e .1 .1 ∙ sym (f .1 .1))
 
-    same-gathered : w .1 .1 .1 .1 .0 ≡ v .1 .1 .1 .1 .0
+    same-gathered : w .1 .1 .1 .1 .1 .0 ≡ v .1 .1 .1 .1 .1 .0
     same-gathered = settle (flat-Gathered.the-row .coded) (a .ensured) (b .ensured) (λ e f. e .1 .0 ∙ sym (f .1 .0))
 
 pub meets-callbridge-cb-put-returned : Meets cb_put_returned.ended (λ M. cb_put_returned.clauses {M = M}) cb-put-returned-symbol.routine
 meets-callbridge-cb-put-returned M = cb-put-returned-met.met
 
 pub tight-callbridge-cb-put-returned : Tight cb_put_returned.ended (λ M. cb_put_returned.clauses {M = M})
-tight-callbridge-cb-put-returned c r q w v a b = (settle (result cb_put_returned.ended c) (a .ensured) (b .ensured) (λ e f. e .0 ∙ sym (f .0)), λ i. (tt, (tt, (tt, (same-image i, tt)))))
+tight-callbridge-cb-put-returned c r q w v a b = (settle (result cb_put_returned.ended c) (a .ensured) (b .ensured) (λ e f. e .0 ∙ sym (f .0)), λ i. (tt, (tt, (tt, (same-image i, (same-upper i, tt))))))
   where
     same-image : w .1 .1 .1 .0 ≡ v .1 .1 .1 .0
-    same-image = settle bytes (a .ensured) (b .ensured) (λ e f. e .1 ∙ sym (f .1))
+    same-image = settle bytes (a .ensured) (b .ensured) (λ e f. e .1 .0 ∙ sym (f .1 .0))
+
+    same-upper : w .1 .1 .1 .1 .0 ≡ v .1 .1 .1 .1 .0
+    same-upper = settle bytes (a .ensured) (b .ensured) (λ e f. e .1 .1 ∙ sym (f .1 .1))
 
 pub meets-callbridge-cb-take-returned : Meets cb_take_returned.ended (λ M. cb_take_returned.clauses {M = M}) cb-take-returned-symbol.routine
 meets-callbridge-cb-take-returned M = cb-take-returned-met.met
 
 pub tight-callbridge-cb-take-returned : Tight cb_take_returned.ended (λ M. cb_take_returned.clauses {M = M})
-tight-callbridge-cb-take-returned c r q w v a b = (settle (result cb_take_returned.ended c) (a .ensured) (b .ensured) (λ e f. e .0 ∙ sym (f .0)), λ i. (tt, (tt, (same-value i, (same-gathered i, tt)))))
+tight-callbridge-cb-take-returned c r q w v a b = (settle (result cb_take_returned.ended c) (a .ensured) (b .ensured) (λ e f. e .0 ∙ sym (f .0)), λ i. (tt, (tt, (tt, (same-value i, (same-gathered i, tt))))))
   where
-    same-value : w .1 .1 .0 ≡ v .1 .1 .0
+    same-value : w .1 .1 .1 .0 ≡ v .1 .1 .1 .0
     same-value = settle bytes (a .ensured) (b .ensured) (λ e f. e .1 .1 ∙ sym (f .1 .1))
 
-    same-gathered : w .1 .1 .1 .0 ≡ v .1 .1 .1 .0
+    same-gathered : w .1 .1 .1 .1 .0 ≡ v .1 .1 .1 .1 .0
     same-gathered = settle (flat-Gathered.the-row .coded) (a .ensured) (b .ensured) (λ e f. e .1 .0 ∙ sym (f .1 .0))
 
 pub meets-callbridge-cb-new-station : Meets cb_new_station.ended (λ M. cb_new_station.clauses {M = M}) cb-new-station-symbol.routine

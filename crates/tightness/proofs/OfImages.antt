@@ -1,6 +1,7 @@
 -- Written by tools/tightness: each public function of `images` meets its contract, and the contract is tight. Assumes nothing.
 use mathlib.Core.Path.{_≡_, refl, sym, _∙_}
 use mathlib.Core.Logic.{∥∥₁-prop, ∥∥₁-elim, ∥∥₁-map}
+use mathlib.Core.List.{_++_}
 use lib.ListN.{length}
 use denote.Ref.{now}
 use denote.Triple.Entry.{Res}
@@ -24,21 +25,27 @@ pub meets-images-place-one : Meets place_one.ended (λ M. place_one.clauses {M =
 meets-images-place-one M = place-one-met.met
 
 pub tight-images-place-one : Tight place_one.ended (λ M. place_one.clauses {M = M})
-tight-images-place-one c r q w v a b = (refl, λ i. (halves .0 i, (halves .1 i, (tt, (tt, (tt, (tt, tt)))))))
+tight-images-place-one c r q w v a b = (refl, λ i. (parts-registers .0 i, (parts-upper .0 i, (parts-upper .1 i, (tt, (tt, (tt, (tt, tt))))))))
   where
-    kept : (r : Res (place_one.ended .signature) (c .lifetimes)) (w : Lasts place_one.ended (c .lifetimes) (c .passed)) → Admits place_one.ended (λ M. place_one.clauses {M = M}) c r w → ∥ length (w .0) ≡ length (now (c .passed .0)) ∥₁
-    kept r w a = ∥∥₁-elim (a .lent) ∥∥₁-prop (λ s. ∥∥₁-elim (s .3) ∥∥₁-prop (λ t. ∥∥₁-map (t .4) (λ u. u .0)))
+    kept-registers : (r : Res (place_one.ended .signature) (c .lifetimes)) (w : Lasts place_one.ended (c .lifetimes) (c .passed)) → Admits place_one.ended (λ M. place_one.clauses {M = M}) c r w → ∥ length (w .0) ≡ length (now (c .passed .0)) ∥₁
+    kept-registers r w a = ∥∥₁-elim (a .lent) ∥∥₁-prop (λ s. ∥∥₁-elim (s .3) ∥∥₁-prop (λ t. ∥∥₁-map (t .4) (λ u. u .0)))
 
-    halves : (w .0 ≡ v .0) × (w .1 .0 ≡ v .1 .0)
-    halves = settle-parts (a .ensured) (b .ensured) (λ e f. e ∙ sym f) (kept r w a) (kept q v b)
+    parts-registers : (w .0 ≡ v .0) × (w .1 .0 ++ w .1 .1 .0 ≡ v .1 .0 ++ v .1 .1 .0)
+    parts-registers = settle-parts (a .ensured) (b .ensured) (λ e f. e ∙ sym f) (kept-registers r w a) (kept-registers q v b)
+
+    kept-upper : (r : Res (place_one.ended .signature) (c .lifetimes)) (w : Lasts place_one.ended (c .lifetimes) (c .passed)) → Admits place_one.ended (λ M. place_one.clauses {M = M}) c r w → ∥ length (w .1 .0) ≡ length (now (c .passed .1 .0)) ∥₁
+    kept-upper r w a = ∥∥₁-elim (a .lent) ∥∥₁-prop (λ s. ∥∥₁-elim (s .4) ∥∥₁-prop (λ s. ∥∥₁-elim (s .3) ∥∥₁-prop (λ t. ∥∥₁-map (t .4) (λ u. u .0))))
+
+    parts-upper : (w .1 .0 ≡ v .1 .0) × (w .1 .1 .0 ≡ v .1 .1 .0)
+    parts-upper = settle-parts (a .ensured) (b .ensured) (λ e f. parts-registers .1) (kept-upper r w a) (kept-upper q v b)
 
 pub meets-images-gather-one : Meets gather_one.ended (λ M. gather_one.clauses {M = M}) gather-one-symbol.routine
 meets-images-gather-one M = gather-one-met.met
 
 pub tight-images-gather-one : Tight gather_one.ended (λ M. gather_one.clauses {M = M})
-tight-images-gather-one c r q w v a b = (refl, λ i. (tt, (tt, (tt, (tt, (same-values i, (tt, tt)))))))
+tight-images-gather-one c r q w v a b = (refl, λ i. (tt, (tt, (tt, (tt, (tt, (same-values i, (tt, tt))))))))
   where
-    same-values : w .1 .1 .1 .1 .0 ≡ v .1 .1 .1 .1 .0
+    same-values : w .1 .1 .1 .1 .1 .0 ≡ v .1 .1 .1 .1 .1 .0
     same-values = equal bytes (a .ensured) (b .ensured)
 
 pub meets-images-put-address : Meets put_address.ended (λ M. put_address.clauses {M = M}) put-address-symbol.routine

@@ -19,21 +19,24 @@ pub meets-moving-place-values : Meets place_values.ended (λ M. place_values.cla
 meets-moving-place-values M = place-values-met.met
 
 pub tight-moving-place-values : Tight place_values.ended (λ M. place_values.clauses {M = M})
-tight-moving-place-values c r q w v a b = (settle (result place_values.ended c) (a .ensured) (b .ensured) (λ e f. e .0 ∙ sym (f .0)), λ i. (tt, (tt, (tt, (same-registers i, (same-stack i, tt))))))
+tight-moving-place-values c r q w v a b = (settle (result place_values.ended c) (a .ensured) (b .ensured) (λ e f. e .0 ∙ sym (f .0)), λ i. (tt, (tt, (tt, (same-registers i, (same-upper i, (same-stack i, tt)))))))
   where
     same-registers : w .1 .1 .1 .0 ≡ v .1 .1 .1 .0
     same-registers = settle bytes (a .ensured) (b .ensured) (λ e f. e .1 .0 ∙ sym (f .1 .0))
 
-    same-stack : w .1 .1 .1 .1 .0 ≡ v .1 .1 .1 .1 .0
-    same-stack = settle bytes (a .ensured) (b .ensured) (λ e f. e .1 .1 ∙ sym (f .1 .1))
+    same-upper : w .1 .1 .1 .1 .0 ≡ v .1 .1 .1 .1 .0
+    same-upper = settle bytes (a .ensured) (b .ensured) (λ e f. e .1 .1 .0 ∙ sym (f .1 .1 .0))
+
+    same-stack : w .1 .1 .1 .1 .1 .0 ≡ v .1 .1 .1 .1 .1 .0
+    same-stack = settle bytes (a .ensured) (b .ensured) (λ e f. e .1 .1 .1 ∙ sym (f .1 .1 .1))
 
 pub meets-moving-gather-values : Meets gather_values.ended (λ M. gather_values.clauses {M = M}) gather-values-symbol.routine
 meets-moving-gather-values M = gather-values-met.met
 
 pub tight-moving-gather-values : Tight gather_values.ended (λ M. gather_values.clauses {M = M})
-tight-moving-gather-values c r q w v a b = (settle (result gather_values.ended c) (a .ensured) (b .ensured) (λ e f. e .0 ∙ sym (f .0)), λ i. (tt, (tt, (tt, (same-values i, tt)))))
+tight-moving-gather-values c r q w v a b = (settle (result gather_values.ended c) (a .ensured) (b .ensured) (λ e f. e .0 ∙ sym (f .0)), λ i. (tt, (tt, (tt, (tt, (same-values i, tt))))))
   where
-    same-values : w .1 .1 .1 .0 ≡ v .1 .1 .1 .0
+    same-values : w .1 .1 .1 .1 .0 ≡ v .1 .1 .1 .1 .0
     same-values = settle bytes (a .ensured) (b .ensured) (λ e f. e .1 ∙ sym (f .1))
 
 pub meets-moving-wrong-address : Meets wrong_address.ended (λ M. wrong_address.clauses {M = M}) wrong-address-symbol.routine

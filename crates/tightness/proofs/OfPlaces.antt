@@ -3,6 +3,9 @@ use mathlib.Core.Path.{refl, sym, _∙_}
 use Rattle.tightness.specs.Tight.{Meets, Tight}
 use Rattle.tightness.proofs.Laws.{equal, result, settle}
 use Rattle.places.proofs.Records.{asked-same, placed-same}
+use Rattle.places.proofs.area_align
+use Rattle.places.proofs.area_align.Met as area-align-met
+use Rattle.places.proofs.area_align.Symbol as area-align-symbol
 use Rattle.places.proofs.place_shape
 use Rattle.places.proofs.place_shape.Met as place-shape-met
 use Rattle.places.proofs.place_shape.Symbol as place-shape-symbol
@@ -24,6 +27,12 @@ use Rattle.places.proofs.shape_in.Symbol as shape-in-symbol
 use Rattle.places.proofs.place_type
 use Rattle.places.proofs.place_type.Met as place-type-met
 use Rattle.places.proofs.place_type.Symbol as place-type-symbol
+
+pub meets-places-area-align : Meets area_align.ended (λ M. area_align.clauses {M = M}) area-align-symbol.routine
+meets-places-area-align M = area-align-met.met
+
+pub tight-places-area-align : Tight area_align.ended (λ M. area_align.clauses {M = M})
+tight-places-area-align c r q w v a b = (settle (result area_align.ended c) (a .ensured) (b .ensured) (λ e f i. record { 0 = (e ∙ sym f) i }), refl)
 
 pub meets-places-place-shape : Meets place_shape.ended (λ M. place_shape.clauses {M = M}) place-shape-symbol.routine
 meets-places-place-shape M = place-shape-met.met

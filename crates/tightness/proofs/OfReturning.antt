@@ -13,16 +13,19 @@ pub meets-returning-put-returned : Meets put_returned.ended (λ M. put_returned.
 meets-returning-put-returned M = put-returned-met.met
 
 pub tight-returning-put-returned : Tight put_returned.ended (λ M. put_returned.clauses {M = M})
-tight-returning-put-returned c r q w v a b = (settle (result put_returned.ended c) (a .ensured) (b .ensured) (λ e f. e .0 ∙ sym (f .0)), λ i. (tt, (tt, (tt, (same-image i, tt)))))
+tight-returning-put-returned c r q w v a b = (settle (result put_returned.ended c) (a .ensured) (b .ensured) (λ e f. e .0 ∙ sym (f .0)), λ i. (tt, (tt, (tt, (same-image i, (same-upper i, tt))))))
   where
     same-image : w .1 .1 .1 .0 ≡ v .1 .1 .1 .0
-    same-image = settle bytes (a .ensured) (b .ensured) (λ e f. e .1 ∙ sym (f .1))
+    same-image = settle bytes (a .ensured) (b .ensured) (λ e f. e .1 .0 ∙ sym (f .1 .0))
+
+    same-upper : w .1 .1 .1 .1 .0 ≡ v .1 .1 .1 .1 .0
+    same-upper = settle bytes (a .ensured) (b .ensured) (λ e f. e .1 .1 ∙ sym (f .1 .1))
 
 pub meets-returning-take-returned : Meets take_returned.ended (λ M. take_returned.clauses {M = M}) take-returned-symbol.routine
 meets-returning-take-returned M = take-returned-met.met
 
 pub tight-returning-take-returned : Tight take_returned.ended (λ M. take_returned.clauses {M = M})
-tight-returning-take-returned c r q w v a b = (settle (result take_returned.ended c) (a .ensured) (b .ensured) (λ e f. e .0 ∙ sym (f .0)), λ i. (tt, (tt, (same-value i, tt))))
+tight-returning-take-returned c r q w v a b = (settle (result take_returned.ended c) (a .ensured) (b .ensured) (λ e f. e .0 ∙ sym (f .0)), λ i. (tt, (tt, (tt, (same-value i, tt)))))
   where
-    same-value : w .1 .1 .0 ≡ v .1 .1 .0
+    same-value : w .1 .1 .1 .0 ≡ v .1 .1 .1 .0
     same-value = settle bytes (a .ensured) (b .ensured) (λ e f. e .1 ∙ sym (f .1))

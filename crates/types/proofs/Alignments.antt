@@ -4,7 +4,7 @@ use Prim.Native.Nat.{ℕ, zero, suc, _+_, _-_, _^_, _/_, _%_, _≤_, _<_, _∣_,
 use native.Mathlib.Nat.{zero-add, suc-add, dvd-refl, dvd-trans, dvd-add, dvd-mul-right-of-dvd, dvd-of-mod-eq-zero, mod-eq-zero-of-dvd, pow-suc, pow-le-pow-right, two-pow-succ, max-eq-left, max-eq-right, max-comm}
 use native.Mathlib.Decide.{decLt}
 use native.Mathlib.Omega.{arith}
-use Rattle.types.specs.Alignments.{Alignment, one, two, four, eight, sixteen}
+use Rattle.types.specs.Alignments.{Alignment, one, two, four, eight, sixteen, thirtytwo}
 
 pub is-low : {a : ℕ} → Alignment a → 1 ≤ a
 is-low one = omega arith
@@ -12,13 +12,15 @@ is-low two = omega arith
 is-low four = omega arith
 is-low eight = omega arith
 is-low sixteen = omega arith
+is-low thirtytwo = omega arith
 
-pub is-high : {a : ℕ} → Alignment a → a ≤ 16
+pub is-high : {a : ℕ} → Alignment a → a ≤ 32
 is-high one = omega arith
 is-high two = omega arith
 is-high four = omega arith
 is-high eight = omega arith
 is-high sixteen = omega arith
+is-high thirtytwo = omega arith
 
 -- bytes of one aligned block lie in one eightbyte
 pub block : {a : ℕ} → Alignment a → a ≤ 8 → (p b c : ℕ) → p % a ≡ 0 → p ≤ b + a → b < p → p ≤ c + a → c < p → b / 8 ≡ c / 8
@@ -27,6 +29,7 @@ block two l p b c m h i j k = omega arith
 block four l p b c m h i j k = omega arith
 block eight l p b c m h i j k = omega arith
 block sixteen l p b c m h i j k = absurd (omega arith)
+block thirtytwo l p b c m h i j k = absurd (omega arith)
 
 -- each is a power of two, so that the lower of two divides the other
 
@@ -36,6 +39,7 @@ exponent two = 1
 exponent four = 2
 exponent eight = 3
 exponent sixteen = 4
+exponent thirtytwo = 5
 
 is-power : {a : ℕ} (p : Alignment a) → a ≡ 2 ^ exponent p
 is-power one = refl
@@ -43,6 +47,7 @@ is-power two = refl
 is-power four = refl
 is-power eight = refl
 is-power sixteen = refl
+is-power thirtytwo = refl
 
 power-divides : (k i : ℕ) → 2 ^ k ∣ 2 ^ (i + k)
 power-divides k zero = rw zero-add (dvd-refl (2 ^ k))

@@ -15,7 +15,7 @@ ghost use Rattle.types.specs.Table.{Sizes};
 
 // Where a member goes, of a union or of a struct, those before it ending at `end`.
 pub fn offset_after(union: bool, end: Bytes, align: Bytes) -> Bytes
-    requires { ⌜ (end .0 ≤ 2 ^ 32) × ((0 < align .0) × (align .0 ≤ 16)) ⌝ }
+    requires { ⌜ (end .0 ≤ 2 ^ 32) × ((0 < align .0) × (align .0 ≤ 32)) ⌝ }
     ensures { λ r. ⌜ r .0 ≡ offsetAfter union (end .0) (align .0) ⌝ }
 {
     if union {
@@ -26,7 +26,7 @@ pub fn offset_after(union: bool, end: Bytes, align: Bytes) -> Bytes
 
 // Where the members end after one more.
 fn end_after(union: bool, end: Bytes, member: Extent) -> Bytes
-    requires { ⌜ ((end .0 ≤ 2 ^ 32) × (member .size .0 ≤ 4096)) × ((0 < member .align .0) × (member .align .0 ≤ 16)) ⌝ }
+    requires { ⌜ ((end .0 ≤ 2 ^ 32) × (member .size .0 ≤ 4096)) × ((0 < member .align .0) × (member .align .0 ≤ 32)) ⌝ }
     ensures { λ r. ⌜ r .0 ≡ endAfter union (end .0) (member .align .0) (member .size .0) ⌝ }
 {
     let offset = offset_after(union, end, member.align);
@@ -35,10 +35,10 @@ fn end_after(union: bool, end: Bytes, member: Extent) -> Bytes
 
 // ---- one type
 
-// Of codes 0 to 14, which no model changes.
-const SIZES: [u8; 15] = [1, 1, 2, 4, 8, 16, 4, 8, 16, 16, 8, 16, 8, 16, 32];
+// Of each code; the entry of a pointer, which the model changes, is not read.
+const SIZES: [u8; 17] = [1, 1, 2, 4, 8, 16, 4, 8, 16, 16, 8, 16, 8, 16, 32, 8, 32];
 
-const ALIGNS: [u8; 15] = [1, 1, 2, 4, 8, 16, 4, 8, 16, 16, 8, 16, 4, 8, 16];
+const ALIGNS: [u8; 17] = [1, 1, 2, 4, 8, 16, 4, 8, 16, 16, 8, 16, 4, 8, 16, 8, 32];
 
 fn number(byte: u8) -> usize
     ensures { λ r. ⌜ r ≡ byte ⌝ }
@@ -64,7 +64,7 @@ fn pointer_extent(model: Model) -> Extent
 
 // Size and alignment of a basic type. The model is looked up for a pointer alone: any other type pays one test for it.
 fn basic_extent(d: &[u8], code: usize) -> Extent
-    requires { ⌜ (11 ≤ length (now d)) × (code < 16) ⌝ }
+    requires { ⌜ (11 ≤ length (now d)) × (code < 17) ⌝ }
     ensures { λ r. ⌜ (r .size .0 ≡ basicSize (modelIn (now (d .entry))) code) × (r .align .0 ≡ basicAlign (modelIn (now (d .entry))) code) ⌝ }
 {
     if code == 15 {

@@ -16,7 +16,7 @@ pub fn entries(table: &[u32; 64]) -> usize
 
 // The entry of a type in a table of sizes and alignments.
 pub fn entry_of(extent: Extent) -> u32
-    requires { ⌜ (extent .size .0 ≤ 4096) × (extent .align .0 ≤ 16) ⌝ }
+    requires { ⌜ (extent .size .0 ≤ 4096) × (extent .align .0 ≤ 32) ⌝ }
     ensures { λ r. ⌜ r ≡ packed (extent .size .0) (extent .align .0) ⌝ }
 {
     (extent.size.0 + 8192 * extent.align.0) as u32
@@ -36,6 +36,6 @@ pub fn extent_in(table: &[u32; 64], k: usize) -> Extent
     let entry = wide(table[k]);
     Extent {
         size: Bytes(entry % 8192),
-        align: Bytes(entry / 8192 % 32),
+        align: Bytes(entry / 8192 % 64),
     }
 }

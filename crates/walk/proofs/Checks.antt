@@ -27,13 +27,12 @@ use Rattle.types.specs.Decode.{tyAt}
 use Rattle.layout.specs.declared.Layout.{Layout}
 use Rattle.layout.specs.declared.LayoutAnswer.{LayoutAnswer}
 use Rattle.layout.specs.declared.LayoutAnswer.the-variants.{Laid, Refused as Not}
-use Rattle.layout.specs.Arguments.{shapesFrom, hidden, usedAt as layoutUsed}
+use Rattle.layout.specs.Arguments.{isNamed, shapeAt as layoutShape, shapesFrom, hidden, usedAt as layoutUsed}
 use Rattle.layout.specs.Verdict.{verdict}
 use Rattle.layout.specs.Layout.{layoutOf, layoutAnswer, refusalIn}
 use Rattle.layout.proofs.Verdict.{accepted-uses}
 use Rattle.layout.proofs.Bounds.{argument-known}
 use Rattle.layout.proofs.Layouts.{laid-accepted, refused-verdict, refused-nonzero}
-use Rattle.layout.proofs.Steps.{shape-of-argument}
 use Rattle.station.specs.declared.Station.{Station}
 use Rattle.station.specs.Paper.{Paper, kcb, verdictOf, refusalUnder, arguments, shapeAt}
 use Rattle.station.specs.Attachment.{wrongSeat, described}
@@ -199,8 +198,15 @@ pub stack-test : (d : List ℕ) (a : Ask) (l : Layout) (b : Bool) → l ≡ layo
 unfolding wrongStack layoutOf
 stack-test d a l b e q = rw (kcb-area d) (ap not (sym (q ∙ ap (λ (m : Layout). eqb (length (a .stack)) (m .area .0)) e)))
 
-pub shape-here : (d : List ℕ) (p k : ℕ) (s : Coded) → p < argumentsIn d → k ≡ argumentAt d p → asked s ≡ shapeOf (modelIn d) (tyAt d k) → asked s ≡ shapeAt kcb d p
-shape-here d p k s l e q = shape-of-argument d p k s e q ∙ sym (kcb-shape d p l)
+-- a walk stands before unnamed arguments only
+pub on-unnamed : (d : List ℕ) (w : Walk) → astray kcb d w ≡ false → isNamed d (w .position) ≡ false
+unfolding kcb isNamed
+on-unnamed d w e = le-ltb (w .position) (namedIn d) (astray-not kcb d w e .from)
+
+pub shape-here : (d : List ℕ) (p k : ℕ) (s : Coded) → isNamed d p ≡ false → p < argumentsIn d → k ≡ argumentAt d p
+    → asked s ≡ shapeOf (modelIn d) false (tyAt d k) → asked s ≡ shapeAt kcb d p
+unfolding layoutShape
+shape-here d p k s n l e q = q ∙ ap (λ (j : ℕ). shapeOf (modelIn d) false (tyAt d j)) e ∙ rw (kcb-shape d p l, n)
 
 module _ (P : Paper) (d : List ℕ) (n m : ℕ) (r : Refusal) where
   -- a refusal that is passed on

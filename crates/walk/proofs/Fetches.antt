@@ -7,13 +7,13 @@ use native.Mathlib.Omega.{arith}
 use lib.Dec.{leb, ltb}
 use borrow.Author.Tests.{ltb-true, ltb-false, le-leb, lt-leb}
 use Rattle.units.specs.Raise.{raise}
+use Rattle.units.proofs.Raise.{raise-below}
 use Rattle.units.specs.declared.Bytes.{Bytes}
 use Rattle.places.specs.declared.Kind.{Kind}
-use Rattle.places.specs.declared.Kind.the-variants.{General as general, Vector as vector, Upper as upper}
+use Rattle.places.specs.declared.Kind.the-variants.{General as general, Vector as vector, Upper as upper, Wide as wide}
 use Rattle.places.specs.declared.Kinds.{Kinds}
 use Rattle.places.specs.declared.Kinds.the-variants.{Stack as None, One as Single, Two as Pair}
 use Rattle.places.specs.declared.Shape.{Shape as Coded}
-use Rattle.types.specs.Alignments.{Alignment, one, two, four, eight, sixteen}
 use Rattle.places.specs.Shapes.{some?}
 use Rattle.places.specs.Places.{eights, generalFor, vectorFor, generals, vectors}
 use Rattle.places.specs.Recorded.{listed, asked}
@@ -29,6 +29,7 @@ general-few : (k : Kind) → (generalFor k ≤ 1) × (vectorFor k ≤ 1)
 general-few general = (omega arith, omega arith)
 general-few vector = (omega arith, omega arith)
 general-few upper = (omega arith, omega arith)
+general-few wide = (omega arith, omega arith)
 
 pub single-few : (k : Kind) (n m : ℕ) → n ≡ generals (k ∷ []) → m ≡ vectors (k ∷ []) → (n ≤ 1) × (m ≤ 1)
 single-few k n m p q = (omega (arith, general-few k), omega (arith, general-few k))
@@ -82,18 +83,10 @@ none-fits w k b e p q = true≢false (sym q ∙ p ∙ sym (holds-none w k (rw e)
 
 -- ---- where it is fetched
 
--- an alignment that exceeds 8 is 16
-to-sixteen : (a t : ℕ) → Alignment a → cond (ltb 8 a) (raise 16 t) t ≡ cond (ltb 8 a) (raise a t) t
-to-sixteen a t one = refl
-to-sixteen a t two = refl
-to-sixteen a t four = refl
-to-sixteen a t eight = refl
-to-sixteen a t sixteen = refl
-
 pub read-stack : (w : Walk) (s : Coded) (n : ℕ) → holds (offsetsOf w) (listed (s .kinds)) ≡ false
-    → Alignment (s .align .0) → n ≡ cond (ltb 8 (s .align .0)) (raise 16 (w .overflow .0)) (w .overflow .0) → fromStack n ≡ readAt eights (offsetsOf w) (asked s)
+    → n ≡ cond (ltb 8 (s .align .0)) (raise (s .align .0) (w .overflow .0)) (w .overflow .0) → fromStack n ≡ readAt eights (offsetsOf w) (asked s)
 unfolding readAt raised
-read-stack w s n e m p = rw e (ap fromStack (p ∙ to-sixteen (s .align .0) (w .overflow .0) m))
+read-stack w s n e p = rw e (ap fromStack p)
 
 read-first : (g f : ℕ) (k : Kind) (ks : List Kind) → reads g f (k ∷ ks) ≡ readFor g f k ∷ reads (g + 8 * generalFor k) (f + 16 * vectorFor k) ks
 read-first g f general ks =
@@ -104,6 +97,8 @@ read-first g f upper ks =
     let e : g ≡ g + 8 * generalFor upper = omega arith in
     let q : f ≡ f + 16 * vectorFor upper = omega arith in
     ap₂ (λ (h : ℕ) (i : ℕ). (f - 8) ∷ reads h i ks) e q
+read-first g f wide ks =
+    let e : g ≡ g + 8 * generalFor wide = omega arith in ap (λ (h : ℕ). f ∷ reads h (f + 16) ks) e
 
 pub read-one : (w : Walk) (s : Coded) (k : Kind) (c : Counts) (n : ℕ) → s .kinds ≡ Single k → holds (offsetsOf w) (listed (s .kinds)) ≡ true → IsCounted [] c
     → n ≡ readFor (w .general .0 + 8 * c .general .0) (w .vector .0 + 16 * c .vector .0) k → fromRegisters (n ∷ []) ≡ readAt eights (offsetsOf w) (asked s)
@@ -148,18 +143,16 @@ unfolding step
 moved-registers w s p g f h e x y = rw h (walk-same _ _ refl (omega arith) x y refl)
 
 pub moved-stack : (w : Walk) (s : Coded) (p r : ℕ) (o : Bytes) → holds (offsetsOf w) (listed (s .kinds)) ≡ false → p ≡ w .position + 1
-    → Alignment (s .align .0) → r ≡ cond (ltb 8 (s .align .0)) (raise 16 (w .overflow .0)) (w .overflow .0) → o .0 ≡ raise 8 (r + s .size .0)
+    → r ≡ cond (ltb 8 (s .align .0)) (raise (s .align .0) (w .overflow .0)) (w .overflow .0) → o .0 ≡ raise 8 (r + s .size .0)
     → _≡_ {A = Walk} (record { number = w .number; position = p; general = w .general; vector = w .vector; overflow = o })
     (withOffsets (w .number) (suc (w .position)) (step eights (offsetsOf w) (asked s)))
 unfolding step raised
-moved-stack w s p r o h e m x y =
-    rw h (walk-same _ _ refl (omega arith) refl refl (y ∙ ap (λ (n : ℕ). raise 8 (n + s .size .0)) (x ∙ to-sixteen (s .align .0) (w .overflow .0) m)))
+moved-stack w s p r o h e x y = rw h (walk-same _ _ refl (omega arith) refl refl (y ∙ ap (λ (n : ℕ). raise 8 (n + s .size .0)) x))
 
 -- no sum overflows
-pub raised-small : (a o r : ℕ) → o ≤ 1048576 → r ≡ cond (ltb 8 a) (raise 16 o) o → r ≤ 1048592
-unfolding raise
-raised-small a o r l e = by (ltb 8 a) e
+pub raised-small : (a o r : ℕ) → a ≤ 32 → o ≤ 1048576 → r ≡ cond (ltb 8 a) (raise a o) o → r ≤ 1048608
+raised-small a o r m l e = by (ltb 8 a) refl e
   where
-    by : (b : Bool) → r ≡ cond b (raise 16 o) o → r ≤ 1048592
-    by true p = omega arith
-    by false p = omega arith
+    by : (b : Bool) → ltb 8 a ≡ b → r ≡ cond b (raise a o) o → r ≤ 1048608
+    by true t p = omega (arith, raise-below a o (omega (arith, ltb-true 8 a t)))
+    by false t p = omega arith

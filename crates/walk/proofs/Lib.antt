@@ -1,4 +1,5 @@
 pub mod Agreement
+pub mod Unnamed
 pub mod Fetches
 pub mod Checks
 pub mod Opens

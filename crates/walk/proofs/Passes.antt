@@ -13,8 +13,9 @@ use Rattle.form.specs.Order.{Rule, rule, first}
 use Rattle.uses.specs.Uses.{usesRefusal}
 use Rattle.places.specs.declared.Used.{Used}
 use Rattle.places.specs.Shapes.{Shape, Shaped}
-use Rattle.places.specs.Places.{Slot, eights, wide, registersFor, fits, start, placeIf, place, next, after, area}
+use Rattle.places.specs.Places.{Slot, eights, slotSize, registersFor, fits, start, placeIf, place, next, after, area}
 use Rattle.places.specs.Images.{slots}
+use Rattle.places.specs.Statements.{Seated}
 use Rattle.places.specs.Recorded.{Small}
 use Rattle.places.proofs.Fits.{fits-true}
 use Rattle.places.proofs.Prefix.{after-append, after-at}
@@ -32,10 +33,11 @@ use Rattle.station.proofs.Kcb.{kcb-registers, kcb-verdict, kcb-arguments, kcb-u
 use Rattle.walk.specs.declared.Walk.{Walk}
 use Rattle.walk.specs.declared.Fetch.{Fetch}
 use Rattle.walk.specs.declared.Fetch.the-variants.{One, Two, Stack}
-use Rattle.walk.specs.Offsets.{fromRegisters, fromStack, readAt, sourceOf, sourceIn, walkAt}
+use Rattle.walk.specs.Offsets.{fromRegisters, fromStack, readAt, sourceOf, sourceIn, walkAt, Narrow}
 use Rattle.walk.specs.Orders.{Ask, offsetsOf, withOffsets, standing, wrongRegisters, otherNumber, astray, atEnd, otherType, wrongStack, walkOrder, showRefusal}
 use Rattle.walk.specs.Asks.{InBounds, Within}
 use Rattle.walk.proofs.Agreement.{read-agrees}
+use Rattle.walk.proofs.Unnamed.{narrow-seated, kcb-narrow}
 use Rattle.walk.proofs.Checks.{Genuine, astray-not}
 use Rattle.form.proofs.Order.{first-both}
 
@@ -99,12 +101,12 @@ module _ (P : Paper) where
       omega (arith, x, y, z, w, area-rounded (P .slot) u ss .behind)
 
   -- a record that stands there fetches where the layout places
-  pub genuine-reads : (d : List ℕ) (w : Walk) → Genuine P d w → Shaped (shapeAt P d (w .position)) → P .first d .stack .0 % wide (P .slot) ≡ 0
+  pub genuine-reads : (d : List ℕ) (w : Walk) → Genuine P d w → Shaped (shapeAt P d (w .position)) → Narrow (shapeAt P d (w .position)) → P .first d .stack .0 % slotSize (P .slot) ≡ 0
       → readAt (P .slot) (offsetsOf w) (shapeAt P d (w .position)) ≡ sourceIn (place (P .slot) (usedAt P d (w .position)) (shapeAt P d (w .position)))
   unfolding standing usedAt
-  genuine-reads d w g h m =
+  genuine-reads d w g h n m =
       ap (λ (v : Walk). readAt (P .slot) (offsetsOf v) (shapeAt P d (w .position))) (g .same)
-      ∙ read-agrees (P .slot) (usedAt P d (w .position)) (shapeAt P d (w .position)) h
+      ∙ read-agrees (P .slot) (usedAt P d (w .position)) (shapeAt P d (w .position)) h n
       (after-slotted (P .slot) (take (w .position) (P .shapes d)) (P .first d) m)
 
 -- ---- within the images
@@ -144,25 +146,25 @@ on-stack (One a) o n regs stack e l = absurd (never-stack (sym e))
 on-stack (Two a b) o n regs stack e l = absurd (never-stack (sym e))
 on-stack (Stack p) o n regs stack e l = let q = same-offset e in omega arith
 
-within : (slot : Slot) (u : Used) (s : Shape) (f : Fetch) (stack : ℕ) → Shaped s → sourceOf f ≡ sourceIn (place slot u s) → (fits u (s .kinds) ≡ false → start slot u s + s .size ≤ stack)
+within : (slot : Slot) (u : Used) (s : Shape) (f : Fetch) (stack : ℕ) → Shaped s → Seated 176 s → sourceOf f ≡ sourceIn (place slot u s) → (fits u (s .kinds) ≡ false → start slot u s + s .size ≤ stack)
     → Within f (s .size) 176 stack
 unfolding place
-within slot u s f stack h e m = by (fits u (s .kinds)) refl e
+within slot u s f stack h w e m = by (fits u (s .kinds)) refl e
   where
     by : (b : Bool) → fits u (s .kinds) ≡ b → sourceOf f ≡ sourceIn (placeIf slot b u s) → Within f (s .size) 176 stack
     by true p q =
         let z = fits-true u (s .kinds) p in
         let r = h .room (z .some) in
         let n = length-slots (s .kinds) (u .general .0) (u .vector .0) in
-        in-registers f (slots (registersFor (u .general .0) (u .vector .0) (s .kinds))) (s .size) 176 stack q (omega (arith, r .0, n)) (omega (arith, r .1, n)) (slots-inside u s h p)
+        in-registers f (slots (registersFor (u .general .0) (u .vector .0) (s .kinds))) (s .size) 176 stack q (omega (arith, r .0, n)) (omega (arith, r .1, n)) (slots-inside 176 u s h w p)
     by false p q = on-stack f (start slot u s) (s .size) 176 stack q (m p)
 
 -- ---- of document 01's descriptions
 
-pub kcb-reads : (d : List ℕ) (w : Walk) → Genuine kcb d w → Shaped (shapeAt kcb d (w .position))
+pub kcb-reads : (d : List ℕ) (w : Walk) → Genuine kcb d w → Shaped (shapeAt kcb d (w .position)) → Narrow (shapeAt kcb d (w .position))
     → readAt eights (offsetsOf w) (shapeAt kcb d (w .position)) ≡ sourceIn (place eights (usedAt kcb d (w .position)) (shapeAt kcb d (w .position)))
 unfolding kcb
-kcb-reads d w g h = genuine-reads kcb d w g h refl
+kcb-reads d w g h n = genuine-reads kcb d w g h n refl
 
 pub kcb-room : (d : List ℕ) (p : ℕ) → p < arguments kcb d → fits (usedAt kcb d p) (shapeAt kcb d p .kinds) ≡ false
     → start eights (usedAt kcb d p) (shapeAt kcb d p) + shapeAt kcb d p .size ≤ areaOf kcb d
@@ -178,6 +180,7 @@ pub record Ready (s : Station) (seat : List ℕ) (w : Walk) (a : Ask) : Type 0 w
   pub reached : InBounds w
   pub small : Small (shapeAt kcb (described s seat) (w .position))
   pub shaped : Shaped (shapeAt kcb (described s seat) (w .position))
+  pub narrow : Narrow (shapeAt kcb (described s seat) (w .position))
   pub fetched : (f : Fetch) → sourceOf f ≡ readAt eights (offsetsOf w) (shapeAt kcb (described s seat) (w .position))
       → Within f (shapeAt kcb (described s seat) (w .position) .size) 176 (length (a .stack))
 
@@ -209,6 +212,7 @@ ready s seat w a e =
     let k : w .position < argumentsIn d = omega (arith, kcb-arguments d) in
     let u = accepted-uses d (sym (kcb-verdict d) ∙ z .0 .accepted) in
     let h : Shaped (shapeAt kcb d (w .position)) = rw (kcb-shape d (w .position) k) (argument-shaped d u (w .position) k) in
+    let n : Narrow (shapeAt kcb d (w .position)) = kcb-narrow d (w .position) (g .from) k in
     record {
       passed = z .0;
       registers = z .0 .registers ∙ kcb-registers;
@@ -218,6 +222,7 @@ ready s seat w a e =
       reached = standing-reached d w u g (omega arith);
       small = rw (kcb-shape d (w .position) k) (argument-small d u (w .position) k);
       shaped = h;
-      fetched = λ f q. within eights (usedAt kcb d (w .position)) (shapeAt kcb d (w .position)) f (length (a .stack)) h (q ∙ kcb-reads d w g h)
+      narrow = n;
+      fetched = λ f q. within eights (usedAt kcb d (w .position)) (shapeAt kcb d (w .position)) f (length (a .stack)) h (narrow-seated _ n) (q ∙ kcb-reads d w g h n)
           (λ m. rw (z .1) (kcb-room d (w .position) l m));
     }

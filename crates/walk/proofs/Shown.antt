@@ -1,7 +1,7 @@
 -- Show: which part, that it lies within its image, and that it holds the bytes that a step would copy. Assumes nothing.
 use mathlib.Core.Path.{_≡_, refl, sym, ap, _∙_}
 use mathlib.Core.Logic.{_≢_}
-use mathlib.Core.Bool.{Bool, true, false, cond, false≢true}
+use mathlib.Core.Bool.{Bool, true, false, cond, false≢true, true≢false}
 use mathlib.Core.List.{List, [], _∷_, _++_, append-nil}
 use Prim.Native.Nat.{ℕ, _+_, _*_, _-_, _≤_, min}
 use native.Mathlib.Omega.{arith}
@@ -13,10 +13,10 @@ use Rattle.addresses.proofs.Runs.{all-run, run-shift, gather-run}
 use Rattle.addresses.proofs.Parts.{gather-left, gather-right}
 use Rattle.form.specs.declared.Refusal.{Refusal}
 use Rattle.places.specs.declared.Kind.{Kind}
-use Rattle.places.specs.declared.Kind.the-variants.{General as general, Vector as vector, Upper as upper}
+use Rattle.places.specs.declared.Kind.the-variants.{General as general, Vector as vector, Upper as upper, Wide as wide}
 use Rattle.places.specs.declared.Used.{Used}
 use Rattle.places.specs.declared.Shape.{Shape as Coded}
-use Rattle.places.specs.Shapes.{Shape, Led, Shaped}
+use Rattle.places.specs.Shapes.{Shape, widths, Led, Shaped}
 use Rattle.places.specs.Places.{Slot, eights, registersFor, fits, start, placeIf, place}
 use Rattle.places.specs.Images.{slots, spread}
 use Rattle.places.specs.Statements.{Seated}
@@ -35,42 +35,44 @@ use Rattle.walk.specs.Offsets.{Source, readAt, bytesFrom, sourceOf, sour
 use Rattle.walk.specs.Orders.{Ask, offsetsOf, showRefusal}
 use Rattle.walk.specs.Steps.{bytesAt}
 use Rattle.walk.specs.Asks.{InBounds, IsStanding, refusalIn}
+use Rattle.walk.proofs.Unnamed.{narrow-seated}
 use Rattle.walk.proofs.Passes.{Ready, ready, kcb-reads, kcb-room}
 use Rattle.walk.specs.declared.showing.Part.{Part}
 use Rattle.walk.specs.declared.showing.ShownAnswer.{ShownAnswer}
 use Rattle.walk.specs.declared.showing.ShownAnswer.the-variants.{Registers, Apart, Refused}
-use Rattle.walk.specs.Show.{alike, onePiece, headOf, whole, partIn, shownBytes, Lies, shownIn, shownAnswer, showPart}
-
-pub upper-never : (k : Kind) → false ≡ alike upper k
-upper-never general = refl
-upper-never vector = refl
-upper-never upper = refl
+use Rattle.walk.specs.Show.{onePiece, headOf, whole, partIn, shownBytes, Lies, shownIn, shownAnswer, showPart}
 
 -- ---- one part of one image
 
-one-run : (ks : List Kind) (g f n : ℕ) → Led false ks → onePiece ks ≡ true → n ≤ 8 * length ks → All (λ a. a + 8 ≤ 176) (slots (registersFor g f ks))
-    → (spread (slots (registersFor g f ks)) n ≡ run (headOf (slots (registersFor g f ks))) n) × (headOf (slots (registersFor g f ks)) + n ≤ 176)
-one-run [] g f n l e h b = absurd (false≢true e)
-one-run (general ∷ []) g f n l e h b =
+one-run : (ks : List Kind) (g f n top : ℕ) → Led false ks → onePiece ks ≡ true → n ≤ 8 * widths ks → All (λ a. a + 8 ≤ top) (slots (registersFor g f ks))
+    → (spread (slots (registersFor g f ks)) n ≡ run (headOf (slots (registersFor g f ks))) n) × (headOf (slots (registersFor g f ks)) + n ≤ top)
+one-run [] g f n top l e h b = absurd (false≢true e)
+one-run (general ∷ []) g f n top l e h b =
     let p : min n 8 ≡ n = omega arith in (ap (λ (x : ℕ). run (8 * g) x ++ []) p ∙ append-nil (run (8 * g) n), omega (arith, b .0))
-one-run (vector ∷ []) g f n l e h b =
+one-run (vector ∷ []) g f n top l e h b =
     let p : min n 8 ≡ n = omega arith in (ap (λ (x : ℕ). run (48 + 16 * f) x ++ []) p ∙ append-nil (run (48 + 16 * f) n), omega (arith, b .0))
-one-run (upper ∷ ks) g f n l e h b = absurd l
-one-run (general ∷ general ∷ []) g f n l e h b =
+one-run (upper ∷ ks) g f n top l e h b = absurd l
+one-run (wide ∷ []) g f n top l e h b = absurd (false≢true e)
+one-run (wide ∷ k ∷ ks) g f n top l e h b = absurd (true≢false l)
+one-run (general ∷ general ∷ []) g f n top l e h b =
     let p : 8 * (g + 1) ≡ 8 * g + 8 = omega arith in
     (ap (λ (x : ℕ). spread ((8 * g) ∷ x ∷ []) n) p ∙ spread-adjoin (8 * g) n (omega arith), omega (arith, b .1 .0))
-one-run (general ∷ vector ∷ []) g f n l e h b = absurd (false≢true e)
-one-run (general ∷ upper ∷ ks) g f n l e h b = absurd l
-one-run (vector ∷ general ∷ []) g f n l e h b = absurd (false≢true e)
-one-run (vector ∷ vector ∷ []) g f n l e h b = absurd (false≢true e)
-one-run (vector ∷ upper ∷ []) g f n l e h b =
+one-run (general ∷ vector ∷ []) g f n top l e h b = absurd (false≢true e)
+one-run (general ∷ upper ∷ ks) g f n top l e h b = absurd l
+one-run (general ∷ wide ∷ []) g f n top l e h b = absurd (false≢true e)
+one-run (vector ∷ general ∷ []) g f n top l e h b = absurd (false≢true e)
+one-run (vector ∷ wide ∷ []) g f n top l e h b = absurd (false≢true e)
+one-run (vector ∷ vector ∷ []) g f n top l e h b = absurd (false≢true e)
+one-run (vector ∷ upper ∷ []) g f n top l e h b =
     let p : 56 + 16 * (f + 1 - 1) ≡ 48 + 16 * f + 8 = omega arith in
     (ap (λ (x : ℕ). spread ((48 + 16 * f) ∷ x ∷ []) n) p ∙ spread-adjoin (48 + 16 * f) n (omega arith), omega (arith, b .1 .0))
-one-run (general ∷ general ∷ m ∷ ks) g f n l e h b = absurd (false≢true e)
-one-run (general ∷ vector ∷ m ∷ ks) g f n l e h b = absurd (false≢true e)
-one-run (vector ∷ general ∷ m ∷ ks) g f n l e h b = absurd (false≢true e)
-one-run (vector ∷ vector ∷ m ∷ ks) g f n l e h b = absurd (false≢true e)
-one-run (vector ∷ upper ∷ m ∷ ks) g f n l e h b = absurd (false≢true e)
+one-run (general ∷ general ∷ m ∷ ks) g f n top l e h b = absurd (false≢true e)
+one-run (general ∷ vector ∷ m ∷ ks) g f n top l e h b = absurd (false≢true e)
+one-run (general ∷ wide ∷ m ∷ ks) g f n top l e h b = absurd (false≢true e)
+one-run (vector ∷ general ∷ m ∷ ks) g f n top l e h b = absurd (false≢true e)
+one-run (vector ∷ vector ∷ m ∷ ks) g f n top l e h b = absurd (false≢true e)
+one-run (vector ∷ upper ∷ m ∷ ks) g f n top l e h b = absurd (false≢true e)
+one-run (vector ∷ wide ∷ m ∷ ks) g f n top l e h b = absurd (false≢true e)
 
 module _ (base : ℕ) (r s : List ℕ) (e : length r ≡ base) where
   gather-registers : (h n : ℕ) → h + n ≤ base → gather (r ++ s) (run h n) ≡ take n (drop h r)
@@ -83,14 +85,14 @@ module _ (base : ℕ) (r s : List ℕ) (e : length r ≡ base) where
       ∙ gather-right (run o n) r s ∙ gather-run n o s l
 
 -- the part lies within the images, and holds the bytes of the place where they are one part
-part-lies : (u : Used) (o : Shape) (stack : ℕ) → Shaped o → (fits u (o .kinds) ≡ false → start eights u o + o .size ≤ stack) → Lies (partIn (sourceIn (place eights u o)) o) 176 stack
+part-lies : (u : Used) (o : Shape) (stack : ℕ) → Shaped o → Seated 176 o → (fits u (o .kinds) ≡ false → start eights u o + o .size ≤ stack) → Lies (partIn (sourceIn (place eights u o)) o) 176 stack
 unfolding place
-part-lies u o stack h m = by (fits u (o .kinds)) refl
+part-lies u o stack h seat m = by (fits u (o .kinds)) refl
   where
     regs : (b : Bool) → fits u (o .kinds) ≡ true → onePiece (o .kinds) ≡ b
         → Lies (cond b (Registers (record { offset = record { 0 = headOf (slots (registersFor (u .general .0) (u .vector .0) (o .kinds))) }; length = record { 0 = o .size } })) Apart) 176 stack
     regs false e p = tt
-    regs true e p = one-run (o .kinds) (u .general .0) (u .vector .0) (o .size) (h .led) p (h .room (fits-true u (o .kinds) e .some) .0) (slots-inside u o h e) .1
+    regs true e p = one-run (o .kinds) (u .general .0) (u .vector .0) (o .size) 176 (h .led) p (h .room (fits-true u (o .kinds) e .some) .0) (slots-inside 176 u o h seat e) .1
 
     by : (b : Bool) → fits u (o .kinds) ≡ b → Lies (partIn (sourceIn (placeIf eights b u o)) o) 176 stack
     by true e = regs (onePiece (o .kinds)) e refl
@@ -106,9 +108,8 @@ part-bytes base slot u o a h seat l m = by (fits u (o .kinds)) refl
         ≡ cond b (gather (a .registers ++ a .stack) (spread (slots (registersFor (u .general .0) (u .vector .0) (o .kinds))) (o .size))) []
     regs false e p = refl
     regs true e p =
-        let f = fits-true u (o .kinds) e in
-        let z = one-run (o .kinds) (u .general .0) (u .vector .0) (o .size) (h .led) p (h .room (fits-true u (o .kinds) e .some) .0) (slots-inside u o h e) in
-        sym (ap (gather (a .registers ++ a .stack)) (z .0) ∙ gather-registers base (a .registers) (a .stack) l (headOf (slots (registersFor (u .general .0) (u .vector .0) (o .kinds)))) (o .size) (omega (arith, z .1, seat (f .some))))
+        let z = one-run (o .kinds) (u .general .0) (u .vector .0) (o .size) base (h .led) p (h .room (fits-true u (o .kinds) e .some) .0) (slots-inside base u o h seat e) in
+        sym (ap (gather (a .registers ++ a .stack)) (z .0) ∙ gather-registers base (a .registers) (a .stack) l (headOf (slots (registersFor (u .general .0) (u .vector .0) (o .kinds)))) (o .size) (z .1))
 
     by : (b : Bool) → fits u (o .kinds) ≡ b
         → shownBytes (partIn (sourceIn (placeIf slot b u o)) o) (a .registers) (a .stack) ≡ cond (whole (sourceIn (placeIf slot b u o)) o) (gather (a .registers ++ a .stack) (bytesFrom base (sourceIn (placeIf slot b u o)) (o .size))) []
@@ -120,8 +121,8 @@ part-bytes base slot u o a h seat l m = by (fits u (o .kinds)) refl
 shown-lies : (s : Station) (seat : List ℕ) (w : Walk) (a : Ask) → Ready s seat w a → Lies (shownIn kcb (described s seat) w) 176 (length (a .stack))
 unfolding shownIn kcb
 shown-lies s seat w a z =
-    rw (kcb-reads (described s seat) w (z .genuine) (z .shaped))
-    (part-lies (usedAt kcb (described s seat) (w .position)) (shapeAt kcb (described s seat) (w .position)) (length (a .stack)) (z .shaped)
+    rw (kcb-reads (described s seat) w (z .genuine) (z .shaped) (z .narrow))
+    (part-lies (usedAt kcb (described s seat) (w .position)) (shapeAt kcb (described s seat) (w .position)) (length (a .stack)) (z .shaped) (narrow-seated _ (z .narrow))
     (λ f. rw (z .stack) (kcb-room (described s seat) (w .position) (z .before) f)))
 
 -- C9: an accepted show answers the bytes that a step would copy, where they lie in one part, and else the empty part
@@ -132,8 +133,8 @@ unfolding showPart shownAnswer shownIn bytesAt kcb
 shows s seat w a e =
     let z = ready s seat w a e in
     let d = described s seat in
-    rw (eq-eqb (showRefusal kcb s seat w a) 0 e, kcb-reads d w (z .genuine) (z .shaped))
-    (part-bytes 176 eights (usedAt kcb d (w .position)) (shapeAt kcb d (w .position)) a (z .shaped) (λ e. omega arith) (z .registers)
+    rw (eq-eqb (showRefusal kcb s seat w a) 0 e, kcb-reads d w (z .genuine) (z .shaped) (z .narrow))
+    (part-bytes 176 eights (usedAt kcb d (w .position)) (shapeAt kcb d (w .position)) a (z .shaped) (narrow-seated _ (z .narrow)) (z .registers)
     (λ f. rw (z .stack) (kcb-room d (w .position) (z .before) f)))
 
 -- a refused one answers the empty part

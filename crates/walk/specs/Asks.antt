@@ -6,7 +6,7 @@ use Prim.Native.Nat.{ℕ, _+_, _-_, _^_, _≤_}
 use Rattle.form.specs.Reading.{refusalOf}
 use Rattle.form.specs.declared.Refusal.{Refusal}
 use Rattle.places.specs.declared.Kind.{Kind}
-use Rattle.places.specs.declared.Kind.the-variants.{General as general, Vector as vector, Upper as upper}
+use Rattle.places.specs.declared.Kind.the-variants.{General as general, Vector as vector, Upper as upper, Wide as wide}
 use Rattle.places.specs.Places.{generals, vectors}
 use Rattle.places.specs.Recorded.{asked}
 use Rattle.station.specs.Paper.{Paper, refusalUnder, shapeAt}
@@ -35,6 +35,7 @@ abbrev pub readFor : ℕ → ℕ → Kind → ℕ
 readFor g f general = g
 readFor g f vector = f
 readFor g f upper = f - 8
+readFor g f wide = f
 
 -- so many bytes, fetched there, lie within images of these lengths, and each eightbyte but the last is full
 abbrev pub Within : Fetch → ℕ → ℕ → ℕ → Type 0

@@ -1,5 +1,6 @@
 -- One step of a walk, in bytes: 000 section 3.5.7 as document 01 narrows it, with the bounds 48 and 176. Written from the paper, and
 -- not from the layout. Assumes nothing: these are definitions.
+use mathlib.Core.Path.{_≡_}
 use Prim.Native.Nat.{ℕ, _+_, _*_, _-_}
 use mathlib.Core.Bool.{Bool, true, false, cond, _&&_}
 use mathlib.Core.List.{List, [], _∷_}
@@ -7,10 +8,10 @@ use lib.Dec.{leb, ltb}
 use Rattle.units.specs.Raise.{raise}
 use Rattle.addresses.specs.Addresses.{run}
 use Rattle.places.specs.declared.Kind.{Kind}
-use Rattle.places.specs.declared.Kind.the-variants.{General as general, Vector as vector, Upper as upper}
+use Rattle.places.specs.declared.Kind.the-variants.{General as general, Vector as vector, Upper as upper, Wide as wide}
 use Rattle.places.specs.declared.Used.{Used}
-use Rattle.places.specs.Shapes.{Shape, some?}
-use Rattle.places.specs.Places.{Slot, wide, Place, inRegisters, onStack, generals, vectors}
+use Rattle.places.specs.Shapes.{Shape, some?, wide?}
+use Rattle.places.specs.Places.{Slot, slotSize, Place, inRegisters, onStack, generals, vectors}
 use Rattle.places.specs.Images.{slots, spread}
 use Rattle.walk.specs.declared.Fetch.{Fetch}
 use Rattle.walk.specs.declared.Fetch.the-variants.{One, Two, Stack}
@@ -32,16 +33,18 @@ unfoldable pub holds : Offsets → List Kind → Bool
 holds o ks = some? ks && (leb (o .general) (48 - 8 * generals ks) && leb (o .vector) (176 - 16 * vectors ks))
 
 -- 000: "Fetch type .. with an offset of gp_offset and/or fp_offset", eightbyte after eightbyte: a general register is saved in 8
--- bytes, a vector register in 16, and SSEUP is the upper half of the vector register that was read last
+-- bytes, a vector register in 16, and SSEUP is the upper half of the vector register that was read last. No unnamed argument is wide
+-- (`Narrow`): of one that is, this says where its first eightbyte would be
 abbrev pub reads : ℕ → ℕ → List Kind → List ℕ
 reads g f [] = []
 reads g f (general ∷ ks) = g ∷ reads (g + 8) f ks
 reads g f (vector ∷ ks) = f ∷ reads g (f + 16) ks
 reads g f (upper ∷ ks) = (f - 8) ∷ reads g f ks
+reads g f (wide ∷ ks) = f ∷ reads g (f + 16) ks
 
--- "the overflow offset is raised to 16 where the alignment exceeds 8": to the alignment where that exceeds the slot
+-- request 2026-06: "the walk raises to the type's alignment where that exceeds 8", the slot
 unfoldable pub raised : Slot → Offsets → Shape → ℕ
-raised slot o s = cond (ltb (wide slot) (s .align)) (raise (s .align) (o .overflow)) (o .overflow)
+raised slot o s = cond (ltb (slotSize slot) (s .align)) (raise (s .align) (o .overflow)) (o .overflow)
 
 abbrev pub readIf : Slot → Bool → Offsets → Shape → Source
 readIf slot true o s = fromRegisters (reads (o .general) (o .vector) (s .kinds))
@@ -51,7 +54,7 @@ readIf slot false o s = fromStack (raised slot o s)
 abbrev pub stepIf : Slot → Bool → Offsets → Shape → Offsets
 stepIf slot true o s =
     record { general = o .general + 8 * generals (s .kinds); vector = o .vector + 16 * vectors (s .kinds); overflow = o .overflow }
-stepIf slot false o s = record { general = o .general; vector = o .vector; overflow = raise (wide slot) (raised slot o s + s .size) }
+stepIf slot false o s = record { general = o .general; vector = o .vector; overflow = raise (slotSize slot) (raised slot o s + s .size) }
 
 -- where the next argument is fetched, and the offsets after it
 unfoldable pub readAt : Slot → Offsets → Shape → Source
@@ -72,6 +75,10 @@ sourceOf (Two a b) = fromRegisters (a .0 ∷ b .0 ∷ [])
 sourceOf (Stack o) = fromStack (o .0)
 
 -- ---- beside the layout
+
+-- request 2026-06: "an unnamed one, structures included, is always on the stack", so that no unnamed argument asks for a wide register
+pub record Narrow (s : Shape) : Type 0 where
+  pub kinds : wide? (s .kinds) ≡ false
 
 -- the offsets where so much is used: "With none used they are 0, 48 and 0"
 unfoldable pub walkAt : Used → Offsets

@@ -6,7 +6,7 @@ use Prim.Native.Nat.{ℕ, _+_, _≤_}
 use lib.Dec.{eqb}
 use lib.ListN.{take, drop}
 use Rattle.places.specs.declared.Kind.{Kind}
-use Rattle.places.specs.declared.Kind.the-variants.{General as general, Vector as vector, Upper as upper}
+use Rattle.places.specs.declared.Kind.the-variants.{General as general, Vector as vector, Upper as upper, Wide as wide}
 use Rattle.places.specs.Shapes.{Shape}
 use Rattle.station.specs.declared.Station.{Station}
 use Rattle.station.specs.Paper.{Paper, refusalUnder, shapeAt}
@@ -23,17 +23,25 @@ abbrev pub alike : Kind → Kind → Bool
 alike general general = true
 alike general vector = false
 alike general upper = false
+alike general wide = false
 alike vector general = false
 alike vector vector = false
 alike vector upper = true
-alike upper general = false
-alike upper vector = false
-alike upper upper = false
+alike vector wide = false
+alike upper l = false
+alike wide l = false
+
+-- one eightbyte lies in one part; what is in a wide register does not, but no unnamed argument is (`Narrow`)
+abbrev pub alone : Kind → Bool
+alone general = true
+alone vector = true
+alone upper = true
+alone wide = false
 
 -- eightbytes that lie in one part of the register image
 abbrev pub onePiece : List Kind → Bool
 onePiece [] = false
-onePiece (k ∷ []) = true
+onePiece (k ∷ []) = alone k
 onePiece (k ∷ l ∷ []) = alike k l
 onePiece (k ∷ l ∷ m ∷ ks) = false
 

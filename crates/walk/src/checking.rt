@@ -41,7 +41,7 @@ fn is_astray(d: &[u8], walk: Walk, table: &[u32; 64]) -> bool
     !units::same(walk.overflow, there.overflow)
 }
 
-// 1..10, 17, 18, 19, 20, and 11 for a stack image of so many bytes.
+// 1..10, 17, 18, 19, 20, and 11 for a stack image of so many bytes. Whatever the walk stands before is unnamed.
 fn stands(station: Station, d: &[u8], walk: Walk, stack: &[u8], asked: u8) -> Standing
     ensures { λ r. ⌜ IsStanding kcb (restRefusal kcb station (now (d .entry)) walk (asking [] (now (stack .entry)) asked []))
         (now (d .entry)) (walk .position) r ⌝ }
@@ -69,7 +69,7 @@ fn stands(station: Station, d: &[u8], walk: Walk, stack: &[u8], asked: u8) -> St
     if !units::same(Bytes(stack.len()), area) {
         return Standing::Refused(form::refusal_of(11));
     }
-    Standing::Before(places::shape_in(&table, ty))
+    Standing::Before(places::shape_in(&table, ty, false))
 }
 
 // Whether the walk goes on here, by every check of a step but that of the out buffer; and what the next argument asks for.

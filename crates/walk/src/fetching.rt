@@ -54,6 +54,10 @@ fn count_one(before: Counts, kind: Kind) -> Counts
             vector: units::one_more(vector),
         },
         Kind::Upper => before,
+        Kind::Wide => Counts {
+            general: general,
+            vector: units::one_more(vector),
+        },
     }
 }
 
@@ -106,13 +110,13 @@ fn fits(walk: Walk, kinds: Kinds) -> bool
     )
 }
 
-// "the overflow offset is raised to 16 where the alignment exceeds 8".
+// "the walk raises to the type's alignment where that exceeds 8".
 fn raise_overflow(overflow: Bytes, align: Bytes) -> Bytes
-    requires { ⌜ overflow .0 ≤ 2 ^ 20 ⌝ }
-    ensures { λ r. ⌜ r .0 ≡ cond (ltb 8 (align .0)) (raise 16 (overflow .0)) (overflow .0) ⌝ }
+    requires { ⌜ (overflow .0 ≤ 2 ^ 20) × (align .0 ≤ 32) ⌝ }
+    ensures { λ r. ⌜ r .0 ≡ cond (ltb 8 (align .0)) (raise (align .0) (overflow .0)) (overflow .0) ⌝ }
 {
     if units::over(align, Bytes(8)) {
-        return units::raise_to(Bytes(16), overflow);
+        return units::raise_to(align, overflow);
     }
     overflow
 }
@@ -128,6 +132,7 @@ fn read(walk: Walk, passed: Counts, kind: Kind) -> Bytes
         Kind::General => general,
         Kind::Vector => vector,
         Kind::Upper => units::minus(vector, Bytes(8)),
+        Kind::Wide => vector,
     }
 }
 

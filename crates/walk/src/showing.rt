@@ -14,7 +14,7 @@ ghost use mathlib.Core.Path.{_≡_};
 ghost use mathlib.Core.Bool.{cond};
 ghost use Rattle.places.specs.Recorded.{listed, asked as askedOf};
 ghost use Rattle.walk.specs.Offsets.{sourceOf};
-ghost use Rattle.walk.specs.Show.{alike, onePiece, partIn, Lies, shownBytes, shownAnswer, showPart};
+ghost use Rattle.walk.specs.Show.{alike, alone, onePiece, partIn, Lies, shownBytes, shownAnswer, showPart};
 ghost use lib.ListN.{length};
 ghost use mathlib.Core.List.{[]};
 ghost use Rattle.station.specs.Paper.{kcb, refusalUnder};
@@ -45,13 +45,28 @@ fn adjoin(low: Kind, high: Kind) -> bool
             Kind::General => true,
             Kind::Vector => false,
             Kind::Upper => false,
+            Kind::Wide => false,
         },
         Kind::Vector => match high {
             Kind::General => false,
             Kind::Vector => false,
             Kind::Upper => true,
+            Kind::Wide => false,
         },
         Kind::Upper => false,
+        Kind::Wide => false,
+    }
+}
+
+// Whether one eightbyte lies in one part: it does, but for a wide register, which no unnamed argument has.
+fn is_alone(kind: Kind) -> bool
+    ensures { λ r. ⌜ r ≡ alone kind ⌝ }
+{
+    match kind {
+        Kind::General => true,
+        Kind::Vector => true,
+        Kind::Upper => true,
+        Kind::Wide => false,
     }
 }
 
@@ -61,7 +76,7 @@ fn one_piece(kinds: Kinds) -> bool
 {
     match kinds {
         Kinds::Stack => false,
-        Kinds::One(_) => true,
+        Kinds::One(kind) => is_alone(kind),
         Kinds::Two(low, high) => adjoin(low, high),
     }
 }

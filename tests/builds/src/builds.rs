@@ -13,7 +13,7 @@ use independent::refusal::Told;
 const MOST_MEMBERS: usize = 255;
 const MOST_ELEMENTS: usize = 4096;
 
-const BASICS: [Basic; 16] = [
+const BASICS: [Basic; 17] = [
     Basic::Bool,
     Basic::Char,
     Basic::Short,
@@ -30,6 +30,7 @@ const BASICS: [Basic; 16] = [
     Basic::ComplexDouble,
     Basic::ComplexLongDouble,
     Basic::Pointer,
+    Basic::M256,
 ];
 
 /// A type as it was asked for.
@@ -75,7 +76,7 @@ impl Build {
 
     fn is_right(&self, shape: &Shape) -> bool {
         match shape {
-            Shape::Basic(code) => *code < 16,
+            Shape::Basic(code) => *code < 17,
             Shape::Array(element, count) => {
                 self.is_there(*element) && (1..=MOST_ELEMENTS).contains(count)
             }
@@ -213,7 +214,7 @@ fn passed(random: &mut Random, build: &Build) -> u8 {
 
 fn type_call(random: &mut Random, build: &mut Build) {
     let shape = match random.below(if build.shapes.is_empty() { 1 } else { 6 }) {
-        0 | 1 => Shape::Basic(random.below(16) as u8),
+        0 | 1 => Shape::Basic(random.below(17) as u8),
         2 => {
             let count = if random.one_in(20) { random.below(5000) } else { random.between(1, 6) };
             Shape::Array(number(random, build), count)

@@ -17,6 +17,7 @@ __attribute__((aligned(64))) unsigned char sink[ROOM];
 __attribute__((aligned(64))) unsigned char source[ROOM];
 __attribute__((aligned(64))) static unsigned char values[ROOM];
 __attribute__((aligned(64))) static unsigned char registers[176];
+__attribute__((aligned(64))) unsigned char upper[128];
 __attribute__((aligned(64))) static unsigned char stack[ROOM];
 
 void probe(void);
@@ -24,9 +25,10 @@ void (*volatile probe_at)(void) = probe;
 
 /* Used by the assembly. */
 __attribute__((aligned(64))) unsigned char probe_registers[176];
+__attribute__((aligned(64))) unsigned char probe_upper[128];
 __attribute__((aligned(64))) unsigned char probe_stack[ROOM];
-__attribute__((aligned(64))) unsigned char return_image[80];
-uint64_t probe_rax, probe_area, return_size;
+__attribute__((aligned(64))) unsigned char return_image[80 + 16];
+uint64_t probe_rax, probe_area, probe_start, area_alignment, return_size;
 uint32_t return_kind;
 unsigned char *entered_stack;
 void enter(void *function, const void *registers, const void *stack, uint64_t area, uint64_t al,
@@ -97,11 +99,14 @@ static void judge_caller(const struct judged *one)
 {
     memset(sink, 0xCC, return_size);
     memset(probe_registers, 0xCC, sizeof probe_registers);
+    memset(probe_upper, 0xCC, sizeof probe_upper);
     memset(probe_stack, 0xCC, probe_area);
     one->call(values);
     __asm__ volatile("fninit");
     give(probe_registers, sizeof probe_registers);
+    give(probe_upper, sizeof probe_upper);
     give(&probe_rax, sizeof probe_rax);
+    give(&probe_start, sizeof probe_start);
     give(probe_stack, probe_area);
     give(sink, return_size);
 }
@@ -110,7 +115,7 @@ static void judge_caller(const struct judged *one)
 static void judge_callee(const struct judged *one, uint32_t length, uint64_t al,
                          const struct offsets *start)
 {
-    static unsigned char after[48 + 108];
+    static unsigned char after[48 + 108 + 16];
     memset(sink, 0xCC, length);
     memset(hidden, 0xCC, return_size);
     note_count = 0;
@@ -141,6 +146,8 @@ static void judge_one(const struct judged *one)
     uint32_t al;
     take(values, length);
     take(registers, sizeof registers);
+    take(upper, sizeof upper);
+    area_alignment = take_number();
     probe_area = take_number();
     take(stack, probe_area);
     al = take_number();

@@ -17,6 +17,7 @@ struct judged {
 extern const struct judged judged[];
 extern const unsigned judged_count;
 extern const unsigned judged_pointer; /* sizeof(void *) of the judged functions: 8, or 4 under ILP32 */
+extern const unsigned judged_wide;    /* 1 where vectors of 32 bytes are among them, and the machine has such registers */
 
 extern unsigned char sink[ROOM];   /* where read values go */
 extern unsigned char source[ROOM]; /* the value to return */

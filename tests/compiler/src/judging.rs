@@ -9,7 +9,7 @@ use independent::moving::gathering;
 use independent::needing::{needs_stack, StackNeed};
 use independent::places::ReturnPlace;
 use independent::refusal::Refusal;
-use independent::returning::taking;
+use independent::returning::{taking, RETURN_IMAGE};
 use independent::station::{attach, Station, SEAT};
 use independent::walk::{open, step, Walk};
 
@@ -55,8 +55,11 @@ pub fn judge_sizes(subject: &Subject, answer: &Answer) -> Judgement {
 
 pub fn judge(subject: &Subject, answer: &Answer) -> Judgement {
     let mut judgement = judge_sizes(subject, answer);
-    judge_caller(subject, answer, &mut judgement);
-    judge_need(subject, answer, &mut judgement);
+    if subject.caller_is_judged() {
+        judge_caller(subject, answer, &mut judgement);
+        judge_need(subject, answer, &mut judgement);
+    }
+    judge_taken(subject, answer, &mut judgement);
     judge_callee(subject, answer, &mut judgement);
     judge_return(subject, answer, &mut judgement);
     if subject.accepted.types.description().is_variadic() {
@@ -82,13 +85,21 @@ fn judge_caller(subject: &Subject, answer: &Answer, judgement: &mut Judgement) {
         &subject.register_mask,
     );
     judgement.equal_masked(
+        "upper halves that a callee finds",
+        &answer.upper,
+        &subject.upper,
+        &subject.upper_mask,
+    );
+    judgement.equal_masked(
         "stack that a callee finds",
         &answer.stack,
         &subject.stack,
         &subject.stack_mask,
     );
     let mut gathered = vec![0; subject.values.len()];
-    let hidden = gathering(subject.description, &answer.registers, &answer.stack, &mut gathered);
+    let images = [&answer.registers, &answer.upper, &answer.stack];
+    let [registers, upper, stack] = images;
+    let hidden = gathering(subject.description, registers, upper, stack, &mut gathered);
     judgement.equal("gathering", format!("{}", hidden.is_ok()), "true".to_string());
     judgement.equal_masked(
         "values gathered from what a callee finds",
@@ -100,6 +111,14 @@ fn judge_caller(subject: &Subject, answer: &Answer, judgement: &mut Judgement) {
         let count = subject.accepted.layout.vector_count().0;
         judgement.equal("al", format!("{}", answer.rax as u8), format!("{count}"));
     }
+    // "the stack needs to be 16 (32 or 64) byte aligned" (000, section 3.2.2).
+    let alignment = subject.accepted.layout.area_alignment.0 as u64;
+    let past = answer.start % alignment;
+    judgement.equal("where the stack begins", format!("{past}"), "0".to_string());
+}
+
+/// What gcc's caller took from the return places that the probe filled.
+fn judge_taken(subject: &Subject, answer: &Answer, judgement: &mut Judgement) {
     judgement.equal_masked(
         "value that a caller takes from the return places",
         &answer.taken,
@@ -113,7 +132,8 @@ fn judge_caller(subject: &Subject, answer: &Answer, judgement: &mut Judgement) {
 fn judge_need(subject: &Subject, answer: &Answer, judgement: &mut Judgement) {
     let others: Vec<u8> = answer.stack.iter().map(|byte| !byte).collect();
     let mut left = vec![0; subject.values.len()];
-    let gathered = gathering(subject.description, &answer.registers, &others, &mut left);
+    let gathered =
+        gathering(subject.description, &answer.registers, &answer.upper, &others, &mut left);
     judgement.equal(
         "gathering without the stack",
         gathered.is_ok().to_string(),
@@ -155,15 +175,17 @@ fn judge_return(subject: &Subject, answer: &Answer, judgement: &mut Judgement) {
         image.extend(&answer.after[start..start + 10]);
         image.extend([0; 6]);
     }
+    image.extend(&answer.after[48 + 108..]);
     judgement.equal_masked(
-        "return image that a caller finds",
+        "return images that a caller finds",
         &image,
         &subject.put(),
-        &subject.return_image_mask(&subject.return_mask),
+        &subject.return_images_mask(&subject.return_mask),
     );
     let expected = subject.returned_part(&subject.returned);
     let mut taken = vec![0; expected.len()];
-    let address = taking(subject.description, &image, &mut taken);
+    let (image, upper) = image.split_at(RETURN_IMAGE);
+    let address = taking(subject.description, image, upper, &mut taken);
     let in_memory = matches!(subject.accepted.layout.return_place, ReturnPlace::Memory(_));
     let hidden = if in_memory { subject.hidden_address() } else { 0 };
     judgement.equal(
@@ -186,7 +208,7 @@ fn judge_return(subject: &Subject, answer: &Answer, judgement: &mut Judgement) {
         );
     }
     let expected = subject.return_kind().saturating_sub(1);
-    let found = x87_numbers(&answer.after[48..]);
+    let found = x87_numbers(&answer.after[48..48 + 108]);
     judgement.equal("numbers on the x87 stack", format!("{found}"), format!("{expected}"));
 }
 

@@ -3,7 +3,7 @@
 
 use crate::judging::judge;
 use crate::program::Answer;
-use crate::subject::Subject;
+use crate::subject::{is_within_gcc, Subject};
 use independent::generator::{random_description, SMALL};
 use independent::notation::description;
 use independent::random::Random;
@@ -14,7 +14,7 @@ fn agreeing(subject: &Subject) -> Answer {
     let layout = &subject.accepted.layout;
     let types = &subject.accepted.types;
     let kind = subject.return_kind();
-    let image = subject.return_image();
+    let image = subject.return_images();
     let mut after = image[..48].to_vec();
     let mut state = [0; 108];
     let tags: u16 = [0xFFFF, 0xFFFF, 0x3FFF, 0x0FFF][kind as usize];
@@ -22,6 +22,7 @@ fn agreeing(subject: &Subject) -> Answer {
     state[28..38].copy_from_slice(&image[48..58]);
     state[38..48].copy_from_slice(&image[64..74]);
     after.extend(state);
+    after.extend(&image[80..]);
     let named = types.description().named();
     let notes = layout.taken[named..].iter().map(|&taken| {
         let offsets = offsets_after(taken);
@@ -29,7 +30,9 @@ fn agreeing(subject: &Subject) -> Answer {
     });
     Answer {
         registers: subject.registers.clone(),
+        upper: subject.upper.clone(),
         rax: layout.vector_count().0 as u64,
+        start: layout.area_alignment.0 as u64,
         stack: subject.stack.clone(),
         taken: subject.returned.clone(),
         read: subject.spaced(&subject.values),
@@ -70,6 +73,7 @@ fn each_kind_of_wrong_answer_is_a_difference() {
     assert_eq!(differences(text, |answer| answer.registers[48] ^= 1), 2);
     assert_eq!(differences(text, |answer| answer.stack[9] ^= 1), 2);
     assert_eq!(differences(text, |answer| answer.rax ^= 1), 1);
+    assert_eq!(differences(text, |answer| answer.start += 8), 1);
     assert_eq!(differences(text, |answer| answer.taken[15] ^= 1), 1);
     assert_eq!(differences(text, |answer| answer.read[3] ^= 1), 1);
     assert_eq!(differences(text, |answer| answer.notes[1][2] += 8), 1);
@@ -82,6 +86,39 @@ fn each_kind_of_wrong_answer_is_a_difference() {
     assert_eq!(differences(text, |answer| answer.measures[2][3] -= 8), 1);
 }
 
+/// Upper halves on both sides, the stack's alignment, and that an unnamed one is not in
+/// a register. Without a prototype the caller's side is not judged.
+#[test]
+fn vectors_of_32_bytes_are_judged() {
+    let text = "m256: double, m256, ..., struct{m256}";
+    assert_eq!(differences(text, |_| {}), 0);
+    assert_eq!(differences(text, |answer| answer.upper[16] ^= 1), 3);
+    assert_eq!(differences(text, |answer| answer.upper[0] ^= 1), 0);
+    assert_eq!(differences(text, |answer| answer.upper[32] ^= 1), 0);
+    assert_eq!(differences(text, |answer| answer.stack[31] ^= 1), 2);
+    assert_eq!(differences(text, |answer| answer.rax += 1), 1);
+    assert_eq!(differences(text, |answer| answer.start += 16), 1);
+    assert_eq!(differences("void: m256", |answer| answer.start += 16), 0);
+    assert_eq!(differences(text, |answer| answer.taken[31] ^= 1), 1);
+    assert_eq!(differences(text, |answer| answer.read[32 + 31] ^= 1), 1);
+    assert_eq!(differences(text, |answer| answer.after[48 + 108 + 15] ^= 1), 2);
+    let bare = "m256: ..., m256";
+    assert_eq!(differences(bare, |answer| answer.stack[0] ^= 1), 0);
+    assert_eq!(differences(bare, |answer| answer.read[0] ^= 1), 1);
+    assert_eq!(differences(bare, |answer| answer.notes[1][2] += 32), 1);
+}
+
+#[test]
+fn what_gcc_departs_from_is_left_out() {
+    for (text, is_within) in [
+        ("void: union{m256, double}, ..., m256, struct{m256[1]}, union{m256, long}", true),
+        ("void: int, ..., union{m256}", false),
+        ("void: int, ..., struct{union{double, m256}[1]}", false),
+    ] {
+        assert_eq!(is_within_gcc(&description(text)), is_within, "{text}");
+    }
+}
+
 #[test]
 fn masked_bytes_make_no_difference() {
     let text = "char: char, struct{char, int}, long_double, float";
@@ -91,7 +128,7 @@ fn masked_bytes_make_no_difference() {
         assert_eq!(differences(text, |answer| answer.registers[at] ^= 1), 0, "{at}");
     }
     assert_eq!(differences(text, |answer| answer.stack[10] ^= 1), 0);
-    assert_eq!(differences(text, |answer| answer.read[32 + 10] ^= 1), 0);
+    assert_eq!(differences(text, |answer| answer.read[64 + 10] ^= 1), 0);
     assert_eq!(differences(text, |answer| answer.after[1] ^= 1), 0);
 }
 

@@ -1,9 +1,9 @@
 //! Builds and runs the C program for a batch: jobs in, answers out.
 
 use crate::source::{sizes_source, source};
-use crate::subject::Subject;
+use crate::subject::{Kind, Subject};
 use independent::description::Model;
-use independent::moving::REGISTER_IMAGE;
+use independent::moving::{REGISTER_IMAGE, UPPER_IMAGE};
 use std::path::{Path, PathBuf};
 use std::process::{Command, Output};
 
@@ -46,18 +46,22 @@ pub struct Workshop {
 /// What gcc's functions did for one subject.
 #[derive(Clone, Debug, Default)]
 pub struct Answer {
-    /// The caller's side, as the probe found it.
+    /// The caller's side, as the probe found it, and at which address the stack
+    /// began.
     pub registers: Vec<u8>,
+    pub upper: Vec<u8>,
     pub rax: u64,
+    pub start: u64,
     pub stack: Vec<u8>,
     /// The value that the caller took from the return places.
     pub taken: Vec<u8>,
-    /// The callee's side: what it read, each argument at a multiple of 16.
+    /// The callee's side: what it read, each argument at a multiple of 32.
     pub read: Vec<u8>,
     /// gp_offset, fp_offset and overflow offset at va_start and after each
     /// va_arg.
     pub notes: Vec<[u32; 3]>,
-    /// rax, rdx, xmm0, xmm1 and the x87 state after the callee returned.
+    /// rax, rdx, xmm0, xmm1, the x87 state and the upper half of ymm0 after the callee
+    /// returned.
     pub after: Vec<u8>,
     pub hidden_room: Vec<u8>,
     /// sizeof and _Alignof of each type, and offsetof of its members.
@@ -115,24 +119,26 @@ impl Workshop {
     /// What of a batch is linked. gcc compiles ILP32 to assembly, and that is
     /// assembled as 64-bit code, beside the 64-bit harness: so neither a C library
     /// nor a kernel for ILP32 is needed.
-    fn compiled(&self, model: Model) -> Result<&'static str, String> {
-        match model {
+    fn compiled(&self, kind: Kind) -> Result<&'static str, String> {
+        match kind.model {
             Model::Lp64 => Ok("batch.c"),
             Model::Ilp32 => {
-                self.gcc(&["-mx32", "-fcf-protection=none", "-S", "batch.c", "-o", "batch.s"])?;
+                let narrow = ["-mx32", "-fcf-protection=none", "-S", "batch.c", "-o", "batch.s"];
+                self.gcc(&[&narrow, vector_options(kind)].concat())?;
                 Ok("batch.s")
             }
         }
     }
 
-    /// Compiles and runs a batch of one model. A program that ends too early
+    /// Compiles and runs a batch of one kind. A program that ends too early
     /// answers for the subjects before the one that it fell over.
-    pub fn run(&self, model: Model, subjects: &[Subject]) -> Result<Vec<Answer>, String> {
+    pub fn run(&self, kind: Kind, subjects: &[Subject]) -> Result<Vec<Answer>, String> {
         let path = |name: &str| self.directory.join(name);
         let text = |error: std::io::Error| error.to_string();
-        std::fs::write(path("batch.c"), source(subjects)).map_err(text)?;
+        std::fs::write(path("batch.c"), source(kind, subjects)).map_err(text)?;
         std::fs::write(path("jobs.bin"), jobs(subjects)).map_err(text)?;
-        self.gcc(&[self.compiled(model)?, "harness.o", "probe.o", "-o", "batch"])?;
+        let linked = [self.compiled(kind)?, "harness.o", "probe.o", "-o", "batch"];
+        self.gcc(&[&linked, vector_options(kind)].concat())?;
         let output = self.execute("./batch", &["jobs.bin", "answers.bin"])?;
         let answers = std::fs::read(path("answers.bin")).map_err(text)?;
         if !output.status.success() {
@@ -142,9 +148,9 @@ impl Workshop {
     }
 
     /// Whether gcc accepts the C text of the whole judgement, on any machine.
-    pub fn check_syntax(&self, subjects: &[Subject]) -> Result<(), String> {
+    pub fn check_syntax(&self, kind: Kind, subjects: &[Subject]) -> Result<(), String> {
         let path = self.directory.join("batch.c");
-        std::fs::write(path, source(subjects)).map_err(|error| error.to_string())?;
+        std::fs::write(path, source(kind, subjects)).map_err(|error| error.to_string())?;
         self.gcc(&["-fsyntax-only", "batch.c"])
     }
 
@@ -173,6 +179,16 @@ impl Workshop {
     }
 }
 
+/// Vectors of 32 bytes are passed in registers only where the machine is said to have
+/// them. `vzeroupper` is kept away: with it gcc's function loses bytes 16 to 31 of a
+/// union that it returns, once it optimises.
+fn vector_options(kind: Kind) -> &'static [&'static str] {
+    match kind.wide {
+        true => &["-mavx", "-mno-vzeroupper"],
+        false => &[],
+    }
+}
+
 fn jobs(subjects: &[Subject]) -> Vec<u8> {
     let mut bytes = Vec::new();
     for subject in subjects {
@@ -181,6 +197,8 @@ fn jobs(subjects: &[Subject]) -> Vec<u8> {
         bytes.extend(number(spaced.len()));
         bytes.extend(spaced);
         bytes.extend(&subject.entered_registers);
+        bytes.extend(&subject.entered_upper);
+        bytes.extend(number(subject.accepted.layout.area_alignment.0));
         bytes.extend(number(subject.entered_stack.len()));
         bytes.extend(&subject.entered_stack);
         bytes.extend(number(subject.accepted.layout.vector_count().0));
@@ -191,7 +209,7 @@ fn jobs(subjects: &[Subject]) -> Vec<u8> {
         bytes.extend(subject.return_kind().to_le_bytes());
         bytes.extend(number(subject.returned.len()));
         bytes.extend(&subject.returned);
-        bytes.extend(subject.return_image());
+        bytes.extend(subject.return_images());
     }
     bytes
 }
@@ -214,14 +232,16 @@ impl Cursor<'_> {
 
     fn answer(&mut self, subject: &Subject) -> Option<Answer> {
         let mut answer = Answer { registers: self.bytes(REGISTER_IMAGE)?, ..Answer::default() };
+        answer.upper = self.bytes(UPPER_IMAGE)?;
         answer.rax = u64::from_le_bytes(self.bytes(8)?.try_into().ok()?);
+        answer.start = u64::from_le_bytes(self.bytes(8)?.try_into().ok()?);
         answer.stack = self.bytes(subject.stack.len())?;
         answer.taken = self.bytes(subject.returned.len())?;
         answer.read = self.bytes(subject.spaced(&subject.values).len())?;
         for _ in 0..self.number()? {
             answer.notes.push([self.number()?, self.number()?, self.number()?]);
         }
-        answer.after = self.bytes(48 + 108)?;
+        answer.after = self.bytes(48 + 108 + 16)?;
         answer.hidden_room = self.bytes(subject.returned.len())?;
         let layouts = subject.measures();
         if self.number()? as usize != layouts.iter().map(Vec::len).sum() {

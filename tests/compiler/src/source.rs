@@ -1,12 +1,12 @@
 //! Writes the C functions that are judged: one caller, one callee and, where no
 //! argument is named, one walk for each description.
 
-use crate::subject::Subject;
+use crate::subject::{Kind, Subject};
 use independent::description::{Model, ARRAY, BASIC, VOID};
 use independent::types::{code, Types};
 use std::fmt::Write;
 
-const BASIC_NAMES: [&str; 16] = [
+const BASIC_NAMES: [&str; 17] = [
     "_Bool",
     "signed char",
     "short",
@@ -23,6 +23,7 @@ const BASIC_NAMES: [&str; 16] = [
     "double _Complex",
     "long double _Complex",
     "void *",
+    "__m256",
 ];
 
 /// How C writes a basic type. Under ILP32 "long is described by code 3 and long
@@ -35,8 +36,8 @@ fn basic_name(index: usize, model: Model, basic: u8) -> &'static str {
     }
 }
 
-/// The C file for a batch of subjects of one model.
-pub fn source(subjects: &[Subject]) -> String {
+/// The C file for a batch of subjects of one kind.
+pub fn source(kind: Kind, subjects: &[Subject]) -> String {
     let mut text = String::from("#include \"harness.h\"\n");
     for (index, subject) in subjects.iter().enumerate() {
         let types = &subject.accepted.types;
@@ -49,6 +50,7 @@ pub fn source(subjects: &[Subject]) -> String {
         text.push_str(&measures(index, types));
     }
     text.push_str(&table(subjects));
+    writeln!(text, "const unsigned judged_wide = {};", u8::from(kind.wide)).expect("text");
     text
 }
 
@@ -144,14 +146,14 @@ pub fn declaration(types: &Types) -> String {
     format!("{}{returned} f({});\n", type_definitions(0, types), parameters(0, types, false))
 }
 
-/// Where each argument lies in the spaced values: each at a multiple of 16, so
+/// Where each argument lies in the spaced values: each at a multiple of 32, so
 /// that every type may be read in place.
 pub fn spaced_offsets(sizes: &[usize]) -> (Vec<usize>, usize) {
     let mut offsets = Vec::new();
     let mut end = 0;
     for size in sizes {
         offsets.push(end);
-        end += size.div_ceil(16) * 16;
+        end += size.div_ceil(32) * 32;
     }
     (offsets, end)
 }

@@ -2,12 +2,13 @@
 
 use crate::significant::{random_value, significant};
 use crate::source::spaced_offsets;
-use independent::description::{Model, VOID};
-use independent::moving::{placing, register_start, REGISTER_IMAGE};
-use independent::places::{accepted, Accepted, Place, ReturnPlace, ReturnRegister};
+use independent::classes::classes_of;
+use independent::description::{form, Model, BASIC, UNION, VOID};
+use independent::moving::{placing, register_start, Image, Spot, REGISTER_IMAGE, UPPER_IMAGE};
+use independent::places::{accepted, is_wide, Accepted, Place, ReturnPlace, ReturnRegister};
 use independent::random::Random;
-use independent::returning::{putting, return_spots, RETURN_IMAGE};
-use independent::types::{basic_measure, code};
+use independent::returning::{putting, return_spots, RETURN_IMAGE, RETURN_UPPER};
+use independent::types::{basic_measure, code, Types};
 use independent::walk::{offsets_after, Offsets};
 use std::ops::Range;
 
@@ -17,6 +18,48 @@ fn hidden_address(model: Model) -> u64 {
         Model::Lp64 => 0x2000_0000_0000,
         Model::Ilp32 => 0xE000_0000,
     }
+}
+
+/// Functions of one kind are compiled together: of one model, and with or without
+/// vectors of 32 bytes, which need more of a machine.
+#[derive(Clone, Copy, Debug, PartialEq, Eq)]
+pub struct Kind {
+    pub model: Model,
+    pub wide: bool,
+}
+
+pub const KINDS: [Kind; 4] = [
+    Kind { model: Model::Lp64, wide: false },
+    Kind { model: Model::Lp64, wide: true },
+    Kind { model: Model::Ilp32, wide: false },
+    Kind { model: Model::Ilp32, wide: true },
+];
+
+/// Of an accepted description.
+pub fn kind_of(description: &[u8]) -> Kind {
+    let form = form(description).expect("subjects are accepted");
+    let mut records = (0..form.types() as u8).map(|number| form.record(number));
+    let wide = records.any(|record| record.kind == BASIC && record.a == code::M256);
+    Kind { model: form.model(), wide }
+}
+
+/// Whether gcc keeps to the papers for a description. Its caller puts an unnamed
+/// union of the four classes of __m256, or a struct with one in it, into a register,
+/// and its va_arg of one ends with an internal error. 000: "When __m256 or __m512 is
+/// passed as variable-argument, it should always be passed on stack"; 02: "an unnamed
+/// one, structures included, is always on the stack".
+pub fn is_within_gcc(description: &[u8]) -> bool {
+    let accepted = accepted(description).expect("subjects are accepted");
+    let form = accepted.types.description();
+    (form.named()..form.arguments()).all(|position| {
+        let number = form.argument(position);
+        !is_wide(classes_of(&accepted.types, number)) || !has_union(&accepted.types, number)
+    })
+}
+
+fn has_union(types: &Types, type_number: u8) -> bool {
+    types.record(type_number).kind == UNION
+        || types.parts(type_number).iter().any(|part| has_union(types, part.type_number))
 }
 
 pub struct Subject<'a> {
@@ -30,12 +73,15 @@ pub struct Subject<'a> {
     pub return_mask: Vec<u8>,
     /// As placing leaves them.
     pub registers: Vec<u8>,
+    pub upper: Vec<u8>,
     pub stack: Vec<u8>,
     /// 1 for each image byte that is compared.
     pub register_mask: Vec<u8>,
+    pub upper_mask: Vec<u8>,
     pub stack_mask: Vec<u8>,
     /// What the callee is given: unused bytes may hold anything.
     pub entered_registers: Vec<u8>,
+    pub entered_upper: Vec<u8>,
     pub entered_stack: Vec<u8>,
 }
 
@@ -51,10 +97,11 @@ impl<'a> Subject<'a> {
         let (returned, return_mask) = returned_value(random, &accepted);
         let area = accepted.layout.area.0;
         let address = hidden_address(accepted.types.description().model());
-        let (registers, stack) = placed(description, address, &values, area);
+        let [registers, upper, stack] = placed(description, address, &values, area);
         // The masks are placed like values: 0 and 1 are good _Bool bytes.
-        let (mut register_mask, stack_mask) = placed(description, 0, &value_mask, area);
-        let (mut all_registers, all_stack) = placed(description, 0, &vec![1; values.len()], area);
+        let [mut register_mask, upper_mask, stack_mask] = placed(description, 0, &value_mask, area);
+        let [mut all_registers, all_upper, all_stack] =
+            placed(description, 0, &vec![1; values.len()], area);
         if accepted.layout.hidden_address {
             all_registers[..8].fill(1);
         }
@@ -63,6 +110,7 @@ impl<'a> Subject<'a> {
             all_registers[half].fill(1);
         }
         let entered_registers = with_rubbish(random, &registers, &all_registers);
+        let entered_upper = with_rubbish(random, &upper, &all_upper);
         let entered_stack = with_rubbish(random, &stack, &all_stack);
         Subject {
             description,
@@ -72,12 +120,25 @@ impl<'a> Subject<'a> {
             returned,
             return_mask,
             registers,
+            upper,
             stack,
             register_mask,
+            upper_mask,
             stack_mask,
             entered_registers,
+            entered_upper,
             entered_stack,
         }
+    }
+
+    /// A function of unnamed arguments only is called without a prototype, and then gcc
+    /// takes all of them for named ones: "When passing __m256 or __m512 arguments to
+    /// functions that use varargs or stdarg, function prototypes must be provided" (000).
+    pub fn caller_is_judged(&self) -> bool {
+        let types = &self.accepted.types;
+        let wide = |number: u8| is_wide(classes_of(types, number));
+        let mut arguments = self.accepted.layout.placements.iter();
+        !self.walks_by_hand() || !arguments.any(|placement| wide(placement.type_number))
     }
 
     /// C cannot define a function of unnamed arguments only, so its walk begins
@@ -106,7 +167,7 @@ impl<'a> Subject<'a> {
     }
 
     /// The packed values, or anything packed like them, each argument at a
-    /// multiple of 16.
+    /// multiple of 32.
     pub fn spaced(&self, packed: &[u8]) -> Vec<u8> {
         let sizes: Vec<usize> =
             self.accepted.layout.placements.iter().map(|placement| placement.size.0).collect();
@@ -138,30 +199,33 @@ impl<'a> Subject<'a> {
     }
 
     /// What the probe leaves: the value in its return places, and no zero where
-    /// nothing is put.
-    pub fn return_image(&self) -> Vec<u8> {
-        let used = self.return_image_mask(&vec![1; self.returned.len()]);
+    /// nothing is put. The second image stands behind the first, here and below.
+    pub fn return_images(&self) -> Vec<u8> {
+        let used = self.return_images_mask(&vec![1; self.returned.len()]);
         let pairs = self.put().into_iter().zip(used);
         pairs.map(|(byte, used)| if used == 0 { 0x77 } else { byte }).collect()
     }
 
-    /// The return image that putting makes of the returned value; one in memory
+    /// The return images that putting makes of the returned value; one in memory
     /// has no bytes there.
     pub fn put(&self) -> Vec<u8> {
-        let mut image = vec![0xDD; RETURN_IMAGE];
+        let mut both = vec![0xDD; RETURN_IMAGE + RETURN_UPPER];
+        let (image, upper) = both.split_at_mut(RETURN_IMAGE);
         let value = self.returned_part(&self.returned);
-        putting(self.description, self.hidden_address(), value, &mut image)
+        putting(self.description, self.hidden_address(), value, image, upper)
             .expect("right lengths and values");
-        image
+        both
     }
 
-    /// Which bytes of the return image are compared, or used, by which of the
+    /// Which bytes of the return images are compared, or used, by which of the
     /// value's are. An address is, to its upper half.
-    pub fn return_image_mask(&self, value_mask: &[u8]) -> Vec<u8> {
-        let mut mask = vec![0; RETURN_IMAGE];
+    pub fn return_images_mask(&self, value_mask: &[u8]) -> Vec<u8> {
+        let mut mask = vec![0; RETURN_IMAGE + RETURN_UPPER];
         for (kept, spot) in value_mask.iter().zip(return_spots(&self.accepted)) {
-            if let Some(offset) = spot {
-                mask[offset.0] = *kept;
+            match spot {
+                Some(Spot { image: Image::Upper, offset }) => mask[RETURN_IMAGE + offset.0] = *kept,
+                Some(Spot { offset, .. }) => mask[offset.0] = *kept,
+                None => {}
             }
         }
         let returned = self.accepted.types.description().return_number();
@@ -194,7 +258,7 @@ fn upper_halves(accepted: &Accepted) -> Vec<Range<usize>> {
     for placement in &accepted.layout.placements {
         if let Place::Registers(registers) = &placement.place {
             if accepted.types.is_basic(placement.type_number, code::POINTER) {
-                starts.push(register_start(registers[0]).0);
+                starts.push(register_start(registers[0]).offset.0);
             }
         }
     }
@@ -210,12 +274,12 @@ fn returned_value(random: &mut Random, accepted: &Accepted) -> (Vec<u8>, Vec<u8>
     }
 }
 
-fn placed(description: &[u8], hidden: u64, values: &[u8], area: usize) -> (Vec<u8>, Vec<u8>) {
-    let mut registers = vec![0xDD; REGISTER_IMAGE];
-    let mut stack = vec![0xDD; area];
-    placing(description, hidden, values, &mut registers, &mut stack)
+fn placed(description: &[u8], hidden: u64, values: &[u8], area: usize) -> [Vec<u8>; 3] {
+    let mut images = [REGISTER_IMAGE, UPPER_IMAGE, area].map(|length| vec![0xDD; length]);
+    let [registers, upper, stack] = &mut images;
+    placing(description, hidden, values, registers, upper, stack)
         .expect("right lengths and values");
-    (registers, stack)
+    images
 }
 
 /// Every second time, random bytes where no value byte lies: a callee must not

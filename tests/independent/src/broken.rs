@@ -134,7 +134,7 @@ fn others_give_zero() -> Vec<Broken> {
 fn wrong_record(random: &mut Random, number: u8) -> [u8; 4] {
     match random.below(6) {
         0 => [random.between(4, 255) as u8, 0, 0, 0],
-        1 => [BASIC, random.between(16, 255) as u8, 0, 0],
+        1 => [BASIC, random.between(17, 255) as u8, 0, 0],
         2 => [BASIC, code::INT, 1, 0],
         3 => [ARRAY, random.between(number as usize, 255) as u8, 2, 0],
         4 => [ARRAY, 0, 1, 16],

@@ -1,5 +1,6 @@
 //! "Cases to prove": the lister's case and P1 to P11, with the answers that
-//! document 01 prints.
+//! document 01 prints, and those of vectors of 32 bytes: 000's figure, and what
+//! document 02 says of two aggregates.
 
 use crate::listing::{listing, place_text};
 use crate::notation::description;
@@ -21,8 +22,8 @@ return type 1 xmm0
 walk gp 16 fp 64 over 16
 ";
 
-/// One of P1 to P11: the function, the places of its arguments, and the numbers
-/// that the paper gives besides.
+/// One of P1 to P11 or of V1 to V3: the function, the places of its arguments, and
+/// the numbers that the paper gives besides.
 pub struct Case {
     pub name: &'static str,
     pub function: &'static str,
@@ -71,6 +72,22 @@ pub const CASES: [Case; 11] = [
     case("P11", "struct{char[17]}: int", &["rsi"]),
 ];
 
+/// V1 is 000, figure 3.32, without __m512; V2 and V3 are 02's "A struct of one __m256
+/// goes in a register; a union of it and four doubles doesn't."
+pub const WIDE_CASES: [Case; 3] = [
+    Case {
+        vector_count: Some(3),
+        area: Some(64),
+        ..case(
+            "V1",
+            "void: int, double, m256, ..., int, long_double, m256, double",
+            &["rdi", "xmm0", "xmm1y", "rsi", "stack 0", "stack 32", "xmm2"],
+        )
+    },
+    case("V2", "void: struct{m256}", &["xmm0y"]),
+    Case { area: Some(32), ..case("V3", "void: union{m256, double[4]}", &["stack 0"]) },
+];
+
 /// Bytes written in hex, with blanks and bars between them.
 pub fn bytes_of_hex(text: &str) -> Vec<u8> {
     let digits: Vec<u32> = text.chars().filter_map(|letter| letter.to_digit(16)).collect();
@@ -106,13 +123,13 @@ pub fn case_holds(case: &Case) -> bool {
     places_found(case) == case.places && numbers_hold(case)
 }
 
-/// All twelve cases, a line each (the lister's with its text), and whether all
+/// All fifteen cases, a line each (the lister's with its text), and whether all
 /// hold.
 pub fn report() -> (String, bool) {
     let found = listing(&bytes_of_hex(LISTER));
     let mut all_hold = found == LISTER_TEXT;
     let mut text = format!("lister's case: {}\n{found}", verdict(all_hold));
-    for case in &CASES {
+    for case in CASES.iter().chain(&WIDE_CASES) {
         let holds = case_holds(case);
         all_hold = all_hold && holds;
         let places = places_found(case).join(", ");

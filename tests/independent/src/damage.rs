@@ -135,7 +135,7 @@ fn add_wrong_record(random: &mut Random, draft: &mut Draft) {
     let kind = random.choose(&[STRUCT, UNION]);
     match random.below(10) {
         0 => draft.record(random.between(4, 255) as u8, 0, 0),
-        1 => draft.record(BASIC, random.between(16, 255) as u8, 0),
+        1 => draft.record(BASIC, random.between(17, 255) as u8, 0),
         2 => draft.record(BASIC, 3, random.choose(&[1, 256, 65535])),
         3 => draft.record(ARRAY, own, 2),
         4 => draft.record(ARRAY, random.between(own as usize + 1, 255) as u8, 2),

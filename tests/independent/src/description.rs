@@ -167,8 +167,9 @@ fn first_against_rules(description: Description) -> Option<u8> {
 fn is_record_against_rules(description: Description, number: u8) -> bool {
     let record = description.record(number);
     match record.kind {
-        // "Kind 0, basic: a is the code below, count 0."
-        BASIC => record.a > 15 || record.count != 0,
+        // "Kind 0, basic: a is the code below, count 0"; "6 admits code 16" (02,
+        // 2026-06).
+        BASIC => record.a > 16 || record.count != 0,
         // "Kind 1, array: a is the element type, count 1..4096."
         ARRAY => record.a >= number || record.count < 1 || record.count > 4096,
         STRUCT | UNION => is_run_against_rules(description, number, record),

@@ -17,17 +17,18 @@ pub struct Shape {
     pub largest: usize,
 }
 
-pub const SMALL: Shape = Shape { most_types: 8, most_arguments: 8, most_members: 4, largest: 48 };
+pub const SMALL: Shape = Shape { most_types: 8, most_arguments: 8, most_members: 4, largest: 64 };
 pub const MIDDLE: Shape =
     Shape { most_types: 16, most_arguments: 20, most_members: 6, largest: 200 };
 pub const LARGE: Shape =
     Shape { most_types: 64, most_arguments: 64, most_members: 20, largest: 4096 };
 
 /// Codes that go in registers are drawn oftener, so that registers run out, and
-/// pointers, whose size the model changes.
-const CODES: [u8; 35] = [
-    0, 1, 2, 3, 4, 5, 6, 7, 8, 9, 10, 11, 12, 13, 14, 15, 1, 2, 3, 4, 4, 5, 6, 6, 7, 7, 8, 9, 11,
-    12, 13, 15, 15, 15, 15,
+/// pointers, whose size the model changes, and __m256, over which aggregates are of
+/// any size.
+const CODES: [u8; 39] = [
+    0, 1, 2, 3, 4, 5, 6, 7, 8, 9, 10, 11, 12, 13, 14, 15, 16, 1, 2, 3, 4, 4, 5, 6, 6, 7, 7, 8, 9,
+    11, 12, 13, 15, 15, 15, 15, 16, 16, 16,
 ];
 
 /// A description of this shape that passes 1 to 10.
@@ -78,7 +79,7 @@ fn add_aggregate(random: &mut Random, shape: Shape, draft: &mut Draft) {
 }
 
 /// Whether the last type is there, measured, and no larger than admitted. Small
-/// ones are wanted most: those over 16 bytes all go the same way.
+/// ones are wanted most: those over 64 bytes all go the same way.
 fn is_admitted(draft: &Draft, shape: Shape) -> bool {
     if draft.members.len() > 255 || draft.records.is_empty() {
         return false;
@@ -197,6 +198,10 @@ fn type_limits() -> Vec<Named> {
         ("pointers of 4,104", "void: struct{pointer[513]}"),
         ("pointers of ILP32, 4,096", "ilp32 void: struct{pointer[1024]}"),
         ("pointers of ILP32, 4,100", "ilp32 void: struct{pointer[1025]}"),
+        ("m256 of 4,096", "struct{m256[128]}: struct{m256[128]}"),
+        ("m256 of 4,128", "void: struct{m256[129]}"),
+        ("rounded up to 4,096 by 32", "void: struct{m256, char[4033]}"),
+        ("rounded up to 4,128", "void: struct{m256, char[4065]}"),
     ];
     texts.iter().map(|(name, text)| (*name, notation::description(text))).collect()
 }
@@ -212,7 +217,7 @@ fn count_limits() -> Vec<Named> {
     for (name, count) in [("63 types", 63), ("64 types", 64), ("65 types", 65)] {
         let mut draft = Draft::new();
         for number in 0..count {
-            draft.record(BASIC, (number % 16) as u8, 0);
+            draft.record(BASIC, (number % 17) as u8, 0);
         }
         all.push((name, one_argument(draft, (count - 1) as u8)));
     }
@@ -259,7 +264,27 @@ fn area_limits() -> Vec<Named> {
         ("area 16,384 by smaller ones", with(256, 64, 0)),
         ("area 16,640", with(260, 63, 0)),
         ("area over by the hidden address", over_by_hidden_address()),
+        ("area 16,384 with a vector on it", area_with_vectors(4032, 1)),
+        ("area 16,384 raised by 32", area_with_vectors(4001, 1)),
+        ("area 16,416", area_with_vectors(4040, 1)),
+        ("area 16,416 of vectors", area_with_vectors(4032, 2)),
     ]
+}
+
+/// Eight vectors in registers, the next ones behind three blocks of 4,096 and a
+/// smaller one, and a long behind them.
+fn area_with_vectors(size: usize, vectors: usize) -> Vec<u8> {
+    let mut draft = Draft::new();
+    let large = draft.block(4096);
+    let small = draft.block(size);
+    let vector = draft.basic(code::M256);
+    let long = draft.basic(code::LONG);
+    draft.arguments(vector, 8);
+    draft.arguments(large, 3);
+    draft.argument(small);
+    draft.arguments(vector, vectors);
+    draft.arguments(long, 7);
+    draft.bytes()
 }
 
 /// Six longs, of which the hidden address drives one to the stack.
@@ -303,7 +328,7 @@ fn member_limits() -> Vec<Named> {
 fn length_limits() -> Vec<Named> {
     let mut draft = Draft::new();
     for number in 0..MOST_TYPES {
-        draft.record(BASIC, (number % 16) as u8, 0);
+        draft.record(BASIC, (number % 17) as u8, 0);
     }
     draft.members = vec![7; 255];
     draft.arguments(4, 64);
@@ -321,7 +346,9 @@ pub fn towers() -> Vec<Named> {
         ("struct of the one below twice", tower_of_two(STRUCT)),
         ("union of all below", tower_of_all()),
         ("chain of structs", chain()),
-        ("wide and deep", wide_and_deep()),
+        ("wide and deep", wide_and_deep(1)),
+        ("wide and deep, of vectors", wide_and_deep(code::M256)),
+        ("vectors below and behind", vectors_below()),
     ]
 }
 
@@ -356,13 +383,29 @@ fn chain() -> Vec<u8> {
 }
 
 /// Unions of 192 + k members with the deep one last.
-fn wide_and_deep() -> Vec<u8> {
+fn wide_and_deep(basic: u8) -> Vec<u8> {
     let mut draft = Draft::new();
-    draft.basic(1);
+    draft.basic(basic);
     draft.members = vec![0; 192];
     draft.members.extend(0..63);
     for number in 1..MOST_TYPES {
         draft.record(UNION, 0, 192 + number);
+    }
+    one_argument(draft, 63)
+}
+
+/// Structs and unions over all below them, in turns: of 64 bytes they go no further.
+fn vectors_below() -> Vec<u8> {
+    let mut draft = Draft::new();
+    draft.basic(code::M256);
+    draft.basic(code::DOUBLE);
+    draft.members = [0, 1].repeat(60);
+    draft.members.extend(2..64);
+    for number in 2..MOST_TYPES {
+        let kind = if number % 2 == 0 { UNION } else { STRUCT };
+        // The first is a union of the two, each other holds the one before it.
+        let start = if number == 2 { 0 } else { 120 + number - 3 };
+        draft.record(kind, start as u8, if number == 2 { 120 } else { 1 });
     }
     one_argument(draft, 63)
 }
@@ -413,6 +456,55 @@ pub const THOUGHT: [&str; 44] = [
     "void: pointer, m64, short, struct{pointer}",
     "struct{char[16]}: struct{char[17]}, struct{char[16]}, struct{char[8]}",
     "struct{struct{struct{char}}}: ..., struct{char}, complex_float, m64, struct{float}",
+];
+
+/// The same for vectors of 32 bytes (02, 2026-06): alone, in aggregates of every
+/// kind, named and unnamed, in registers, on the stack and returned.
+pub const WIDE: [&str; 44] = [
+    "void: int, double, m256, ..., int, long_double, m256, double",
+    "m256: m256, double, m256",
+    "struct{m256}: struct{m256}, struct{m256[1]}, struct{struct{m256}}",
+    "void: struct{struct{m256[1]}[1]}, union{m256}, union{m256, m256}, union{struct{m256}}",
+    "union{m256, double[4]}: union{m256, double[4]}",
+    "union{m256, double}: union{m256, double}, union{m256, m128}, union{m256, complex_float}",
+    "union{double, m256}: union{m128, m256}, union{complex_float, m256}, union{float128, m256}",
+    "union{m256, m128}: union{m256, float128}, union{m256, m64}, union{m256, float, double}",
+    "void: union{m256, double[2]}, union{m256, float[3]}, union{m256, complex_double}",
+    "void: union{m256, float[2]}, union{m256, float[2], double}, union{m256, struct{float}}",
+    "union{m256, long}: union{m256, long}, union{m256, char}, union{m256, long_double}",
+    "union{m256, pointer}: union{m256, pointer}, union{m256, int128}, union{m256, bool}",
+    "union{m256, complex_long_double}: union{complex_long_double, m256}, complex_long_double",
+    "void: union{m256, struct{m128}}, union{m256, struct{m128, m128}}, union{m256, m128[2]}",
+    "void: union{m256, struct{float, float}}, union{m256, struct{double}, struct{m64}}",
+    "void: union{m256, struct{float, complex_float}}, union{m256, struct{int, float}}",
+    "void: union{m256, union{m256, double}}, struct{union{m256, m128}}, struct{union{m256}}",
+    "void: union{m256, union{m128, double[2]}}, union{m256, union{m128, long}}",
+    "void: union{m256, struct{m128, float}}, union{m256, struct{char[24]}}",
+    "void: struct{m256, m256}, struct{m256[2]}, struct{m256, char}, struct{m256, double}",
+    "struct{m256, m256}: struct{double, m256}, struct{char[32]}, struct{double[4]}",
+    "struct{m128, m128}: struct{m128[2]}, struct{float128, m128}, struct{m128, double}",
+    "void: union{m256, char[33]}, union{m256, m256[2]}, struct{m256[3]}, struct{m256[3], char}",
+    "struct{m256[3]}: struct{char[64]}, struct{char[65]}, struct{double[8]}, m256",
+    "struct{complex_long_double}: complex_long_double, struct{m256, complex_long_double}",
+    "void: m256, m256, m256, m256, m256, m256, m256, m256, m256, m256, double, int",
+    "void: double, double, double, double, double, double, double, m256, m256, double",
+    "void: m256, double, m128, m256, float, struct{m256}, complex_double, m256, struct{m256}",
+    "void: m256, m256, m256, m256, m256, m256, m256, complex_double, m256",
+    "void: long, long, long, long, long, long, long, union{m256, long}, char",
+    "void: struct{char[17]}, union{m256, char}, long_double, struct{char[3]}",
+    "void: long, long, long, long, long, long, long, m256, int128",
+    "union{m256, long}: long, long, long, long, long, long, m256, struct{m256, m256}, char",
+    "m256: bool, struct{m256}, bool, union{m256, float}",
+    "void: int, ..., m256, m256, double",
+    "void: ..., m256, int, struct{m256}, double",
+    "void: int, ..., struct{m256}, int, struct{m256[1]}, long_double, double, m128",
+    "m256: m256, ..., m256, double, struct{struct{m256}}, m128, m256",
+    "void: long, long, long, long, long, long, long, ..., m256, long, m256, long_double",
+    "struct{m256[3]}: m256, ..., union{m256, long}, long_double, struct{m256, m256}, long",
+    "void: m256, m256, m256, m256, m256, m256, m256, m256, ..., m256, double, m256, int",
+    "struct{m256}: m256, m256, m256, m256, m256, m256, m256, m256, m256, char, ..., int128",
+    "union{m256, double}: int, ..., union{m256, double}, union{m256, m128}, struct{union{m256}}",
+    "void: struct{m256, m256}, ..., union{double, m256}, int, struct{union{m256, m64}}, double",
 ];
 
 /// The same for ILP32: pointers of four bytes, alone, in pairs and beside others,

@@ -4,7 +4,7 @@
 use crate::cases::hex_of_bytes;
 use crate::description::{Model, MOST_ARGUMENTS, STRUCT};
 use crate::generator::{random_description, Shape};
-use crate::moving::{placing, Image, NARROW_ADDRESSES, REGISTER_IMAGE};
+use crate::moving::{placing, Image, NARROW_ADDRESSES, REGISTER_IMAGE, UPPER_IMAGE};
 use crate::places::accepted;
 use crate::random::Random;
 use crate::refusal::{told, Told};
@@ -260,6 +260,7 @@ impl Scene {
         let (name, image) = match piece.image {
             Image::Registers => ("registers", &self.registers),
             Image::Stack => ("stack", &self.stack),
+            Image::Upper => unreachable!("an unnamed argument is never there"),
         };
         let part = &image[piece.start.0..piece.start.0 + piece.length.0];
         format!("show {name} {} {}", piece.start.0, word_and_hex("part", part))
@@ -390,14 +391,15 @@ pub fn any_address(random: &mut Random) -> u64 {
     }
 }
 
-/// Images as placing leaves them for random values.
+/// Register image and stack image as placing leaves them for random values: what is
+/// in the upper image belongs to named arguments, and no walk sees it.
 pub fn random_images(random: &mut Random, description: &[u8]) -> (Vec<u8>, Vec<u8>) {
     let values = random_values(random, description);
     let area = accepted(description).expect("accepted").layout.area.0;
     let mut registers = vec![0; REGISTER_IMAGE];
     let mut stack = vec![0; area];
     let address = random_address(random, description);
-    placing(description, address, &values, &mut registers, &mut stack)
+    placing(description, address, &values, &mut registers, &mut [0; UPPER_IMAGE], &mut stack)
         .expect("right lengths and values");
     (registers, stack)
 }

@@ -5,7 +5,7 @@ use crate::broken::broken;
 use crate::cases::{bytes_of_hex, CASES, LISTER};
 use crate::damage::{damaged, refusals_and_pairs};
 use crate::draft::in_both_models;
-use crate::generator::{limits, NARROW, THOUGHT};
+use crate::generator::{limits, NARROW, THOUGHT, WIDE};
 use crate::listing::listing;
 use crate::mixture::Mixture;
 use crate::notation::description;
@@ -45,7 +45,7 @@ fn by_hand(random: &mut Random) -> Vec<Vec<u8>> {
     let mut all = vec![Vec::new(), lister.clone()];
     all.push([&lister[..], b"\n"].concat());
     all.extend(CASES.iter().map(|case| description(case.function)));
-    all.extend(THOUGHT.iter().chain(&NARROW).map(|text| description(text)));
+    all.extend(THOUGHT.iter().chain(&NARROW).chain(&WIDE).map(|text| description(text)));
     all.extend(limits().into_iter().map(|(_, bytes)| bytes));
     all.extend(broken().into_iter().map(|one| one.bytes));
     let mut all = in_both_models(all);

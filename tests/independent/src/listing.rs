@@ -2,33 +2,49 @@
 
 use crate::places::{accepted, Accepted, Place, Placement, Register, ReturnPlace, ReturnRegister};
 use crate::refusal::Refusal;
+use crate::units::Eightbytes;
 use crate::walk::offsets_after;
 
 pub fn register_name(register: Register) -> String {
     const GENERAL: [&str; 6] = ["rdi", "rsi", "rdx", "rcx", "r8", "r9"];
     match register {
         Register::General(number) => GENERAL[number].to_string(),
-        Register::Vector(number) => format!("xmm{number}"),
-        // "An upper half prints as xmm0h."
-        Register::VectorUpper(number) => format!("xmm{number}h"),
+        Register::Vector(number, chunk) => format!("xmm{number}{}", chunk_letter(chunk)),
     }
 }
 
-pub fn return_register_name(register: ReturnRegister) -> &'static str {
+/// "An upper half prints as xmm0h."
+fn chunk_letter(chunk: Eightbytes) -> &'static str {
+    match chunk {
+        Eightbytes(0) => "",
+        Eightbytes(1) => "h",
+        _ => unreachable!("bytes 16 to 31 are never printed alone"),
+    }
+}
+
+/// "The lister prints such a place as `xmm0y`" (02, 2026-06): one that is all four
+/// chunks of a vector register.
+fn is_wide_place(eightbytes: usize) -> bool {
+    eightbytes == 4
+}
+
+pub fn return_register_name(register: ReturnRegister) -> String {
     match register {
-        ReturnRegister::Rax => "rax",
-        ReturnRegister::Rdx => "rdx",
-        ReturnRegister::Xmm0 => "xmm0",
-        ReturnRegister::Xmm0Upper => "xmm0h",
-        ReturnRegister::Xmm1 => "xmm1",
-        ReturnRegister::St0 => "st0",
-        ReturnRegister::St1 => "st1",
+        ReturnRegister::Rax => "rax".to_string(),
+        ReturnRegister::Rdx => "rdx".to_string(),
+        ReturnRegister::Xmm0(chunk) => format!("xmm0{}", chunk_letter(chunk)),
+        ReturnRegister::Xmm1 => "xmm1".to_string(),
+        ReturnRegister::St0 => "st0".to_string(),
+        ReturnRegister::St1 => "st1".to_string(),
     }
 }
 
 pub fn place_text(place: &Place) -> String {
     match place {
         Place::Stack(offset) => format!("stack {}", offset.0),
+        Place::Registers(registers) if is_wide_place(registers.len()) => {
+            format!("{}y", register_name(registers[0]))
+        }
         Place::Registers(registers) => {
             let names: Vec<String> = registers.iter().map(|&one| register_name(one)).collect();
             names.join(" ")
@@ -69,8 +85,12 @@ fn return_line(return_place: &ReturnPlace) -> String {
     match return_place {
         ReturnPlace::Void => "return void\n".to_string(),
         ReturnPlace::Memory(number) => format!("return type {number} memory\n"),
+        ReturnPlace::Registers(number, registers) if is_wide_place(registers.len()) => {
+            format!("return type {number} {}y\n", return_register_name(registers[0]))
+        }
         ReturnPlace::Registers(number, registers) => {
-            let names: Vec<&str> = registers.iter().map(|&one| return_register_name(one)).collect();
+            let names: Vec<String> =
+                registers.iter().map(|&one| return_register_name(one)).collect();
             format!("return type {number} {}\n", names.join(" "))
         }
     }

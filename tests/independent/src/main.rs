@@ -10,7 +10,7 @@ use std::process::ExitCode;
 
 const HELP: &str = "\
 independent list                    description on standard input, the lister's text
-independent cases                   the lister's case and P1 to P11, as document 01 prints them
+independent cases                   the lister's case, P1 to P11 and V1 to V3, as the papers print them
 independent lister PROGRAM [--count N] [--seed N]
                                     runs PROGRAM on the cases, on each refusal and on N random inputs
 independent vectors write DIRECTORY [--seed N]
@@ -52,7 +52,7 @@ fn print_cases() -> ExitCode {
     let (text, all_hold) = cases::report();
     print!("{text}");
     if all_hold {
-        println!("cases: all 12 as document 01 prints them");
+        println!("cases: all 15 as the papers print them");
         ExitCode::SUCCESS
     } else {
         println!("cases: FAILED");

@@ -4,33 +4,50 @@ use crate::description::Model;
 use crate::places::{accepted, Accepted, Layout, Place, Placement, Register};
 use crate::refusal::Refusal;
 use crate::types::code;
-use crate::units::{Bytes, Registers};
+use crate::units::{Bytes, Eightbytes, Registers};
 
 /// "The register image is 176 bytes".
 pub const REGISTER_IMAGE: usize = 176;
 /// "rdi, rsi, rdx, rcx, r8, r9 at 0..47, then xmm0..xmm7 at 48".
 pub const VECTOR_START: Bytes = Bytes(48);
 
-/// Which of the two images.
-#[derive(Clone, Copy, Debug, PartialEq, Eq)]
+/// "Bytes 16 to 31 stand in a second lent image of 128 bytes, xmm0 first" (02,
+/// 2026-06).
+pub const UPPER_IMAGE: usize = 128;
+
+/// Which of the three images.
+#[derive(Clone, Copy, Debug, PartialEq, Eq, Hash)]
 pub enum Image {
     Registers,
+    Upper,
     Stack,
 }
 
 /// One byte of one image.
-#[derive(Clone, Copy, Debug, PartialEq, Eq)]
+#[derive(Clone, Copy, Debug, PartialEq, Eq, Hash)]
 pub struct Spot {
     pub image: Image,
     pub offset: Bytes,
 }
 
-/// Where the eightbyte in a register begins in the register image.
-pub fn register_start(register: Register) -> Bytes {
+/// Eightbyte chunks of a vector register that are in the register image.
+const LOWER_CHUNKS: Eightbytes = Eightbytes(2);
+
+/// Where the eightbyte in a register begins.
+pub fn register_start(register: Register) -> Spot {
     match register {
-        Register::General(number) => Registers(number).general_room(),
-        Register::Vector(number) => VECTOR_START + Registers(number).vector_room(),
-        Register::VectorUpper(number) => VECTOR_START + Registers(number).vector_room() + Bytes(8),
+        Register::General(number) => {
+            Spot { image: Image::Registers, offset: Registers(number).general_room() }
+        }
+        Register::Vector(number, chunk) if chunk < LOWER_CHUNKS => {
+            let offset = VECTOR_START + Registers(number).vector_room() + chunk.start();
+            Spot { image: Image::Registers, offset }
+        }
+        Register::Vector(number, chunk) => {
+            let upper = Eightbytes(chunk.0 - LOWER_CHUNKS.0);
+            let offset = Registers(number).vector_room() + upper.start();
+            Spot { image: Image::Upper, offset }
+        }
     }
 }
 
@@ -41,8 +58,8 @@ pub fn spot(placement: &Placement, byte: Bytes) -> Spot {
         Place::Registers(registers) => {
             let eightbyte = byte.eightbyte();
             let inside = Bytes(byte.0 - eightbyte.start().0);
-            let offset = register_start(registers[eightbyte.0]) + inside;
-            Spot { image: Image::Registers, offset }
+            let start = register_start(registers[eightbyte.0]);
+            Spot { offset: start.offset + inside, ..start }
         }
     }
 }
@@ -55,15 +72,19 @@ pub fn spots(layout: &Layout) -> Vec<Spot> {
     layout.placements.iter().flat_map(of_one).collect()
 }
 
-/// 11: values, register image and stack image of exactly the right lengths.
+/// 11: values, register image, upper image and stack image of exactly the right
+/// lengths; the upper image's is 128 where nothing is wide too.
 fn check_lengths(
     layout: &Layout,
     values: usize,
     registers: usize,
+    upper: usize,
     stack: usize,
 ) -> Result<(), Refusal> {
-    let right =
-        values == layout.values_length() && registers == REGISTER_IMAGE && stack == layout.area.0;
+    let right = values == layout.values_length()
+        && registers == REGISTER_IMAGE
+        && upper == UPPER_IMAGE
+        && stack == layout.area.0;
     if right {
         Ok(())
     } else {
@@ -98,20 +119,23 @@ fn check_bools(accepted: &Accepted, values: &[u8]) -> Result<(), Refusal> {
 }
 
 /// "Placing copies each value byte to its place and writes zero everywhere else
-/// in both images." Answers the vector count.
+/// in both images", and "the second image" is "among the images". Answers the vector
+/// count.
 pub fn placing(
     bytes: &[u8],
     hidden_address: u64,
     values: &[u8],
     registers: &mut [u8],
+    upper: &mut [u8],
     stack: &mut [u8],
 ) -> Result<Registers, Refusal> {
     let accepted = accepted(bytes)?;
     let layout = &accepted.layout;
-    check_lengths(layout, values.len(), registers.len(), stack.len())?;
+    check_lengths(layout, values.len(), registers.len(), upper.len(), stack.len())?;
     check_address(&accepted, hidden_address)?;
     check_bools(&accepted, values)?;
     registers.fill(0);
+    upper.fill(0);
     stack.fill(0);
     // "The hidden address, little-endian, fills rdi where it is used".
     if layout.hidden_address {
@@ -120,6 +144,7 @@ pub fn placing(
     for (value, spot) in values.iter().zip(spots(layout)) {
         match spot.image {
             Image::Registers => registers[spot.offset.0] = *value,
+            Image::Upper => upper[spot.offset.0] = *value,
             Image::Stack => stack[spot.offset.0] = *value,
         }
     }
@@ -132,14 +157,16 @@ pub fn placing(
 pub fn gathering(
     bytes: &[u8],
     registers: &[u8],
+    upper: &[u8],
     stack: &[u8],
     values: &mut [u8],
 ) -> Result<u64, Refusal> {
     let layout = accepted(bytes)?.layout;
-    check_lengths(&layout, values.len(), registers.len(), stack.len())?;
+    check_lengths(&layout, values.len(), registers.len(), upper.len(), stack.len())?;
     for (value, spot) in values.iter_mut().zip(spots(&layout)) {
         *value = match spot.image {
             Image::Registers => registers[spot.offset.0],
+            Image::Upper => upper[spot.offset.0],
             Image::Stack => stack[spot.offset.0],
         };
     }

@@ -7,7 +7,7 @@ use crate::description::ILP32;
 use crate::draft::Draft;
 
 /// Names of the basic types, each at the place of its code.
-pub const NAMES: [&str; 16] = [
+pub const NAMES: [&str; 17] = [
     "bool",
     "char",
     "short",
@@ -24,6 +24,7 @@ pub const NAMES: [&str; 16] = [
     "complex_double",
     "complex_long_double",
     "pointer",
+    "m256",
 ];
 
 struct Reader<'a> {

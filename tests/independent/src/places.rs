@@ -4,7 +4,7 @@ use crate::classes::{classes_of, Class, Classes, IN_MEMORY};
 use crate::description::{Description, ARRAY, VOID};
 use crate::refusal::{told, Refusal, Told};
 use crate::types::{code, types, Types};
-use crate::units::{Bytes, Registers};
+use crate::units::{Bytes, Eightbytes, Registers};
 
 /// rdi, rsi, rdx, rcx, r8, r9
 pub const GENERAL_REGISTERS: Registers = Registers(6);
@@ -13,12 +13,12 @@ pub const VECTOR_REGISTERS: Registers = Registers(8);
 /// "rounded stack area over 16,384"
 pub const LARGEST_AREA: Bytes = Bytes(16384);
 
-/// A register, or the upper half of one, that holds one eightbyte.
+/// A register, or an eightbyte chunk of a vector register, that holds one eightbyte.
+/// Chunk 0 is the lowest, chunk 1 the upper half of xmm, 2 and 3 are bytes 16 to 31.
 #[derive(Clone, Copy, Debug, PartialEq, Eq)]
 pub enum Register {
     General(usize),
-    Vector(usize),
-    VectorUpper(usize),
+    Vector(usize, Eightbytes),
 }
 
 /// "either its registers in eightbyte order or its stack offset"
@@ -41,8 +41,8 @@ pub struct Placement {
 pub enum ReturnRegister {
     Rax,
     Rdx,
-    Xmm0,
-    Xmm0Upper,
+    /// An eightbyte chunk of xmm0.
+    Xmm0(Eightbytes),
     Xmm1,
     St0,
     St1,
@@ -73,6 +73,8 @@ pub struct Layout {
     pub taken: Vec<Taken>,
     pub hidden_address: bool,
     pub area: Bytes,
+    /// 16, or 32 where an argument on the stack is aligned to 32.
+    pub area_alignment: Bytes,
     pub return_place: ReturnPlace,
 }
 
@@ -117,10 +119,20 @@ fn has_unnamed_small(types: &Types) -> bool {
     })
 }
 
+/// The four classes of __m256: "SSE and three SSEUP".
+pub fn is_wide(classes: Classes) -> bool {
+    classes == [Class::Sse, Class::SseUp, Class::SseUp, Class::SseUp]
+}
+
 /// num_gp and num_fp: the registers that an argument of these classes needs,
 /// or nothing where it goes on the stack in any case: "MEMORY, X87, X87UP and
-/// COMPLEX_X87 go on the stack".
-pub fn registers_needed(classes: Classes) -> Option<(Registers, Registers)> {
+/// COMPLEX_X87 go on the stack", and "A named argument of these four classes takes
+/// one vector register; an unnamed one, structures included, is always on the
+/// stack" (02, 2026-06).
+pub fn registers_needed(classes: Classes, named: bool) -> Option<(Registers, Registers)> {
+    if !named && is_wide(classes) {
+        return None;
+    }
     let mut general = Registers(0);
     let mut vector = Registers(0);
     for class in classes {
@@ -136,9 +148,11 @@ pub fn registers_needed(classes: Classes) -> Option<(Registers, Registers)> {
 
 /// The next registers for these classes, in eightbyte order: "INTEGER takes the
 /// next of rdi, rsi, rdx, rcx, r8, r9; SSE the next of xmm0..xmm7; SSEUP the
-/// upper half of the last vector register".
+/// upper half of the last vector register", which is "the next available eightbyte
+/// chunk of the last used vector register" (000).
 fn next_registers(classes: Classes, taken: &mut Taken) -> Vec<Register> {
     let mut registers = Vec::new();
+    let mut chunk = Eightbytes(0);
     for class in classes {
         match class {
             Class::Integer => {
@@ -146,10 +160,14 @@ fn next_registers(classes: Classes, taken: &mut Taken) -> Vec<Register> {
                 taken.general += Registers(1);
             }
             Class::Sse => {
-                registers.push(Register::Vector(taken.vector.0));
+                chunk = Eightbytes(0);
+                registers.push(Register::Vector(taken.vector.0, chunk));
                 taken.vector += Registers(1);
             }
-            Class::SseUp => registers.push(Register::VectorUpper(taken.vector.0 - 1)),
+            Class::SseUp => {
+                chunk = Eightbytes(chunk.0 + 1);
+                registers.push(Register::Vector(taken.vector.0 - 1, chunk));
+            }
             _ => {}
         }
     }
@@ -158,9 +176,9 @@ fn next_registers(classes: Classes, taken: &mut Taken) -> Vec<Register> {
 
 /// "If any eightbyte finds no register, the whole argument goes on the stack
 /// and takes none; a later argument may still use those left."
-fn place(types: &Types, type_number: u8, taken: &mut Taken) -> Place {
+fn place(types: &Types, type_number: u8, named: bool, taken: &mut Taken) -> Place {
     let classes = classes_of(types, type_number);
-    if let Some((general, vector)) = registers_needed(classes) {
+    if let Some((general, vector)) = registers_needed(classes, named) {
         let fits = taken.general + general <= GENERAL_REGISTERS
             && taken.vector + vector <= VECTOR_REGISTERS;
         if fits {
@@ -172,6 +190,7 @@ fn place(types: &Types, type_number: u8, taken: &mut Taken) -> Place {
 
 /// "A stack argument has the lowest offset, after the one before, that is a
 /// multiple of 8 and of its alignment; the room it takes is rounded up to 8."
+/// "Stack places honour 32."
 fn stack_place(types: &Types, type_number: u8, taken: &mut Taken) -> Place {
     let measure = types.measure(type_number);
     // Alignments are powers of two: the larger is a multiple of the smaller.
@@ -181,16 +200,22 @@ fn stack_place(types: &Types, type_number: u8, taken: &mut Taken) -> Place {
 }
 
 /// "rax, rdx; xmm0, xmm1; xmm0 and its upper half; X87 st0; COMPLEX_X87 st0 and
-/// st1", in eightbyte order.
+/// st1", in eightbyte order. SSEUP is "the next available eightbyte chunk of the last
+/// used vector register" (000), which is xmm0: xmm1 is used for a lone SSE only.
 fn return_registers(classes: Classes) -> Vec<ReturnRegister> {
     let mut general = [ReturnRegister::Rax, ReturnRegister::Rdx].into_iter();
-    let mut vector = [ReturnRegister::Xmm0, ReturnRegister::Xmm1].into_iter();
+    let first = ReturnRegister::Xmm0(Eightbytes(0));
+    let mut vector = [first, ReturnRegister::Xmm1].into_iter();
+    let mut chunk = Eightbytes(0);
     let mut registers = Vec::new();
     for class in classes {
         match class {
             Class::Integer => registers.extend(general.next()),
             Class::Sse => registers.extend(vector.next()),
-            Class::SseUp => registers.push(ReturnRegister::Xmm0Upper),
+            Class::SseUp => {
+                chunk = Eightbytes(chunk.0 + 1);
+                registers.push(ReturnRegister::Xmm0(chunk));
+            }
             Class::X87 => registers.push(ReturnRegister::St0),
             Class::ComplexX87 => registers.extend([ReturnRegister::St0, ReturnRegister::St1]),
             // X87UP comes back together with the X87 before it.
@@ -221,6 +246,15 @@ fn taken_at_first(return_place: &ReturnPlace) -> Taken {
     }
 }
 
+/// 000, section 3.2.2: "The end of the input argument area shall be aligned on a 16
+/// (32 or 64, if __m256 or __m512 is passed on stack) byte boundary"; 02: "an area
+/// with a 32-byte aligned argument on it is rounded up to 32".
+fn area_alignment(placements: &[Placement]) -> Bytes {
+    let on_stack = |placement: &&Placement| matches!(placement.place, Place::Stack(_));
+    let alignments = placements.iter().filter(on_stack).map(|placement| placement.alignment);
+    alignments.max().unwrap_or(Bytes(0)).max(Bytes(16))
+}
+
 /// "Arguments follow left to right."
 pub fn laid_out(types: &Types) -> Layout {
     let description = types.description();
@@ -231,7 +265,8 @@ pub fn laid_out(types: &Types) -> Layout {
     for position in 0..description.arguments() {
         let type_number = description.argument(position);
         let measure = types.measure(type_number);
-        let place = place(types, type_number, &mut now);
+        let named = position < description.named();
+        let place = place(types, type_number, named, &mut now);
         placements.push(Placement {
             type_number,
             size: measure.size,
@@ -240,12 +275,13 @@ pub fn laid_out(types: &Types) -> Layout {
         });
         taken.push(now);
     }
+    let area_alignment = area_alignment(&placements);
     Layout {
         placements,
         taken,
         hidden_address: matches!(return_place, ReturnPlace::Memory(_)),
-        // "The area is rounded up to 16."
-        area: now.stack.raised_to(Bytes(16)),
+        area: now.stack.raised_to(area_alignment),
+        area_alignment,
         return_place,
     }
 }

@@ -27,6 +27,7 @@ pub mod code {
     pub const COMPLEX_DOUBLE: u8 = 13;
     pub const COMPLEX_LONG_DOUBLE: u8 = 14;
     pub const POINTER: u8 = 15;
+    pub const M256: u8 = 16;
 }
 
 #[derive(Clone, Copy, Debug, PartialEq, Eq)]
@@ -59,7 +60,9 @@ pub fn basic_measure(model: Model, basic: u8) -> Measure {
         code::COMPLEX_FLOAT => measure(8, 4),
         code::COMPLEX_DOUBLE => measure(16, 8),
         code::COMPLEX_LONG_DOUBLE => measure(32, 16),
-        _ => unreachable!("refusal 6 keeps codes over 15 out"),
+        // "Code 16 is __m256: size and alignment 32" (02, 2026-06).
+        code::M256 => measure(32, 32),
+        _ => unreachable!("refusal 6 keeps codes over 16 out"),
     }
 }
 

@@ -16,7 +16,7 @@ pub fn scrambled(random: &mut Random, bytes: &[u8]) -> Vec<u8> {
     let mut copies: Vec<Vec<u8>> = vec![Vec::new(); given.types()];
     while let Some(next) = next_type(random, given, &copies) {
         if random.one_in(6) {
-            draft.record(BASIC, random.below(16) as u8, 0);
+            draft.record(BASIC, random.below(17) as u8, 0);
         }
         let number = add_copy(random, given, next, &copies, &mut draft);
         copies[next as usize].push(number);
@@ -129,7 +129,7 @@ fn change(random: &mut Random, given: Description, bytes: &mut [u8]) {
             let number = random.below(given.types()) as u8;
             let at = 11 + 4 * number as usize;
             match given.record(number).kind {
-                BASIC => bytes[at + 1] = random.below(16) as u8,
+                BASIC => bytes[at + 1] = random.below(17) as u8,
                 ARRAY => bytes[at + 2] = random.between(1, 8) as u8,
                 STRUCT => bytes[at] = UNION,
                 _ => bytes[at] = STRUCT,

@@ -7,19 +7,21 @@ use crate::classes::classes_of;
 use crate::damage::{damaged, refusals_and_pairs};
 use crate::description::ILP32;
 use crate::draft::{in_both_models, Draft};
-use crate::generator::{self, random_description, Shape, LARGE, MIDDLE, NARROW, SMALL, THOUGHT};
+use crate::generator::{
+    self, random_description, Shape, LARGE, MIDDLE, NARROW, SMALL, THOUGHT, WIDE,
+};
 use crate::history::{
     any_address, random_address, random_history, random_images, random_values, word_and_hex,
     Command, Script, ADDRESSES,
 };
 use crate::listing::listing;
-use crate::moving::{gathering, placing, REGISTER_IMAGE};
+use crate::moving::{gathering, placing, REGISTER_IMAGE, UPPER_IMAGE};
 use crate::needing::needs_stack;
 use crate::notation::{self, description};
 use crate::places::{accepted, layout, Place, Placement};
 use crate::random::Random;
 use crate::refusal::Told;
-use crate::returning::{putting, taking, value_length, RETURN_IMAGE};
+use crate::returning::{putting, taking, value_length, RETURN_IMAGE, RETURN_UPPER};
 use crate::station::Station;
 use crate::tidying::{tidy, tidying};
 use crate::types::{asked, run_range};
@@ -64,10 +66,10 @@ pub fn all_pairs(seed: u64) -> Vec<Pair> {
     made.collect()
 }
 
-/// The cases of document 01 and the aggregates that need thought, in both models,
-/// and those that need it under ILP32.
+/// The cases of document 01, the aggregates that need thought and the vectors of 32
+/// bytes, in both models, and those that need thought under ILP32.
 fn printed_functions() -> Vec<Vec<u8>> {
-    let texts = CASES.iter().map(|case| case.function).chain(THOUGHT);
+    let texts = CASES.iter().map(|case| case.function).chain(THOUGHT).chain(WIDE);
     let mut all = in_both_models(texts.map(description).collect());
     all.extend(NARROW.iter().map(|text| description(text)));
     all
@@ -85,7 +87,7 @@ fn towers() -> Vec<Vec<u8>> {
 
 fn questions(random: &mut Random) -> Writer {
     let mut writer = Writer::new("questions");
-    for bytes in in_both_models((0..=15).map(returned_basic).collect()) {
+    for bytes in in_both_models((0..=16).map(returned_basic).collect()) {
         ask(&mut writer, &bytes, 0);
     }
     for bytes in printed_functions() {
@@ -151,7 +153,7 @@ pub fn question_line(bytes: &[u8], type_number: u8) -> String {
         Err(refusal) => return format!("refused {}\n", Told::from(refusal)),
     };
     let measure = types.measure(type_number);
-    let [first, second] = classes_of(&types, type_number);
+    let classes = classes_of(&types, type_number).map(|class| class.name());
     let run = run_range(bytes, type_number);
     let run_text = match run.is_empty() {
         true => "none".to_string(),
@@ -162,11 +164,10 @@ pub fn question_line(bytes: &[u8], type_number: u8) -> String {
         }
     };
     format!(
-        "size {} align {} classes {} {} run {run_text}\n",
+        "size {} align {} classes {} run {run_text}\n",
         measure.size.0,
         measure.alignment.0,
-        first.name(),
-        second.name()
+        classes.join(" ")
     )
 }
 
@@ -251,7 +252,12 @@ fn lay_out(writer: &mut Writer, bytes: &[u8], lent: u8) {
 pub fn layout_text(bytes: &[u8], lent: u8) -> String {
     let mut list = vec![empty_placement(); lent as usize];
     let laid = match layout(bytes, &mut list) {
-        Ok(layout) => format!("{}values {}\n", listing(bytes), layout.values_length()),
+        Ok(layout) => format!(
+            "{}values {} align {}\n",
+            listing(bytes),
+            layout.values_length(),
+            layout.area_alignment.0
+        ),
         Err(refusal) => format!("refused {}\n", Told::from(refusal)),
     };
     laid + &need_text(bytes)
@@ -274,6 +280,7 @@ struct Move {
     hidden_address: u64,
     values: Vec<u8>,
     registers: Vec<u8>,
+    upper: Vec<u8>,
     stack: Vec<u8>,
     out: u16,
 }
@@ -331,6 +338,7 @@ fn move_for(bytes: &[u8], values: Vec<u8>, filling: u8, area: usize, out: u16) -
         hidden_address: 0x1122_3344_5566_7788,
         values,
         registers: vec![filling; REGISTER_IMAGE],
+        upper: vec![filling; UPPER_IMAGE],
         stack: vec![filling; area],
         out,
     }
@@ -346,6 +354,7 @@ fn right_move(random: &mut Random, bytes: &[u8]) -> Move {
         out: values.len() as u16,
         values,
         registers: random.bytes(REGISTER_IMAGE),
+        upper: random.bytes(UPPER_IMAGE),
         stack: random.bytes(accepted.layout.area.0),
     }
 }
@@ -395,6 +404,11 @@ fn printed_moves() -> Vec<Move> {
             "void: long, long, long, long, long, struct{double, long}",
             &counted[..48].repeat(2)[..56],
         ),
+        printed_move("void: m256", &counted[..32]),
+        printed_move("void: double, struct{m256}, float", &counted[..44]),
+        printed_move("void: union{m256, long}, char", &counted[..33]),
+        printed_move("void: int, ..., m256", &counted[..36]),
+        printed_move("union{m256, long}: m256, long_double", &counted[..48]),
     ]
 }
 
@@ -423,12 +437,13 @@ fn address_moves() -> Vec<Move> {
 fn wrong_lengths(right: &Move) -> Vec<Move> {
     let mut all = vec![right.clone()];
     for longer in [false, true] {
-        for which in 0..4 {
+        for which in 0..5 {
             let mut one = right.clone();
             match which {
                 0 => resize(&mut one.values, longer),
                 1 => resize(&mut one.registers, longer),
-                2 => resize(&mut one.stack, longer),
+                2 => resize(&mut one.upper, longer),
+                3 => resize(&mut one.stack, longer),
                 _ => one.out = if longer { one.out + 1 } else { one.out - 1 },
             }
             all.push(one);
@@ -437,9 +452,16 @@ fn wrong_lengths(right: &Move) -> Vec<Move> {
     let mut empty = right.clone();
     empty.values.clear();
     empty.registers.clear();
+    empty.upper.clear();
     empty.stack.clear();
     empty.out = 0;
     all.push(empty);
+    // An upper image that nothing uses is lent all the same.
+    for length in [0, 64, 112, 176] {
+        let mut one = right.clone();
+        one.upper.resize(length, 0xFF);
+        all.push(one);
+    }
     let mut nothing = printed_move("void:", &[]);
     nothing.stack = vec![0xFF];
     all.push(nothing.clone());
@@ -462,13 +484,14 @@ fn spoilt_move(random: &mut Random) -> Move {
     let text = "int: bool, struct{bool, float}, long, bool, m128, int";
     let bytes = if random.one_in(2) { description(text) } else { move_description(random) };
     let mut one = right_move(random, &bytes);
-    match random.below(8) {
+    match random.below(9) {
         0 => one.out += 1,
         7 => one.hidden_address = any_address(random),
         1 => one.stack.push(1),
         2 => one.registers.truncate(random.below(176)),
         3 => one.values.push(random.byte()),
         4 => one.out = 0,
+        5 => one.upper.truncate(random.below(UPPER_IMAGE)),
         _ => {
             for value in one.values.iter_mut() {
                 *value |= 2;
@@ -483,6 +506,7 @@ fn add_move(writer: &mut Writer, one: &Move) {
     writer.pair.input.extend(one.hidden_address.to_le_bytes());
     writer.part(&one.values);
     writer.part(&one.registers);
+    writer.part(&one.upper);
     writer.part(&one.stack);
     writer.pair.input.extend(one.out.to_le_bytes());
     writer.pair.output.push_str(&move_text(one));
@@ -491,11 +515,18 @@ fn add_move(writer: &mut Writer, one: &Move) {
 
 fn move_text(one: &Move) -> String {
     let mut registers = one.registers.clone();
+    let mut upper = one.upper.clone();
     let mut stack = one.stack.clone();
-    let placed =
-        placing(&one.description, one.hidden_address, &one.values, &mut registers, &mut stack);
+    let placed = placing(
+        &one.description,
+        one.hidden_address,
+        &one.values,
+        &mut registers,
+        &mut upper,
+        &mut stack,
+    );
     let mut values = vec![0xEE; one.out as usize];
-    let gathered = gathering(&one.description, &registers, &stack, &mut values);
+    let gathered = gathering(&one.description, &registers, &upper, &stack, &mut values);
     let first = match placed {
         Ok(count) => format!("placed {}", count.0),
         Err(refusal) => format!("refused {}", Told::from(refusal)),
@@ -505,8 +536,9 @@ fn move_text(one: &Move) -> String {
         Err(refusal) => format!("refused {}", Told::from(refusal)),
     };
     format!(
-        "{first}\n{}\n{}\n{second}\n{}\n",
+        "{first}\n{}\n{}\n{}\n{second}\n{}\n",
         word_and_hex("registers", &registers),
+        word_and_hex("upper", &upper),
         word_and_hex("stack", &stack),
         word_and_hex("values", &values)
     )
@@ -569,8 +601,9 @@ fn walked_functions() -> Vec<Vec<u8>> {
         "void: ..., struct{float, struct{float, int}}, union{m128, long}, struct{int[3]}",
         "void: int, ...",
     ];
+    let texts = texts.into_iter().chain(WIDE.into_iter().filter(|text| text.contains("...")));
     let mut all = vec![bytes_of_hex(LISTER)];
-    all.extend(texts.iter().map(|text| description(text)));
+    all.extend(texts.map(description));
     let mut all = in_both_models(all);
     let narrow = NARROW.iter().filter(|text| text.contains("..."));
     all.extend(narrow.map(|text| description(text)));
@@ -989,6 +1022,7 @@ struct Return {
     hidden_address: u64,
     value: Vec<u8>,
     image: Vec<u8>,
+    upper: Vec<u8>,
     out: u16,
 }
 
@@ -1028,7 +1062,7 @@ fn returns(random: &mut Random) -> Writer {
 /// Few arguments: it is the returned type that matters here.
 const RETURNS: Shape = Shape { most_types: 9, most_arguments: 2, most_members: 4, largest: 40 };
 
-/// With an image of FF, and room for the same length.
+/// With images of FF, and room for the same length.
 fn return_for(bytes: &[u8], value: Vec<u8>) -> Return {
     Return {
         description: bytes.to_vec(),
@@ -1036,16 +1070,18 @@ fn return_for(bytes: &[u8], value: Vec<u8>) -> Return {
         out: value.len() as u16,
         value,
         image: vec![0xFF; RETURN_IMAGE],
+        upper: vec![0xFF; RETURN_UPPER],
     }
 }
 
-/// Right lengths, a random value, an image full of rubbish.
+/// Right lengths, a random value, images full of rubbish.
 fn right_return(random: &mut Random, bytes: &[u8]) -> Return {
     let accepted = accepted(bytes).expect("a return for an accepted description");
     let value = random.bytes(value_length(&accepted));
     Return {
         hidden_address: random_address(random, bytes),
         image: random.bytes(RETURN_IMAGE),
+        upper: random.bytes(RETURN_UPPER),
         ..return_for(bytes, value)
     }
 }
@@ -1067,7 +1103,7 @@ fn printed_returns() -> Vec<Return> {
         of("struct{complex_long_double}:", &[]),
         of("union{long_double, char}:", &[]),
     ];
-    for bytes in in_both_models((1..=15).map(returned_basic).collect()) {
+    for bytes in in_both_models((1..=16).map(returned_basic).collect()) {
         let length = value_length(&accepted(&bytes).expect("a basic type"));
         all.push(return_for(&bytes, counted[..length].to_vec()));
     }
@@ -1083,6 +1119,10 @@ fn printed_returns() -> Vec<Return> {
         ("struct{float, float, float}:", 12),
         ("union{m128, struct{double, double}}:", 16),
         ("struct{m128}:", 16),
+        ("struct{m256}:", 32),
+        ("union{m256, double}:", 32),
+        ("union{m256, double[4]}:", 0),
+        ("struct{m256, m256}: m256", 0),
     ] {
         all.push(of(function, &counted[..length]));
     }
@@ -1109,9 +1149,12 @@ fn address_returns() -> Vec<Return> {
 /// values where there are none.
 fn wrong_return_lengths() -> Vec<Return> {
     let mut all = Vec::new();
-    for (function, value) in
-        [("bool:", vec![2]), ("long_double:", vec![7; 16]), ("void: int", vec![])]
-    {
+    for (function, value) in [
+        ("bool:", vec![2]),
+        ("long_double:", vec![7; 16]),
+        ("void: int", vec![]),
+        ("m256:", vec![7; 32]),
+    ] {
         let right = return_for(&description(function), value);
         for longer in [false, true] {
             let mut one = right.clone();
@@ -1119,6 +1162,9 @@ fn wrong_return_lengths() -> Vec<Return> {
             all.push(one);
             let mut one = right.clone();
             resize(&mut one.image, longer);
+            all.push(one);
+            let mut one = right.clone();
+            resize(&mut one.upper, longer);
             all.push(one);
             let mut one = right.clone();
             one.out = if longer { one.out + 1 } else { one.out.saturating_sub(1) };
@@ -1130,6 +1176,9 @@ fn wrong_return_lengths() -> Vec<Return> {
         let mut empty = return_for(&description(function), Vec::new());
         empty.image.clear();
         all.push(empty);
+        let mut empty = return_for(&description(function), Vec::new());
+        empty.upper.clear();
+        all.push(empty);
     }
     all
 }
@@ -1137,8 +1186,9 @@ fn wrong_return_lengths() -> Vec<Return> {
 /// One length or the address wrong. Where it is the value's, nothing is put, and the value is
 /// taken from rubbish.
 fn spoil_return(random: &mut Random, one: &mut Return) {
-    match random.below(7) {
+    match random.below(8) {
         0 => one.out += 1,
+        3 => one.upper.truncate(random.below(RETURN_UPPER)),
         2 => one.hidden_address = any_address(random),
         1 => one.image.truncate(random.below(RETURN_IMAGE)),
         _ => one.value.push(random.byte()),
@@ -1150,6 +1200,7 @@ fn add_return(writer: &mut Writer, one: &Return) {
     writer.pair.input.extend(one.hidden_address.to_le_bytes());
     writer.part(&one.value);
     writer.part(&one.image);
+    writer.part(&one.upper);
     writer.pair.input.extend(one.out.to_le_bytes());
     writer.pair.output.push_str(&return_text(one));
     writer.pair.records += 1;
@@ -1157,9 +1208,10 @@ fn add_return(writer: &mut Writer, one: &Return) {
 
 fn return_text(one: &Return) -> String {
     let mut image = one.image.clone();
-    let put = putting(&one.description, one.hidden_address, &one.value, &mut image);
+    let mut upper = one.upper.clone();
+    let put = putting(&one.description, one.hidden_address, &one.value, &mut image, &mut upper);
     let mut value = vec![0xEE; one.out as usize];
-    let taken = taking(&one.description, &image, &mut value);
+    let taken = taking(&one.description, &image, &upper, &mut value);
     let first = match put {
         Ok(()) => "put".to_string(),
         Err(refusal) => format!("refused {}", Told::from(refusal)),
@@ -1168,15 +1220,16 @@ fn return_text(one: &Return) -> String {
         Ok(hidden_address) => format!("taken {hidden_address}"),
         Err(refusal) => format!("refused {}", Told::from(refusal)),
     };
-    let (image, value) = (word_and_hex("image", &image), word_and_hex("value", &value));
-    format!("{first}\n{image}\n{second}\n{value}\n")
+    let images = [word_and_hex("image", &image), word_and_hex("upper", &upper)].join("\n");
+    format!("{first}\n{images}\n{second}\n{}\n", word_and_hex("value", &value))
 }
 
 // ---- tidies
 
 fn tidies(random: &mut Random) -> Writer {
     let mut writer = Writer::new("tidies");
-    for bytes in in_both_models(THOUGHT.iter().map(|text| description(text)).collect()) {
+    let texts = THOUGHT.iter().chain(&WIDE);
+    for bytes in in_both_models(texts.map(|text| description(text)).collect()) {
         add_tidy(&mut writer, &bytes);
     }
     for (_, bytes) in generator::limits().iter().chain(&generator::towers()) {

@@ -69,7 +69,8 @@ pub struct Fetch {
 /// read from the register image and both offsets move on."
 pub fn fetch(types: &Types, type_number: u8, offsets: Offsets) -> Fetch {
     let classes = classes_of(types, type_number);
-    if let Some((num_gp, num_fp)) = registers_needed(classes) {
+    // The walk is over unnamed arguments.
+    if let Some((num_gp, num_fp)) = registers_needed(classes, false) {
         let last_gp = GENERAL_REGISTERS.general_room();
         let last_fp = VECTOR_START + VECTOR_REGISTERS.vector_room();
         let fits = offsets.gp_offset + num_gp.general_room() <= last_gp
@@ -108,14 +109,14 @@ fn fetch_from_registers(types: &Types, type_number: u8, offsets: Offsets) -> Fet
     Fetch { pieces, after }
 }
 
-/// "Otherwise the overflow offset is raised to 16 where the alignment exceeds
-/// 8, the type is read there, its size is added, and the result is raised to
-/// 8."
+/// "Otherwise the overflow offset is raised .. where the alignment exceeds 8, the
+/// type is read there, its size is added, and the result is raised to 8"; raised "to
+/// the type's alignment" (02, 2026-06).
 fn fetch_from_stack(types: &Types, type_number: u8, offsets: Offsets) -> Fetch {
     let measure = types.measure(type_number);
     let mut start = offsets.overflow;
     if measure.alignment > Bytes(8) {
-        start = start.raised_to(Bytes(16));
+        start = start.raised_to(measure.alignment);
     }
     let overflow = (start + measure.size).raised_to(Bytes(8));
     let piece = Piece { image: Image::Stack, start, length: measure.size };
@@ -199,6 +200,7 @@ fn piece_bytes<'a>(piece: Piece, registers: &'a [u8], stack: &'a [u8]) -> &'a [u
     let image = match piece.image {
         Image::Registers => registers,
         Image::Stack => stack,
+        Image::Upper => unreachable!("an unnamed argument is never there"),
     };
     &image[piece.start.0..piece.start.0 + piece.length.0]
 }

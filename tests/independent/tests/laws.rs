@@ -2,11 +2,12 @@
 
 use independent::generator::{random_description, Shape, LARGE, MIDDLE, SMALL};
 use independent::history::{random_address, random_values, FILLING};
-use independent::moving::{gathering, placing, spots, Image, REGISTER_IMAGE};
-use independent::places::{accepted, Place, Register};
+use independent::moving::{gathering, placing, spots, Image, Spot, REGISTER_IMAGE, UPPER_IMAGE};
+use independent::places::{accepted, Place, Placement, Register};
 use independent::random::Random;
 use independent::station::{attach, Station, SEAT};
 use independent::types::code;
+use independent::units::{Bytes, Eightbytes};
 use independent::walk::{offsets_after, open, show, shown_piece, step};
 use std::collections::HashSet;
 
@@ -29,10 +30,11 @@ fn every_value_byte_has_one_place_of_its_own() {
         for spot in spots(&layout) {
             let room = match spot.image {
                 Image::Registers => REGISTER_IMAGE,
+                Image::Upper => UPPER_IMAGE,
                 Image::Stack => layout.area.0,
             };
             assert!(spot.offset.0 < room);
-            assert!(seen.insert((spot.image == Image::Stack, spot.offset)));
+            assert!(seen.insert(spot));
             let in_rdi = spot.image == Image::Registers && spot.offset.0 < 8;
             assert!(!(in_rdi && layout.hidden_address));
         }
@@ -53,7 +55,8 @@ fn counts_are_those_of_the_places() {
                 Place::Registers(registers) => {
                     assert_eq!(registers.len(), placement.size.eightbytes().0);
                     let is_general = |one: &&Register| matches!(one, Register::General(_));
-                    let is_vector = |one: &&Register| matches!(one, Register::Vector(_));
+                    let is_vector =
+                        |one: &&Register| matches!(one, Register::Vector(_, Eightbytes(0)));
                     general += registers.iter().filter(is_general).count();
                     vector += registers.iter().filter(is_vector).count();
                 }
@@ -61,7 +64,15 @@ fn counts_are_those_of_the_places() {
         }
         assert_eq!(layout.registers_used().0, general);
         assert_eq!(layout.vector_count().0, vector);
-        assert!(general <= 6 && vector <= 8 && layout.area.0 % 16 == 0);
+        assert!(general <= 6 && vector <= 8);
+        // "an area with a 32-byte aligned argument on it is rounded up to 32"
+        let lies = |one: &&Placement| matches!(one.place, Place::Stack(_));
+        let strict = layout.placements.iter().filter(lies).any(|one| one.alignment == Bytes(32));
+        assert_eq!(layout.area_alignment.0, if strict { 32 } else { 16 });
+        assert_eq!(
+            layout.area,
+            layout.taken[layout.placements.len()].stack.raised_to(layout.area_alignment)
+        );
     });
 }
 
@@ -71,16 +82,18 @@ fn values_placed_and_gathered_are_the_same_bytes() {
         let accepted = accepted(bytes).expect("accepted");
         let values = random_values(random, bytes);
         let mut registers = random.bytes(REGISTER_IMAGE);
+        let mut upper = random.bytes(UPPER_IMAGE);
         let mut stack = random.bytes(accepted.layout.area.0);
         let hidden = random_address(random, bytes);
-        placing(bytes, hidden, &values, &mut registers, &mut stack).expect("right");
+        placing(bytes, hidden, &values, &mut registers, &mut upper, &mut stack).expect("right");
         let mut back = vec![FILLING; values.len()];
-        let found = gathering(bytes, &registers, &stack, &mut back).expect("right");
+        let found = gathering(bytes, &registers, &upper, &stack, &mut back).expect("right");
         assert_eq!(back, values);
         assert_eq!(found, if accepted.layout.hidden_address { hidden } else { 0 });
         let used = spots(&accepted.layout).len() + 8 * accepted.layout.hidden_address as usize;
-        let zeros = registers.iter().chain(&stack).filter(|&&byte| byte == 0).count();
-        assert!(zeros + used >= REGISTER_IMAGE + accepted.layout.area.0);
+        let images = registers.iter().chain(&upper).chain(&stack);
+        let zeros = images.filter(|&&byte| byte == 0).count();
+        assert!(zeros + used >= REGISTER_IMAGE + UPPER_IMAGE + accepted.layout.area.0);
     });
 }
 
@@ -96,22 +109,28 @@ fn gathered_and_placed_again_is_the_same_when_unused_bytes_are_zero() {
         let mut registers = random.bytes(REGISTER_IMAGE);
         // "images placed again under demand 2 need one below that"
         registers[0..8].copy_from_slice(&random_address(random, bytes).to_le_bytes());
+        let upper = random.bytes(UPPER_IMAGE);
         let stack = random.bytes(accepted.layout.area.0);
         let mut values = vec![0; accepted.layout.values_length()];
-        let hidden = gathering(bytes, &registers, &stack, &mut values).expect("right");
-        let (mut registers_again, mut stack_again) = (registers.clone(), stack.clone());
-        placing(bytes, hidden, &values, &mut registers_again, &mut stack_again).expect("right");
+        let hidden = gathering(bytes, &registers, &upper, &stack, &mut values).expect("right");
+        let mut again = [registers.clone(), upper.clone(), stack.clone()];
+        let [registers_again, upper_again, stack_again] = &mut again;
+        placing(bytes, hidden, &values, registers_again, upper_again, stack_again).expect("right");
         let mut values_again = vec![0; values.len()];
-        gathering(bytes, &registers_again, &stack_again, &mut values_again).expect("right");
+        gathering(bytes, registers_again, upper_again, stack_again, &mut values_again)
+            .expect("right");
         assert_eq!(values, values_again);
-        let used = spots(&accepted.layout);
-        for offset in 0..REGISTER_IMAGE {
-            let hidden_byte = accepted.layout.hidden_address && offset < 8;
-            let is_used = hidden_byte
-                || used
-                    .iter()
-                    .any(|spot| spot.image == Image::Registers && spot.offset.0 == offset);
-            assert_eq!(registers_again[offset], if is_used { registers[offset] } else { 0 });
+        let used: HashSet<Spot> = spots(&accepted.layout).into_iter().collect();
+        let images = [Image::Registers, Image::Upper, Image::Stack];
+        for ((image, before), after) in
+            images.into_iter().zip([registers, upper, stack]).zip(&again)
+        {
+            for (offset, (byte, again)) in before.iter().zip(after).enumerate() {
+                let hidden_byte =
+                    accepted.layout.hidden_address && image == Image::Registers && offset < 8;
+                let is_used = hidden_byte || used.contains(&Spot { image, offset: Bytes(offset) });
+                assert_eq!(*again, if is_used { *byte } else { 0 });
+            }
         }
     });
 }
@@ -123,7 +142,8 @@ fn a_walk_hands_back_each_unnamed_argument() {
         let layout = &accepted.layout;
         let values = random_values(random, bytes);
         let (mut registers, mut stack) = (vec![0; REGISTER_IMAGE], vec![0; layout.area.0]);
-        placing(bytes, 1, &values, &mut registers, &mut stack).expect("right");
+        let mut upper = [0; UPPER_IMAGE];
+        placing(bytes, 1, &values, &mut registers, &mut upper, &mut stack).expect("right");
         let mut station = Station { number: random.below(1000) as u32, ..Station::default() };
         let mut seat = random.bytes(SEAT);
         attach(&mut station, &mut seat, bytes).expect("accepted");

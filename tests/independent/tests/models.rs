@@ -6,12 +6,14 @@ use independent::draft::{in_ilp32, Draft};
 use independent::generator::{random_description, LARGE, MIDDLE, NARROW, SMALL};
 use independent::history::{random_address, random_values, ADDRESSES, FILLING};
 use independent::listing::{listing, place_text};
-use independent::moving::{gathering, placing, register_start, NARROW_ADDRESSES, REGISTER_IMAGE};
+use independent::moving::{
+    gathering, placing, register_start, NARROW_ADDRESSES, REGISTER_IMAGE, UPPER_IMAGE,
+};
 use independent::notation::description;
 use independent::places::{accepted, check, Place};
 use independent::random::Random;
 use independent::refusal::Refusal;
-use independent::returning::{putting, taking, RETURN_IMAGE};
+use independent::returning::{putting, taking, RETURN_IMAGE, RETURN_UPPER};
 use independent::station::{attach, Station, SEAT};
 use independent::types::{alignment, code, size};
 use independent::units::Bytes;
@@ -25,7 +27,8 @@ fn last(text: &str) -> (usize, usize, [Class; 2], String) {
     let place = &accepted.layout.placements.last().expect("an argument").place;
     let measure = [size(&bytes, number), alignment(&bytes, number)];
     let [Bytes(size), Bytes(alignment)] = measure.map(|bytes| bytes.expect("accepted"));
-    (size, alignment, classes(&bytes, number).expect("accepted"), place_text(place))
+    let [first, second, ..] = classes(&bytes, number).expect("accepted");
+    (size, alignment, [first, second], place_text(place))
 }
 
 #[test]
@@ -61,7 +64,7 @@ fn byte_6_over_3_is_refused() {
 
 #[test]
 fn a_pointer_has_four_bytes_and_nothing_else_changes() {
-    for basic in 0..16 {
+    for basic in 0..17 {
         let mut draft = Draft::new();
         draft.basic(basic);
         let measure = |bytes: &[u8]| (size(bytes, 0), alignment(bytes, 0), classes(bytes, 0));
@@ -147,7 +150,8 @@ fn upper_halves_are_zero() {
         let (mut registers, mut stack) =
             (vec![FILLING; REGISTER_IMAGE], random.bytes(layout.area.0));
         let address = random_address(&mut random, &bytes);
-        placing(&bytes, address, &values, &mut registers, &mut stack).expect("right");
+        let mut upper = [FILLING; UPPER_IMAGE];
+        placing(&bytes, address, &values, &mut registers, &mut upper, &mut stack).expect("right");
         if layout.hidden_address {
             assert_eq!(registers[..8], address.to_le_bytes());
             assert_eq!(registers[4..8], [0; 4]);
@@ -156,7 +160,7 @@ fn upper_halves_are_zero() {
             if accepted.types.is_basic(placement.type_number, code::POINTER) {
                 let slot = match &placement.place {
                     Place::Stack(offset) => &stack[offset.0..],
-                    Place::Registers(taken) => &registers[register_start(taken[0]).0..],
+                    Place::Registers(taken) => &registers[register_start(taken[0]).offset.0..],
                 };
                 assert_eq!(slot[4..8], [0; 4]);
                 pointers += 1;
@@ -174,9 +178,14 @@ fn answers(text: &str) -> [[u8; 4]; 2] {
     [
         ADDRESSES.map(|address| {
             let mut registers = vec![FILLING; REGISTER_IMAGE];
-            number(placing(&bytes, address, &values, &mut registers, &mut []).map(|_| ()))
+            let mut upper = [FILLING; UPPER_IMAGE];
+            let placed = placing(&bytes, address, &values, &mut registers, &mut upper, &mut []);
+            number(placed.map(|_| ()))
         }),
-        ADDRESSES.map(|address| number(putting(&bytes, address, &[], &mut [0; RETURN_IMAGE]))),
+        ADDRESSES.map(|address| {
+            let (mut image, mut upper) = ([0; RETURN_IMAGE], [0; RETURN_UPPER]);
+            number(putting(&bytes, address, &[], &mut image, &mut upper))
+        }),
     ]
 }
 
@@ -193,14 +202,16 @@ fn eleven_then_twenty_seven_then_twelve() {
     let bytes = description("ilp32 struct{char[17]}: bool");
     let mut registers = vec![9; REGISTER_IMAGE];
     let mut place = |address: u64, values: &[u8]| {
-        placing(&bytes, address, values, &mut registers, &mut []).map(|_| ())
+        placing(&bytes, address, values, &mut registers, &mut [9; UPPER_IMAGE], &mut []).map(|_| ())
     };
     assert_eq!(place(NARROW_ADDRESSES, &[2, 0]), Err(Refusal::WrongLength));
     assert_eq!(place(NARROW_ADDRESSES, &[2]), Err(Refusal::AddressTooWide));
     assert_eq!(place(NARROW_ADDRESSES - 1, &[2]), Err(Refusal::WrongBool));
     assert!(registers.iter().all(|&byte| byte == 9), "a refusal writes nothing");
     let mut image = [9; RETURN_IMAGE];
-    let mut put = |address: u64, value: &[u8]| putting(&bytes, address, value, &mut image);
+    let mut put = |address: u64, value: &[u8]| {
+        putting(&bytes, address, value, &mut image, &mut [9; RETURN_UPPER])
+    };
     assert_eq!(put(NARROW_ADDRESSES, &[1]), Err(Refusal::WrongLength));
     assert_eq!(put(NARROW_ADDRESSES, &[]), Err(Refusal::AddressTooWide));
     assert_eq!(image, [9; RETURN_IMAGE]);
@@ -212,10 +223,12 @@ fn gathering_and_taking_answer_all_of_rdi_and_rax() {
     let mut values = [0; 4];
     let registers = [FILLING; REGISTER_IMAGE];
     let all = u64::from_le_bytes([FILLING; 8]);
-    assert_eq!(gathering(&bytes, &registers, &[], &mut values), Ok(all));
+    let upper = [FILLING; UPPER_IMAGE];
+    assert_eq!(gathering(&bytes, &registers, &upper, &[], &mut values), Ok(all));
     assert_eq!(values, [FILLING; 4]);
-    assert_eq!(taking(&bytes, &[FILLING; RETURN_IMAGE], &mut []), Ok(all));
+    let image = [FILLING; RETURN_IMAGE];
+    assert_eq!(taking(&bytes, &image, &[FILLING; RETURN_UPPER], &mut []), Ok(all));
     let mut again = registers;
-    let placed = placing(&bytes, all, &values, &mut again, &mut []);
+    let placed = placing(&bytes, all, &values, &mut again, &mut [0; UPPER_IMAGE], &mut []);
     assert_eq!(placed, Err(Refusal::AddressTooWide));
 }

@@ -1,7 +1,7 @@
 //! What documents 01 and 000 say, case by case.
 
 use independent::cases::{bytes_of_hex, case_holds, CASES, LISTER, LISTER_TEXT};
-use independent::classes::{classes, cleaned_up, merged, Class};
+use independent::classes::{classes, cleaned_up, merged, Class, NOTHING};
 use independent::draft::Draft;
 use independent::generator::{limits, towers};
 use independent::listing::listing;
@@ -107,13 +107,21 @@ fn merging_is_the_first_rule_that_fits() {
 
 #[test]
 fn cleaning_up_follows_its_order() {
-    let memory = [Class::Memory, Class::NoClass];
-    assert_eq!(cleaned_up([Class::Integer, Class::Memory]), memory);
-    assert_eq!(cleaned_up([Class::Integer, Class::X87Up]), memory);
-    assert_eq!(cleaned_up([Class::X87, Class::X87Up]), [Class::X87, Class::X87Up]);
-    assert_eq!(cleaned_up([Class::Sse, Class::SseUp]), [Class::Sse, Class::SseUp]);
-    assert_eq!(cleaned_up([Class::Integer, Class::SseUp]), [Class::Integer, Class::Sse]);
-    assert_eq!(cleaned_up([Class::SseUp, Class::SseUp]), [Class::Sse, Class::SseUp]);
+    // Of an aggregate of 16 bytes.
+    let cleaned = |first: Class, second: Class| {
+        let mut frame = NOTHING;
+        (frame[0], frame[1]) = (first, second);
+        let cleaned = cleaned_up(frame, Bytes(0), Bytes(16));
+        assert_eq!(cleaned[2..], NOTHING[2..]);
+        [cleaned[0], cleaned[1]]
+    };
+    let memory = [Class::Memory, Class::Memory];
+    assert_eq!(cleaned(Class::Integer, Class::Memory), memory);
+    assert_eq!(cleaned(Class::Integer, Class::X87Up), memory);
+    assert_eq!(cleaned(Class::X87, Class::X87Up), [Class::X87, Class::X87Up]);
+    assert_eq!(cleaned(Class::Sse, Class::SseUp), [Class::Sse, Class::SseUp]);
+    assert_eq!(cleaned(Class::Integer, Class::SseUp), [Class::Integer, Class::Sse]);
+    assert_eq!(cleaned(Class::SseUp, Class::SseUp), [Class::Sse, Class::SseUp]);
 }
 
 #[test]
@@ -122,14 +130,15 @@ fn lone_classes_and_memory_stand_first() {
         let bytes = description(text);
         classes(&bytes, *bytes.last().expect("an argument"))
     };
-    let alone = |class| Ok([class, Class::NoClass]);
+    let pair = |first, second| Ok([first, second, Class::NoClass, Class::NoClass]);
+    let alone = |class| pair(class, Class::NoClass);
     assert_eq!(answer("void: int"), alone(Class::Integer));
     assert_eq!(answer("void: complex_float"), alone(Class::Sse));
     assert_eq!(answer("void: complex_long_double"), alone(Class::ComplexX87));
     assert_eq!(answer("void: struct{complex_long_double}"), alone(Class::Memory));
     assert_eq!(answer("void: struct{long, long, char}"), alone(Class::Memory));
-    assert_eq!(answer("void: struct{long_double}"), Ok([Class::X87, Class::X87Up]));
-    assert_eq!(answer("void: float128"), Ok([Class::Sse, Class::SseUp]));
+    assert_eq!(answer("void: struct{long_double}"), pair(Class::X87, Class::X87Up));
+    assert_eq!(answer("void: float128"), pair(Class::Sse, Class::SseUp));
 }
 
 #[test]
@@ -159,12 +168,14 @@ fn limits_are_answered_as_the_paper_says() {
         "struct of 4,097" | "rounded up to 4,104" | "rounded down is not" | "union of 4,097" => 7,
         "array of 4,100" | "array of 4096 shorts" | "array of arrays of 4,160" => 7,
         "int128 of 4,112" | "nested arrays, 63 deep" => 7,
+        "m256 of 4,128" | "rounded up to 4,128" => 7,
         "pointers of 4,104" | "pointers of ILP32, 4,100" => 7,
         "array count 0" | "array count 4,097" => 6,
         "run of 256 in 255" | "run of 65,535" | "run of none" => 6,
         "65 types" | "65 arguments" => 4,
         "587 bytes" | "585 bytes" => 5,
         "area 16,400" | "five of 4,096" | "area 16,640" => 10,
+        "area 16,416" | "area 16,416 of vectors" => 10,
         "blocks of 4,094 take 4,096" | "area over by the hidden address" => 10,
         _ => 0,
     };

@@ -6,12 +6,12 @@ use independent::classes::classes;
 use independent::damage::{damaged, refusals_and_pairs};
 use independent::history::{random_images, random_values};
 use independent::listing::listing;
-use independent::moving::{gathering, placing, REGISTER_IMAGE};
+use independent::moving::{gathering, placing, REGISTER_IMAGE, UPPER_IMAGE};
 use independent::notation::description;
 use independent::places::{check, layout};
 use independent::random::Random;
 use independent::refusal::{told, Refusal, Told};
-use independent::returning::{putting, taking, RETURN_IMAGE};
+use independent::returning::{putting, taking, RETURN_IMAGE, RETURN_UPPER};
 use independent::station::{attach, change, detach, Station, SEAT};
 use independent::types::{alignment, size, types};
 use independent::walk::{open, show_number, step, Walk};
@@ -40,14 +40,15 @@ fn told_by_each_call(bytes: &[u8]) -> Vec<Told> {
     seat[..bytes.len()].copy_from_slice(bytes);
     let station = Station { attached: true, length: bytes.len(), number: 1 };
     let mut walk = Walk::default();
-    let mut image = [0; RETURN_IMAGE];
+    let mut upper = [0; UPPER_IMAGE];
+    let (mut image, mut second) = ([0; RETURN_IMAGE], [0; RETURN_UPPER]);
     vec![
         check(bytes),
         told(&layout(bytes, &mut [])),
-        told(&placing(bytes, 0, &[], &mut registers, &mut [])),
-        told(&gathering(bytes, &registers, &[], &mut [])),
-        told(&putting(bytes, 0, &[], &mut image)),
-        told(&taking(bytes, &image, &mut [])),
+        told(&placing(bytes, 0, &[], &mut registers, &mut upper, &mut [])),
+        told(&gathering(bytes, &registers, &upper, &[], &mut [])),
+        told(&putting(bytes, 0, &[], &mut image, &mut second)),
+        told(&taking(bytes, &image, &second, &mut [])),
         told(&refused),
         told(&open(&station, &seat)),
         told(&step(&station, &seat, &mut walk, 0, &registers, &[], &mut [])),
@@ -132,7 +133,9 @@ fn lengths_come_before_bools() {
     let bytes = description("void: bool, int");
     let mut registers = vec![9; REGISTER_IMAGE];
     let mut stack = vec![];
-    let mut place = |values: &[u8]| placing(&bytes, 0, values, &mut registers, &mut stack);
+    let mut place = |values: &[u8]| {
+        placing(&bytes, 0, values, &mut registers, &mut [9; UPPER_IMAGE], &mut stack)
+    };
     assert_eq!(place(&[2, 0, 0, 0]), Err(Refusal::WrongLength));
     assert_eq!(place(&[2, 0, 0, 0, 0]), Err(Refusal::WrongBool));
     assert!(registers.iter().all(|&byte| byte == 9), "a refusal writes nothing");
@@ -142,7 +145,8 @@ fn lengths_come_before_bools() {
 fn gathering_takes_a_bool_as_it_finds_it() {
     let bytes = description("void: bool");
     let mut values = [0];
-    assert_eq!(gathering(&bytes, &[7; REGISTER_IMAGE], &[], &mut values), Ok(0));
+    let upper = [7; UPPER_IMAGE];
+    assert_eq!(gathering(&bytes, &[7; REGISTER_IMAGE], &upper, &[], &mut values), Ok(0));
     assert_eq!(values, [7]);
 }
 

@@ -5,14 +5,15 @@ use crate::records::*;
 use independent::classes::{classes_of, Class};
 use independent::history::{any_address, random_values};
 use independent::listing::listing;
-use independent::moving::{gathering, placing, REGISTER_IMAGE};
+use independent::moving::{gathering, placing, REGISTER_IMAGE, UPPER_IMAGE};
 use independent::needing::needs_stack;
 use independent::places::{self, accepted, Accepted, Place, Register, ReturnPlace, ReturnRegister};
 use independent::random::Random;
 use independent::refusal::{told, Refusal};
-use independent::returning::{putting, taking, value_length, RETURN_IMAGE};
+use independent::returning::{putting, taking, value_length, RETURN_IMAGE, RETURN_UPPER};
 use independent::tidying::{tidy, tidying};
 use independent::types::{asked, offsets, run_range};
+use independent::units::Eightbytes;
 
 pub fn ask(random: &mut Random, bytes: &[u8], batch: &mut Batch) {
     batch.about = About::Description(bytes.to_vec());
@@ -69,8 +70,8 @@ fn ask_question(bytes: &[u8], number: u8, batch: &mut Batch) {
     end("cb_type_extent", bytes, batch);
 
     let classes = answer.as_ref().map(|types| {
-        let [first, second] = classes_of(types, number).map(class_number);
-        Classes { first, second }
+        let [first, second, third, fourth] = classes_of(types, number).map(class_number);
+        Classes { first, second, third, fourth }
     });
     batch.command(Code::TypeClasses).byte(number).told(refusal);
     batch.record(Thing::Record, &left(Classes::FILLED, classes));
@@ -107,8 +108,24 @@ fn ask_offsets(random: &mut Random, bytes: &[u8], number: u8, batch: &mut Batch)
 fn register_number(register: Register) -> u8 {
     match register {
         Register::General(number) => number as u8,
-        Register::Vector(number) => XMM0 + number as u8,
-        Register::VectorUpper(number) => XMM0H + number as u8,
+        Register::Vector(number, chunk) => chunk_number(chunk) + number as u8,
+    }
+}
+
+/// xmm0, or its upper half.
+fn chunk_number(chunk: Eightbytes) -> u8 {
+    match chunk {
+        Eightbytes(0) => XMM0,
+        _ => XMM0H,
+    }
+}
+
+/// The two registers of a place: all four chunks of a vector register are one.
+fn pair(numbers: &[u8]) -> (u8, u8) {
+    match numbers {
+        [first, second] => (*first, *second),
+        [first, _, _, _] => (*first - XMM0 + XMM0Y, NONE),
+        _ => (numbers.first().copied().unwrap_or(NONE), NONE),
     }
 }
 
@@ -116,8 +133,7 @@ fn return_number(register: ReturnRegister) -> u8 {
     match register {
         ReturnRegister::Rax => RAX,
         ReturnRegister::Rdx => RDX,
-        ReturnRegister::Xmm0 => XMM0,
-        ReturnRegister::Xmm0Upper => XMM0H,
+        ReturnRegister::Xmm0(chunk) => chunk_number(chunk),
         ReturnRegister::Xmm1 => XMM0 + 1,
         ReturnRegister::St0 => ST0,
         ReturnRegister::St1 => ST1,
@@ -125,14 +141,13 @@ fn return_number(register: ReturnRegister) -> u8 {
 }
 
 fn flat(placement: &places::Placement) -> Placement {
-    let (first, second, offset) = match &placement.place {
-        Place::Stack(offset) => (NONE, NONE, offset.0),
-        Place::Registers(registers) => (
-            register_number(registers[0]),
-            registers.get(1).map_or(NONE, |&second| register_number(second)),
-            0,
-        ),
+    let (numbers, offset): (Vec<u8>, usize) = match &placement.place {
+        Place::Stack(offset) => (Vec::new(), offset.0),
+        Place::Registers(registers) => {
+            (registers.iter().map(|&register| register_number(register)).collect(), 0)
+        }
     };
+    let (first, second) = pair(&numbers);
     Placement {
         size: placement.size.0 as u64,
         align: placement.alignment.0 as u64,
@@ -164,20 +179,21 @@ fn flat_layout(bytes: &[u8], accepted: &Accepted) -> Layout {
         }
         _ => Vec::new(),
     };
-    let of = |index: usize| returned.get(index).copied().unwrap_or(NONE);
+    let (return_first, return_second) = pair(&returned);
     Layout {
         general_registers: end.general.0 as u64,
         vector_registers: end.vector.0 as u64,
         stack_end: end.stack.0 as u64,
         area: layout.area.0 as u64,
+        area_alignment: layout.area_alignment.0 as u64,
         values: layout.values_length() as u64,
         return_size: return_size(accepted) as u64,
         named_general_registers: start.general.0 as u64,
         named_vector_registers: start.vector.0 as u64,
         named_stack_end: start.stack.0 as u64,
         arguments: arguments as u64,
-        return_first: of(0),
-        return_second: of(1),
+        return_first,
+        return_second,
         hidden: u8::from(layout.hidden_address),
         reserved: [0; 5],
     }
@@ -237,9 +253,9 @@ fn ask_moves(random: &mut Random, bytes: &[u8], batch: &mut Batch) {
             (random.bytes(length), random.below(3) * 16)
         }
     };
-    ask_move(random, bytes, &values, [REGISTER_IMAGE, area], batch);
+    ask_move(random, bytes, &values, [REGISTER_IMAGE, UPPER_IMAGE, area], batch);
     let [length, images @ ..] =
-        [values.len(), REGISTER_IMAGE, area].map(|right| length_near(random, right));
+        [values.len(), REGISTER_IMAGE, UPPER_IMAGE, area].map(|right| length_near(random, right));
     let mut other = values;
     other.resize(length, 7);
     if random.one_in(2) {
@@ -253,26 +269,28 @@ fn ask_move(
     random: &mut Random,
     bytes: &[u8],
     values: &[u8],
-    lengths: [usize; 2],
+    lengths: [usize; 3],
     batch: &mut Batch,
 ) {
     let hidden = any_address(random);
-    let (mut registers, mut stack) = (random.bytes(lengths[0]), random.bytes(lengths[1]));
-    batch.command(Code::PlaceValues).word(hidden).part(values).part(&registers).part(&stack);
-    let answer = placing(bytes, hidden, values, &mut registers, &mut stack);
+    let [mut registers, mut upper, mut stack] = lengths.map(|length| random.bytes(length));
+    batch.command(Code::PlaceValues).word(hidden).part(values);
+    batch.part(&registers).part(&upper).part(&stack);
+    let answer = placing(bytes, hidden, values, &mut registers, &mut upper, &mut stack);
     let placed = answer.map(|count| Placed { vector_registers: count.0 as u64 });
-    batch.told(told(&answer)).buffer(Thing::Values, values);
-    batch.buffer(Thing::Registers, &registers).buffer(Thing::Stack, &stack);
+    batch.told(told(&answer)).buffer(Thing::Values, values).buffer(Thing::Registers, &registers);
+    batch.buffer(Thing::Upper, &upper).buffer(Thing::Stack, &stack);
     batch.record(Thing::Record, &left(Placed::FILLED, placed));
     end("cb_place_values", bytes, batch);
 
     // From images in which the unused bytes are anything.
-    let (registers, stack) = (random.bytes(lengths[0]), random.bytes(lengths[1]));
+    let [registers, upper, stack] = lengths.map(|length| random.bytes(length));
     let mut out = random.bytes(values.len());
-    batch.command(Code::GatherValues).part(&registers).part(&stack).part(&out);
-    let answer = gathering(bytes, &registers, &stack, &mut out);
+    batch.command(Code::GatherValues).part(&registers).part(&upper).part(&stack).part(&out);
+    let answer = gathering(bytes, &registers, &upper, &stack, &mut out);
     let gathered = answer.map(|hidden| Gathered { hidden });
-    batch.told(told(&answer)).buffer(Thing::Registers, &registers).buffer(Thing::Stack, &stack);
+    batch.told(told(&answer)).buffer(Thing::Registers, &registers);
+    batch.buffer(Thing::Upper, &upper).buffer(Thing::Stack, &stack);
     batch.buffer(Thing::Values, &out).record(Thing::Record, &left(Gathered::FILLED, gathered));
     end("cb_gather_values", bytes, batch);
 }
@@ -281,34 +299,40 @@ fn ask_move(
 
 fn ask_returned(random: &mut Random, bytes: &[u8], batch: &mut Batch) {
     let length = accepted(bytes).map_or(8, |accepted| value_length(&accepted));
-    for lengths in
-        [[length, RETURN_IMAGE], [length, RETURN_IMAGE].map(|right| length_near(random, right))]
-    {
+    let right = [length, RETURN_IMAGE, RETURN_UPPER];
+    for lengths in [right, right.map(|right| length_near(random, right))] {
         let mut value = random.bytes(lengths[0]);
         if lengths[0] == 1 && random.one_in(2) {
             value[0] &= 1; // a _Bool
         }
-        ask_put(random, bytes, &value, lengths[1], batch);
+        ask_put(random, bytes, &value, [lengths[1], lengths[2]], batch);
         ask_take(random, bytes, lengths, batch);
     }
 }
 
-fn ask_put(random: &mut Random, bytes: &[u8], value: &[u8], length: usize, batch: &mut Batch) {
+fn ask_put(
+    random: &mut Random,
+    bytes: &[u8],
+    value: &[u8],
+    lengths: [usize; 2],
+    batch: &mut Batch,
+) {
     let hidden = any_address(random);
-    let mut image = random.bytes(length);
-    batch.command(Code::PutReturned).word(hidden).part(value).part(&image);
-    let answer = putting(bytes, hidden, value, &mut image);
-    batch.told(told(&answer)).buffer(Thing::Values, value).buffer(Thing::Image, &image);
+    let [mut image, mut upper] = lengths.map(|length| random.bytes(length));
+    batch.command(Code::PutReturned).word(hidden).part(value).part(&image).part(&upper);
+    let answer = putting(bytes, hidden, value, &mut image, &mut upper);
+    batch.told(told(&answer)).buffer(Thing::Values, value);
+    batch.buffer(Thing::Image, &image).buffer(Thing::Upper, &upper);
     end("cb_put_returned", bytes, batch);
 }
 
-fn ask_take(random: &mut Random, bytes: &[u8], lengths: [usize; 2], batch: &mut Batch) {
-    let image = random.bytes(lengths[1]);
-    let mut value = random.bytes(lengths[0]);
-    batch.command(Code::TakeReturned).part(&image).part(&value);
-    let answer = taking(bytes, &image, &mut value);
+fn ask_take(random: &mut Random, bytes: &[u8], lengths: [usize; 3], batch: &mut Batch) {
+    let [mut value, image, upper] = lengths.map(|length| random.bytes(length));
+    batch.command(Code::TakeReturned).part(&image).part(&upper).part(&value);
+    let answer = taking(bytes, &image, &upper, &mut value);
     let taken = answer.map(|hidden| Gathered { hidden });
-    batch.told(told(&answer)).buffer(Thing::Image, &image).buffer(Thing::Values, &value);
+    batch.told(told(&answer)).buffer(Thing::Image, &image).buffer(Thing::Upper, &upper);
+    batch.buffer(Thing::Values, &value);
     batch.record(Thing::Record, &left(Gathered::FILLED, taken));
     end("cb_take_returned", bytes, batch);
 }

@@ -191,6 +191,7 @@ fn part_of(piece: Option<Piece>) -> Part {
     let image = match image {
         Image::Registers => REGISTERS,
         Image::Stack => STACK,
+        Image::Upper => unreachable!("an unnamed argument is never there"),
     };
     Part::new(image, start.0, length.0)
 }

@@ -66,7 +66,7 @@ macro_rules! structs {
 
 structs! {
     Extent { size: u64, align: u64, }
-    Classes { first: u8, second: u8, }
+    Classes { first: u8, second: u8, third: u8, fourth: u8, }
     Offset { offset: u64, }
     Part { offset: u64, length: u64, image: u8, reserved: [u8; 7], }
     Placement {
@@ -83,6 +83,7 @@ structs! {
         vector_registers: u64,
         stack_end: u64,
         area: u64,
+        area_alignment: u64,
         values: u64,
         return_size: u64,
         named_general_registers: u64,
@@ -187,6 +188,7 @@ pub const ST0: u8 = 8;
 pub const ST1: u8 = 9;
 pub const XMM0: u8 = 16;
 pub const XMM0H: u8 = 32;
+pub const XMM0Y: u8 = 48;
 pub const NONE: u8 = 255;
 
 /// Bytes of the buffer of cb_write_listing.

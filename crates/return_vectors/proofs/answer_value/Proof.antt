@@ -30,11 +30,11 @@ address-in-requires c κs = search needs
 array-share-prefix-value : tie.Need-array-share-prefix-value
 array-share-prefix-value c = search needs
 
-slice-aggregate-answer-image : tie.Need-slice-aggregate-answer-image
-slice-aggregate-answer-image c = sym (length-take-le _ _ (c .before .before .before .before .read-sized .ensures))
+slice-aggregate-answer-images : tie.Need-slice-aggregate-answer-images
+slice-aggregate-answer-images c = sym (length-take-le _ _ (c .before .before .before .before .read-sized .ensures))
 
-answer-image-requires : tie.Need-answer-image-requires
-answer-image-requires c κs = search needs
+answer-images-requires : tie.Need-answer-images-requires
+answer-images-requires c κs = search needs
 
 returns : tie.Need-returns
 returns c = search needs
@@ -51,6 +51,6 @@ answer-value-spec =
     slice-aggregate-address-in
     address-in-requires
     array-share-prefix-value
-    slice-aggregate-answer-image
-    answer-image-requires
+    slice-aggregate-answer-images
+    answer-images-requires
     returns)

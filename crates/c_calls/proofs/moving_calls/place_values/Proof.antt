@@ -23,17 +23,23 @@ same-length c = search needs
 same-length-2 : tie.Need-same-length-2
 same-length-2 c = search needs
 
-returns : tie.Need-returns
-returns c = rw (sym (c .before .before .before .before .before .before .before .before .place-values .ensures .0) ∙ c .before .before .answer .given .1) (c .refusal-of .ensures, (refl, c .before .before .before .before .before .before .before .before .place-values .ensures .1))
-
 same-length-3 : tie.Need-same-length-3
 same-length-3 c = search needs
+
+returns : tie.Need-returns
+returns c = rw (sym (c .before .before .before .before .before .before .before .before .before .before .place-values .ensures .0) ∙ c .before .before .answer .given .1) (c .refusal-of .ensures, (refl, c .before .before .before .before .before .before .before .before .before .before .place-values .ensures .1))
 
 same-length-4 : tie.Need-same-length-4
 same-length-4 c = search needs
 
+same-length-5 : tie.Need-same-length-5
+same-length-5 c = search needs
+
+same-length-6 : tie.Need-same-length-6
+same-length-6 c = search needs
+
 returns-2 : tie.Need-returns-2
-returns-2 c = rw (sym (c .before .before .before .before .before .before .before .place-values .ensures .0) ∙ c .before .answer2 .given .1) (refl, (refl, c .before .before .before .before .before .before .before .place-values .ensures .1))
+returns-2 c = rw (sym (c .before .before .before .before .before .before .before .before .before .place-values .ensures .0) ∙ c .before .answer2 .given .1) (refl, (refl, c .before .before .before .before .before .before .before .before .before .place-values .ensures .1))
 
 pub place-values-spec : {M : Type 1} → statement M
 place-values-spec =
@@ -45,7 +51,9 @@ place-values-spec =
     enum-known-answer-2
     same-length
     same-length-2
-    returns
     same-length-3
+    returns
     same-length-4
+    same-length-5
+    same-length-6
     returns-2)

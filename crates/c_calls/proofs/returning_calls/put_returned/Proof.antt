@@ -20,14 +20,20 @@ enum-known-answer c = search needs
 same-length : tie.Need-same-length
 same-length c = search needs
 
-returns : tie.Need-returns
-returns c = rw (sym (c .before .before .before .before .before .put-returned .ensures .0) ∙ c .before .enum-told .given .1) (c .refusal-of .ensures, c .before .before .before .before .before .put-returned .ensures .1)
-
 same-length-2 : tie.Need-same-length-2
 same-length-2 c = search needs
 
+returns : tie.Need-returns
+returns c = rw (sym (c .before .before .before .before .before .before .before .put-returned .ensures .0) ∙ c .before .enum-told .given .1) (c .refusal-of .ensures, c .before .before .before .before .before .before .before .put-returned .ensures .1)
+
+same-length-3 : tie.Need-same-length-3
+same-length-3 c = search needs
+
+same-length-4 : tie.Need-same-length-4
+same-length-4 c = search needs
+
 returns-2 : tie.Need-returns-2
-returns-2 c = rw (sym (c .before .before .before .before .before .put-returned .ensures .0) ∙ c .before .answer .given .1) (refl, c .before .before .before .before .before .put-returned .ensures .1)
+returns-2 c = rw (sym (c .before .before .before .before .before .before .before .put-returned .ensures .0) ∙ c .before .answer .given .1) (refl, c .before .before .before .before .before .before .before .put-returned .ensures .1)
 
 pub put-returned-spec : {M : Type 1} → statement M
 put-returned-spec =
@@ -38,6 +44,8 @@ put-returned-spec =
     refusal-of-requires
     enum-known-answer
     same-length
-    returns
     same-length-2
+    returns
+    same-length-3
+    same-length-4
     returns-2)

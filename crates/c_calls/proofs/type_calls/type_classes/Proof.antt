@@ -17,6 +17,12 @@ code-of-requires c κs = search needs
 code-of-requires-2 : tie.Need-code-of-requires-2
 code-of-requires-2 c κs = search needs
 
+code-of-requires-3 : tie.Need-code-of-requires-3
+code-of-requires-3 c κs = search needs
+
+code-of-requires-4 : tie.Need-code-of-requires-4
+code-of-requires-4 c κs = search needs
+
 refusal-of-requires : tie.Need-refusal-of-requires
 refusal-of-requires c κs = search needs
 
@@ -24,7 +30,7 @@ enum-known-answer-2 : tie.Need-enum-known-answer-2
 enum-known-answer-2 c = search needs
 
 returns : tie.Need-returns
-returns c = rw (sym (c .before .before .before .before .before .before .type-classes .ensures) ∙ c .before .before .before .before .answer .given .1, c .before .before .code-of .ensures, c .before .code-of2 .ensures) (c .refusal-of .ensures, refl)
+returns c = rw (sym (c .before .before .before .before .before .before .before .before .type-classes .ensures) ∙ c .before .before .before .before .before .before .answer .given .1, c .before .before .before .before .code-of .ensures, c .before .before .before .code-of2 .ensures, c .before .before .code-of3 .ensures, c .before .code-of4 .ensures) (c .refusal-of .ensures, refl)
 
 returns-2 : tie.Need-returns-2
 returns-2 c = rw (sym (c .before .before .before .type-classes .ensures) ∙ c .before .answer2 .given .1) (refl, refl)
@@ -37,6 +43,8 @@ type-classes-spec =
     enum-known-answer
     code-of-requires
     code-of-requires-2
+    code-of-requires-3
+    code-of-requires-4
     refusal-of-requires
     enum-known-answer-2
     returns

@@ -9,13 +9,13 @@ use lib.Dec.{eqb}
 use denote.Ref.{now}
 use Rattle.classify.specs.Asks.{AskElements, AskMembers}
 use Rattle.classify.specs.Classify.{elementsAt, classesAt, membersAt}
-use Rattle.classify.specs.Table.{unpackedOf}
+use Rattle.classify.specs.Table.{pairIn}
 use Rattle.classify.proofs.Known.{ready-less, end-is}
 use Rattle.classify.proofs.Packed.{none-packed}
-use Rattle.classify.proofs.Steps.{element-ask, elements-ask, element-fits, elements-none, elements-done, member-ready, members-asks, member-fits, member-ask, members-ask, members-done, members-none, basic-done, array-ask, array-done, group-ask, group-done}
+use Rattle.classify.proofs.Steps.{element-ask, elements-ask, element-fits, elements-none, elements-done, member-ready, members-asks, member-fits, member-ask, members-ask, members-done, members-none, basic-code, basic-done, array-ask, array-done, group-ask, group-done}
 use Rattle.description.specs.Description.{modelIn}
 use Rattle.types.specs.Decode.{tysFrom, tyAt}
-use Rattle.types.proofs.Runs.{member-low, basic-low, element-low}
+use Rattle.types.proofs.Runs.{member-low, element-low}
 use Rattle.types.proofs.Table.{known-low, known-extent}
 use Rattle.types.proofs.Trees.{sized-below}
 use Rattle.classes.specs.Classes.{noClasses}
@@ -114,13 +114,13 @@ work-out-below t =
     and 3 work-out-kinds.ps (falls 3 work-out-kinds.ps _<_ μ-work-out t) work-out.Pre
 
 abbrev classify-elements-Inv-loop : classify-elements-lts.InvT-loop
-classify-elements-Inv-loop d k count size table finished merged₀ offset₀ left₀ merged offset left = AskElements d k left (size .0) (offset .0) × ((r : List Class) → r ≡ elementsAt (classesAt (modelIn d) 2 (tyAt d k)) (size .0) left (offset .0) (unpackedOf merged) → r ≡ elementsAt (classesAt (modelIn d) 2 (tyAt d k)) (size .0) count (offset₀ .0) (noClasses 2))
+classify-elements-Inv-loop d k count size table finished merged₀ offset₀ left₀ merged offset left = AskElements d k left (size .0) (offset .0) × ((r : List Class) → r ≡ elementsAt (classesAt (modelIn d) 2 (tyAt d k)) (size .0) left (offset .0) (pairIn merged) → r ≡ elementsAt (classesAt (modelIn d) 2 (tyAt d k)) (size .0) count (offset₀ .0) (noClasses 2))
 
 abbrev classify-elements-μ-loop : classify-elements-lts.MeasureT-loop
 classify-elements-μ-loop d k count size table finished merged₀ offset₀ left₀ merged offset left = left
 
 abbrev classify-members-Inv-loop : classify-members-lts.InvT-loop
-classify-members-Inv-loop d k first count union at table finished merged₀ end₀ i₀ left₀ merged end i left = AskMembers d k i left union (end .0) (at .0) × ((r : List Class) → r ≡ membersAt (modelIn d) 2 (tysFrom (tyAt d) d i left) union (end .0) (at .0) (unpackedOf merged) → r ≡ membersAt (modelIn d) 2 (tysFrom (tyAt d) d first count) union 0 (at .0) (noClasses 2))
+classify-members-Inv-loop d k first count union at table finished merged₀ end₀ i₀ left₀ merged end i left = AskMembers d k i left union (end .0) (at .0) × ((r : List Class) → r ≡ membersAt (modelIn d) 2 (tysFrom (tyAt d) d i left) union (end .0) (at .0) (pairIn merged) → r ≡ membersAt (modelIn d) 2 (tysFrom (tyAt d) d first count) union 0 (at .0) (noClasses 2))
 
 abbrev classify-members-μ-loop : classify-members-lts.MeasureT-loop
 classify-members-μ-loop d k first count union at table finished merged₀ end₀ i₀ left₀ merged end i left = left
@@ -158,10 +158,10 @@ pub +classify-elements+classify-members+classify-type+work-out-spec : {M : Type 
     omega (arith, c .before .before .before .loop-test .taken))
     (λ c. (
       elements-ask (now (c .before .before .before .before .before .before .args .d)) (c .before .before .before .before .before .before .args .k) (c .before .before .before .before .loop .left) (c .before .before .before .before .before .before .args .size .0) (c .before .before .before .before .loop .offset .0) (c .before .before .before .before .loop .inv .0) (c .before .before .before .loop-test .taken) (c .plus .result .0) (c .plus .ensures),
-      λ r h. c .before .before .before .before .loop .inv .1 r (elements-done (classesAt (modelIn (now (c .before .before .before .before .before .before .args .d))) 2 (tyAt (now (c .before .before .before .before .before .before .args .d)) (c .before .before .before .before .before .before .args .k))) (c .before .before .before .before .before .before .args .size .0) (c .before .before .before .before .loop .left) (c .before .before .before .before .loop .offset .0) (c .plus .result .0) (unpackedOf (c .before .before .before .before .loop .merged)) (unpackedOf (c .before .before .classify-type .result)) (unpackedOf (c .before .merge-packed .result)) r (c .before .before .before .loop-test .taken) (c .before .before .classify-type .ensures) (c .before .merge-packed .ensures) (c .plus .ensures) h),
+      λ r h. c .before .before .before .before .loop .inv .1 r (elements-done (classesAt (modelIn (now (c .before .before .before .before .before .before .args .d))) 2 (tyAt (now (c .before .before .before .before .before .before .args .d)) (c .before .before .before .before .before .before .args .k))) (c .before .before .before .before .before .before .args .size .0) (c .before .before .before .before .loop .left) (c .before .before .before .before .loop .offset .0) (c .plus .result .0) (pairIn (c .before .before .before .before .loop .merged)) (pairIn (c .before .before .classify-type .result)) (pairIn (c .before .merge-packed .result)) r (c .before .before .before .loop-test .taken) (c .before .before .classify-type .ensures) (c .before .merge-packed .ensures) (c .plus .ensures) h),
     ))
     (λ c.
-    c .before .loop .inv .1 (unpackedOf (c .before .loop .merged)) (elements-none (classesAt (modelIn (now (c .before .before .before .args .d))) 2 (tyAt (now (c .before .before .before .args .d)) (c .before .before .before .args .k))) (c .before .before .before .args .size .0) (c .before .loop .left) (c .before .loop .offset .0) (unpackedOf (c .before .loop .merged)) (omega (arith, c .loop-test .left)))))
+    c .before .loop .inv .1 (pairIn (c .before .loop .merged)) (elements-none (classesAt (modelIn (now (c .before .before .before .args .d))) 2 (tyAt (now (c .before .before .before .args .d)) (c .before .before .before .args .k))) (c .before .before .before .args .size .0) (c .before .loop .left) (c .before .loop .offset .0) (pairIn (c .before .loop .merged)) (omega (arith, c .loop-test .left)))))
     (λ t. classify-members-lts.spec (
       member-at-reads.Asked,
       member-at-reads.Learnt,
@@ -213,10 +213,10 @@ pub +classify-elements+classify-members+classify-type+work-out-spec : {M : Type 
     let e = known-extent (now (c .before .before .before .before .before .before .before .before .before .before .args .d)) (now (c .before .before .before .before .before .before .before .before .before .before .args .table)) (c .before .before .before .before .before .before .before .before .before .before .pre .1 .1 .sizes) (c .before .before .before .before .before .before .member-at .result) (member-ready (now (c .before .before .before .before .before .before .before .before .before .before .args .d)) (c .before .before .before .before .before .before .before .before .before .before .args .k) (c .before .before .before .before .before .before .before .before .loop .i) (c .before .before .before .before .before .before .before .before .loop .left) (c .before .before .before .before .before .before .before .before .before .before .args .union) (c .before .before .before .before .before .before .before .before .loop .end .0) (c .before .before .before .before .before .before .before .before .before .before .args .at .0) (c .before .before .before .before .before .before .before .before .loop .inv .0) (c .before .before .before .before .before .before .before .loop-test .taken) (c .before .before .before .before .before .before .member-at .result) (c .before .before .before .before .before .before .member-at .ensures)) (c .before .before .before .before .before .extent-in .result) (c .before .before .before .before .before .extent-in .ensures) in
     let end = end-is (c .before .before .before .before .before .before .before .before .before .before .args .union) (c .before .before .before .before .before .before .before .before .loop .end .0) (c .before .before .before .before .before .extent-in .result .align .0) (c .before .before .before .before .before .extent-in .result .size .0) (c .before .before .before .before .offset-after .result .0) (c .end-past .result .0) (c .before .before .before .before .offset-after .ensures) (c .end-past .ensures) in (
       members-ask (now (c .before .before .before .before .before .before .before .before .before .before .args .d)) (c .before .before .before .before .before .before .before .before .before .before .args .k) (c .before .before .before .before .before .before .before .before .loop .i) (c .before .before .before .before .before .before .before .before .loop .left) (c .before .before .before .before .before .before .before .before .before .before .args .union) (c .before .before .before .before .before .before .before .before .loop .end .0) (c .before .before .before .before .before .before .before .before .before .before .args .at .0) (c .before .before .before .before .before .before .before .before .loop .inv .0) (c .before .before .before .before .before .before .before .loop-test .taken) (c .before .before .before .before .before .before .member-at .result) (c .before .before .before .before .before .before .member-at .ensures) (c .before .before .before .before .before .extent-in .result) e (c .end-past .result .0) end,
-      λ r h. c .before .before .before .before .before .before .before .before .loop .inv .1 r (members-done (now (c .before .before .before .before .before .before .before .before .before .before .args .d)) (c .before .before .before .before .before .before .before .before .before .before .args .k) (c .before .before .before .before .before .before .before .before .loop .i) (c .before .before .before .before .before .before .before .before .loop .left) (c .before .before .before .before .before .before .before .before .before .before .args .union) (c .before .before .before .before .before .before .before .before .loop .end .0) (c .before .before .before .before .before .before .before .before .before .before .args .at .0) (c .before .before .before .before .before .before .before .before .loop .inv .0) (c .before .before .before .before .before .before .before .loop-test .taken) (c .before .before .before .before .before .before .member-at .result) (c .before .before .before .before .before .before .member-at .ensures) (c .before .before .before .before .before .extent-in .result) e (c .before .before .before .before .offset-after .result .0) (c .before .before .before .plus .result .0) (c .end-past .result .0) (unpackedOf (c .before .before .before .before .before .before .before .before .loop .merged)) (unpackedOf (c .before .before .classify-type .result)) (unpackedOf (c .before .merge-packed .result)) r (c .before .before .before .before .offset-after .ensures) (c .before .before .before .plus .ensures) end (c .before .before .classify-type .ensures) (c .before .merge-packed .ensures) h),
+      λ r h. c .before .before .before .before .before .before .before .before .loop .inv .1 r (members-done (now (c .before .before .before .before .before .before .before .before .before .before .args .d)) (c .before .before .before .before .before .before .before .before .before .before .args .k) (c .before .before .before .before .before .before .before .before .loop .i) (c .before .before .before .before .before .before .before .before .loop .left) (c .before .before .before .before .before .before .before .before .before .before .args .union) (c .before .before .before .before .before .before .before .before .loop .end .0) (c .before .before .before .before .before .before .before .before .before .before .args .at .0) (c .before .before .before .before .before .before .before .before .loop .inv .0) (c .before .before .before .before .before .before .before .loop-test .taken) (c .before .before .before .before .before .before .member-at .result) (c .before .before .before .before .before .before .member-at .ensures) (c .before .before .before .before .before .extent-in .result) e (c .before .before .before .before .offset-after .result .0) (c .before .before .before .plus .result .0) (c .end-past .result .0) (pairIn (c .before .before .before .before .before .before .before .before .loop .merged)) (pairIn (c .before .before .classify-type .result)) (pairIn (c .before .merge-packed .result)) r (c .before .before .before .before .offset-after .ensures) (c .before .before .before .plus .ensures) end (c .before .before .classify-type .ensures) (c .before .merge-packed .ensures) h),
     ))
     (λ c.
-    c .before .loop .inv .1 (unpackedOf (c .before .loop .merged)) (members-none (now (c .before .before .before .args .d)) (c .before .loop .i) (c .before .loop .left) (c .before .before .before .args .union) (c .before .loop .end .0) (c .before .before .before .args .at .0) (unpackedOf (c .before .loop .merged)) (omega (arith, c .loop-test .left)))))
+    c .before .loop .inv .1 (pairIn (c .before .loop .merged)) (members-none (now (c .before .before .before .args .d)) (c .before .loop .i) (c .before .loop .left) (c .before .before .before .args .union) (c .before .loop .end .0) (c .before .before .before .args .at .0) (pairIn (c .before .loop .merged)) (omega (arith, c .loop-test .left)))))
     (λ t. classify-type-lts.spec (
       look-up-reads.Asked,
       look-up-reads.Learnt,
@@ -260,7 +260,7 @@ pub +classify-elements+classify-members+classify-type+work-out-spec : {M : Type 
     (λ c κs.
     (c .before .before .pre .1 .0 .sized .whole, c .before .before .pre .1 .0 .sized .known))
     (λ c κs.
-    (basic-low (now (c .before .before .before .before .args .d)) (c .before .before .before .before .args .k) (c .before .a-at .result) (c .before .before .before .before .pre .1 .0 .sized) (c .before .a-at .ensures .0) (sym (c .before .before .kind-at .ensures) ∙ c .if1 .taken), omega (arith, c .before .before .before .before .pre .1 .0 .fits)))
+    (basic-code (now (c .before .before .before .before .args .d)) (c .before .before .before .before .args .k) (c .before .before .before .before .args .at .0) (c .before .a-at .result) (c .before .before .before .before .pre .1 .0) (c .before .a-at .ensures .0) (sym (c .before .before .kind-at .ensures) ∙ c .if1 .taken), omega (arith, c .before .before .before .before .pre .1 .0 .fits)))
     (λ c κs.
     tt)
     (λ c.
@@ -278,10 +278,10 @@ pub +classify-elements+classify-members+classify-type+work-out-spec : {M : Type 
     tt)
     (λ c.
     let low = element-low (now (c .before .before .before .before .before .before .before .before .before .args .d)) (c .before .before .before .before .before .before .before .before .before .args .k) (c .before .before .before .before .before .before .a-at .result) (c .before .before .before .before .before .before .before .before .before .pre .1 .0 .sized) (c .before .before .before .before .before .before .a-at .ensures .0) (sym (c .before .before .before .before .before .before .before .kind-at .ensures) ∙ c .before .before .before .if2 .taken) in
-    array-done (now (c .before .before .before .before .before .before .before .before .before .args .d)) (c .before .before .before .before .before .before .before .before .before .args .k) (c .before .before .before .before .before .before .before .before .before .args .at .0) (c .before .before .before .before .before .before .a-at .result) (c .before .before .before .before .before .before .before .before .before .pre .1 .0) (c .before .before .before .before .before .before .a-at .ensures .0) (c .before .before .before .before .count-at .result) (c .before .before .before .before .count-at .ensures .0) (sym (c .before .before .before .before .before .before .before .kind-at .ensures) ∙ c .before .before .before .if2 .taken) (c .before .before .extent-in .result) (known-extent (now (c .before .before .before .before .before .before .before .before .before .args .d)) (now (c .before .before .before .before .before .before .before .before .before .args .table)) (c .before .before .before .before .before .before .before .before .before .pre .1 .1 .sizes) (c .before .before .before .before .before .before .a-at .result) (sized-below (now (c .before .before .before .before .before .before .before .before .before .args .d)) (c .before .before .before .before .before .before .before .before .before .args .k) (c .before .before .before .before .before .before .before .before .before .pre .1 .0 .sized) (c .before .before .before .before .before .before .a-at .result) low) (c .before .before .extent-in .result) (c .before .before .extent-in .ensures)) (unpackedOf (c .before .classify-elements .result)) (unpackedOf (c .clean-packed .result)) (c .before .classify-elements .ensures) (c .clean-packed .ensures))
+    array-done (now (c .before .before .before .before .before .before .before .before .before .args .d)) (c .before .before .before .before .before .before .before .before .before .args .k) (c .before .before .before .before .before .before .before .before .before .args .at .0) (c .before .before .before .before .before .before .a-at .result) (c .before .before .before .before .before .before .before .before .before .pre .1 .0) (c .before .before .before .before .before .before .a-at .ensures .0) (c .before .before .before .before .count-at .result) (c .before .before .before .before .count-at .ensures .0) (sym (c .before .before .before .before .before .before .before .kind-at .ensures) ∙ c .before .before .before .if2 .taken) (c .before .before .extent-in .result) (known-extent (now (c .before .before .before .before .before .before .before .before .before .args .d)) (now (c .before .before .before .before .before .before .before .before .before .args .table)) (c .before .before .before .before .before .before .before .before .before .pre .1 .1 .sizes) (c .before .before .before .before .before .before .a-at .result) (sized-below (now (c .before .before .before .before .before .before .before .before .before .args .d)) (c .before .before .before .before .before .before .before .before .before .args .k) (c .before .before .before .before .before .before .before .before .before .pre .1 .0 .sized) (c .before .before .before .before .before .before .a-at .result) low) (c .before .before .extent-in .result) (c .before .before .extent-in .ensures)) (pairIn (c .before .classify-elements .result)) (pairIn (c .clean-packed .result)) (c .before .classify-elements .ensures) (c .clean-packed .ensures))
     (λ c κs.
     (omega (arith, c .before .before .before .before .before .before .pre .0), (group-ask (now (c .before .before .before .before .before .before .args .d)) (c .before .before .before .before .before .before .args .k) (c .before .before .before .before .before .before .args .at .0) (c .before .before .before .a-at .result) (c .before .before .before .before .before .before .pre .1 .0) (c .before .before .before .a-at .ensures .0) (c .before .count-at .result) (c .before .count-at .ensures .0) (omega (arith, c .before .before .before .before .kind-at .ensures, c .before .before .if1 .left, c .if2 .left)) (c .before .count-at .ensures .1) _ (ap (λ (z : ℕ). eqb z 3) (c .before .before .before .before .kind-at .ensures)), c .before .before .before .before .before .before .pre .1 .1)))
     (λ c κs.
     tt)
     (λ c.
-    group-done (now (c .before .before .before .before .before .before .before .before .args .d)) (c .before .before .before .before .before .before .before .before .args .k) (c .before .before .before .before .before .before .before .before .args .at .0) (c .before .before .before .before .before .a-at .result) (c .before .before .before .before .before .before .before .before .pre .1 .0) (c .before .before .before .before .before .a-at .ensures .0) (c .before .before .before .count-at .result) (c .before .before .before .count-at .ensures .0) (omega (arith, c .before .before .before .before .before .before .kind-at .ensures, c .before .before .before .before .if1 .left, c .before .before .if2 .left)) (c .before .before .before .count-at .ensures .1) _ (ap (λ (z : ℕ). eqb z 3) (c .before .before .before .before .before .before .kind-at .ensures)) (unpackedOf (c .before .classify-members .result)) (unpackedOf (c .clean-packed2 .result)) (c .before .classify-members .ensures) (c .clean-packed2 .ensures))
+    group-done (now (c .before .before .before .before .before .before .before .before .args .d)) (c .before .before .before .before .before .before .before .before .args .k) (c .before .before .before .before .before .before .before .before .args .at .0) (c .before .before .before .before .before .a-at .result) (c .before .before .before .before .before .before .before .before .pre .1 .0) (c .before .before .before .before .before .a-at .ensures .0) (c .before .before .before .count-at .result) (c .before .before .before .count-at .ensures .0) (omega (arith, c .before .before .before .before .before .before .kind-at .ensures, c .before .before .before .before .if1 .left, c .before .before .if2 .left)) (c .before .before .before .count-at .ensures .1) _ (ap (λ (z : ℕ). eqb z 3) (c .before .before .before .before .before .before .kind-at .ensures)) (pairIn (c .before .classify-members .result)) (pairIn (c .clean-packed2 .result)) (c .before .classify-members .ensures) (c .clean-packed2 .ensures))

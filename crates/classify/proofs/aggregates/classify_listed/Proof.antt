@@ -5,7 +5,7 @@ use Prim.Native.Nat.{ℕ, _+_, _-_, _≤_}
 use native.Mathlib.Omega.{arith}
 use borrow.Author.Needs.{needs}
 use denote.Ref.{now}
-use Rattle.classify.specs.Table.{unpackedOf, listedAt}
+use Rattle.classify.specs.Table.{pairIn, listedAt}
 use Rattle.classify.proofs.Known.{ready-less}
 use Rattle.classify.proofs.Packed.{none-packed}
 use Rattle.classify.proofs.Skips.{listed-none, listed-ask, listed-done}
@@ -14,7 +14,7 @@ use Rattle.classify.proofs.aggregates.classify_listed.Statement.{statem
 use Rattle.classify.proofs.aggregates.classify_listed.Tie as tie
 
 abbrev Inv-loop : tie.InvT-loop
-Inv-loop d k list n at table finished merged₀ i₀ merged i = (unpackedOf merged ≡ listedAt d list i (at .0)) × (i ≤ n)
+Inv-loop d k list n at table finished merged₀ i₀ merged i = (pairIn merged ≡ listedAt d list i (at .0)) × (i ≤ n)
 
 abbrev μ-loop : tie.MeasureT-loop
 μ-loop d k list n at table finished merged₀ i₀ merged i = n - i
@@ -41,7 +41,7 @@ loop-less : tie.Need-loop-less Inv-loop μ-loop
 loop-less c = omega (arith, c .before .before .before .before .loop-test .taken)
 
 loop-again : tie.Need-loop-again Inv-loop μ-loop
-loop-again c = (listed-done (now (c .before .before .before .before .before .before .before .args .d)) (now (c .before .before .before .before .before .before .before .args .list)) (c .before .before .before .before .before .loop .i) (c .before .before .before .before .before .before .before .args .at .0) (c .before .before .wide .result) (unpackedOf (c .before .before .before .before .before .loop .merged)) (unpackedOf (c .before .classify-type .result)) (unpackedOf (c .merge-packed .result)) (c .before .before .wide .ensures) (c .before .before .before .before .before .loop .inv .0) (c .before .classify-type .ensures) (c .merge-packed .ensures), omega (arith, c .before .before .before .before .loop-test .taken))
+loop-again c = (listed-done (now (c .before .before .before .before .before .before .before .args .d)) (now (c .before .before .before .before .before .before .before .args .list)) (c .before .before .before .before .before .loop .i) (c .before .before .before .before .before .before .before .args .at .0) (c .before .before .wide .result) (pairIn (c .before .before .before .before .before .loop .merged)) (pairIn (c .before .classify-type .result)) (pairIn (c .merge-packed .result)) (c .before .before .wide .ensures) (c .before .before .before .before .before .loop .inv .0) (c .before .classify-type .ensures) (c .merge-packed .ensures), omega (arith, c .before .before .before .before .loop-test .taken))
 
 clean-packed-requires : tie.Need-clean-packed-requires Inv-loop μ-loop
 clean-packed-requires c κs = search needs

@@ -3,10 +3,10 @@
 use mathlib.Core.Path.{sym, ap, _∙_}
 use native.Mathlib.Omega.{arith}
 use borrow.Author.Needs.{needs}
-use borrow.Author.Tests.{ltb-false}
+use borrow.Author.Tests.{ltb-true, ltb-false}
 use denote.Ref.{now}
 use Rattle.classify.specs.Table.{wordOf}
-use Rattle.classify.proofs.Steps.{whole-large, whole-small}
+use Rattle.classify.proofs.Steps.{whole-small}
 use Rattle.types.proofs.Table.{known-low, known-extent}
 use Rattle.classify.proofs.class_table.aggregate_word.Statement.{statement}
 use Rattle.classify.proofs.class_table.aggregate_word.Tie as tie
@@ -17,11 +17,13 @@ extent-in-requires c κs = known-low (now (c .before .args .d)) (now (c .before 
 over-requires : tie.Need-over-requires
 over-requires c κs = search needs
 
-word-of-requires : tie.Need-word-of-requires
-word-of-requires c κs = search needs
+wide-word-requires : tie.Need-wide-word-requires
+wide-word-requires c κs =
+    let e = known-extent (now (c .before .before .before .before .args .d)) (now (c .before .before .before .before .args .table)) (c .before .before .before .before .pre .2 .sizes) (c .before .before .before .before .args .k) (c .before .before .before .before .pre .0) (c .before .before .extent-in .result) (c .before .before .extent-in .ensures) in
+    (c .before .before .before .before .pre .0, c .before .before .before .before .pre .1, e .size, ltb-true 16 (c .before .before .extent-in .result .size .0) (sym (c .before .over .ensures) ∙ c .if1 .taken), record { sizes = c .before .before .before .before .pre .2 .sizes; classes = c .before .before .before .before .pre .2 .classes })
 
 returns : tie.Need-returns
-returns c = (c .word-of .ensures ∙ ap wordOf (sym (whole-large (now (c .before .before .before .before .before .args .d)) (c .before .before .before .before .before .args .k) (c .before .before .before .before .before .pre .0) (c .before .before .before .before .before .pre .1) (rw (← known-extent (now (c .before .before .before .before .before .args .d)) (now (c .before .before .before .before .before .args .table)) (c .before .before .before .before .before .pre .2 .sizes) (c .before .before .before .before .before .args .k) (c .before .before .before .before .before .pre .0) (c .before .before .before .extent-in .result) (c .before .before .before .extent-in .ensures) .size) (sym (c .before .before .over .ensures) ∙ c .before .if1 .taken)))), c .before .before .before .before .before .pre .2 .right)
+returns c = (c .wide-word .ensures, c .before .before .before .before .before .pre .2 .right)
 
 list-members-requires : tie.Need-list-members-requires
 list-members-requires c κs = (record { sized = c .before .before .before .before .before .pre .0; fits = omega (arith, known-extent (now (c .before .before .before .before .before .args .d)) (now (c .before .before .before .before .before .args .table)) (c .before .before .before .before .before .pre .2 .sizes) (c .before .before .before .before .before .args .k) (c .before .before .before .before .before .pre .0) (c .before .before .before .extent-in .result) (c .before .before .before .extent-in .ensures) .size, ltb-false 16 (c .before .before .before .extent-in .result .size .0) (sym (c .before .before .over .ensures) ∙ c .before .if1 .left)) }, known-low (now (c .before .before .before .before .before .args .d)) (now (c .before .before .before .before .before .args .table)) (c .before .before .before .before .before .pre .2 .sizes) (c .before .before .before .before .before .args .k) (c .before .before .before .before .before .pre .0))
@@ -41,7 +43,7 @@ aggregate-word-spec =
     (tie.spec
     extent-in-requires
     over-requires
-    word-of-requires
+    wide-word-requires
     returns
     list-members-requires
     finish-requires

@@ -7,7 +7,7 @@ use borrow.Author.Needs.{needs}
 use lib.ListN.{length}
 use denote.Ref.{now}
 use Rattle.classify.specs.Table.{Right, fullEntry}
-use Rattle.classify.proofs.Table.{word-small, right-none, full-is, full-more, sizes-kept, classes-kept, tabled}
+use Rattle.classify.proofs.Table.{word-small, right-none, full-is, full-more, sizes-kept, classes-kept, tabled, accepted-filled}
 use Rattle.description.specs.Description.{typesIn, modelIn}
 use Rattle.form.proofs.Form.{accepted-headed}
 use Rattle.types.specs.Table.{filled, Sizes}
@@ -36,7 +36,7 @@ word-at-requires c κs =
     let full : length (now (c .before .before .before .before .before .before .before .before .args .table)) ≡ 64 = sym (c .before .before .before .before .before .entries .ensures .1) ∙ c .before .before .before .before .before .entries .ensures .0 in
     let low : c .before .before .before .loop .k < typesIn (now (c .before .before .before .before .before .before .before .before .args .d)) = omega (arith, c .before .before .loop-test .taken, c .before .before .before .loop .inv .3) in (
       accepted-sized (now (c .before .before .before .before .before .before .before .before .args .d)) (c .before .before .before .before .before .before .before .before .pre .0) (c .before .before .before .loop .k) low,
-      record { sizes = rw (c .before .before .before .loop .inv .1) (sizes-kept (now (c .before .before .before .before .before .before .before .before .args .d)) (now (c .before .before .before .before .before .before .before .before .args .table)) (c .before .before .before .before .before .before .before .before .pre .1) full (c .before .before .before .loop .k) (omega (arith, low))); right = c .before .before .before .loop .inv .0; classes = rw (c .before .before .before .loop .inv .1) (classes-kept (now (c .before .before .before .before .before .before .before .before .args .d)) (now (c .before .before .before .before .before .before .before .before .args .table)) (c .before .before .before .before .before .before .before .before .pre .1) full (c .before .before .before .loop .k) (omega (arith, low))) },
+      record { sizes = rw (c .before .before .before .loop .inv .1) (sizes-kept (now (c .before .before .before .before .before .before .before .before .args .d)) (now (c .before .before .before .before .before .before .before .before .args .table)) (c .before .before .before .before .before .before .before .before .pre .1) full (accepted-filled (now (c .before .before .before .before .before .before .before .before .args .d)) (c .before .before .before .before .before .before .before .before .pre .0)) (c .before .before .before .loop .k) (omega (arith, low))); right = c .before .before .before .loop .inv .0; classes = rw (c .before .before .before .loop .inv .1) (classes-kept (now (c .before .before .before .before .before .before .before .before .args .d)) (now (c .before .before .before .before .before .before .before .before .args .table)) (c .before .before .before .before .before .before .before .before .pre .1) full (accepted-filled (now (c .before .before .before .before .before .before .before .before .args .d)) (c .before .before .before .before .before .before .before .before .pre .0)) (c .before .before .before .loop .k) (omega (arith, low))) },
     )
 
 mul-with-word : tie.Need-mul-with-word Inv-loop μ-loop
@@ -64,7 +64,7 @@ loop-again : tie.Need-loop-again Inv-loop μ-loop
 loop-again c =
     let full : length (now (c .before .before .before .before .before .before .before .before .before .before .before .args .table)) ≡ 64 = sym (c .before .before .before .before .before .before .before .before .entries .ensures .1) ∙ c .before .before .before .before .before .before .before .before .entries .ensures .0 in
     let low : c .before .before .before .before .before .before .loop .k < typesIn (now (c .before .before .before .before .before .before .before .before .before .before .before .args .d)) = omega (arith, c .before .before .before .before .before .loop-test .taken, c .before .before .before .before .before .before .loop .inv .3) in
-    let sizes : Sizes (modelIn (now (c .before .before .before .before .before .before .before .before .before .before .before .args .d))) (now (c .before .before .before .before .before .before .before .before .before .before .before .args .d)) (typesIn (now (c .before .before .before .before .before .before .before .before .before .before .before .args .d))) (c .before .before .before .before .before .before .loop .table) = rw (c .before .before .before .before .before .before .loop .inv .1) (sizes-kept (now (c .before .before .before .before .before .before .before .before .before .before .before .args .d)) (now (c .before .before .before .before .before .before .before .before .before .before .before .args .table)) (c .before .before .before .before .before .before .before .before .before .before .before .pre .1) full (c .before .before .before .before .before .before .loop .k) (omega (arith, low))) in
+    let sizes : Sizes (modelIn (now (c .before .before .before .before .before .before .before .before .before .before .before .args .d))) (now (c .before .before .before .before .before .before .before .before .before .before .before .args .d)) (typesIn (now (c .before .before .before .before .before .before .before .before .before .before .before .args .d))) (c .before .before .before .before .before .before .loop .table) = rw (c .before .before .before .before .before .before .loop .inv .1) (sizes-kept (now (c .before .before .before .before .before .before .before .before .before .before .before .args .d)) (now (c .before .before .before .before .before .before .before .before .before .before .before .args .table)) (c .before .before .before .before .before .before .before .before .before .before .before .pre .1) full (accepted-filled (now (c .before .before .before .before .before .before .before .before .before .before .before .args .d)) (c .before .before .before .before .before .before .before .before .before .before .before .pre .0)) (c .before .before .before .before .before .before .loop .k) (omega (arith, low))) in
     (c .before .before .word-at .ensures .1, full-more (now (c .before .before .before .before .before .before .before .before .before .before .before .args .d)) (now (c .before .before .before .before .before .before .before .before .before .before .before .args .table)) (c .before .before .before .before .before .before .loop .table) (c .before .before .before .before .before .before .loop .k) (c .with-word .result) (c .before .before .before .before .before .before .loop .inv .1) (full-is (now (c .before .before .before .before .before .before .before .before .before .before .before .args .d)) (c .before .before .before .before .before .before .loop .table) sizes (c .before .before .before .before .before .before .loop .k) low (c .before .before .word-at .result) (c .before .before .word-at .ensures .0) (c .with-word .result) (c .with-word .ensures)), omega (arith, c .before .before .before .before .before .loop-test .taken), c .before .before .before .before .before .before .loop .inv .3)
 
 returns : tie.Need-returns Inv-loop μ-loop
@@ -72,7 +72,7 @@ returns c =
     let full : length (now (c .before .before .before .before .before .before .args .table)) ≡ 64 = sym (c .before .before .before .entries .ensures .1) ∙ c .before .before .before .entries .ensures .0 in
     let all : c .before .loop .k ≡ typesIn (now (c .before .before .before .before .before .before .args .d)) = omega (arith, c .loop-test .left, c .before .loop .inv .2, c .before .loop .inv .3) in
     let is : c .before .loop .table ≡ filled (fullEntry (now (c .before .before .before .before .before .before .args .d))) (typesIn (now (c .before .before .before .before .before .before .args .d))) (now (c .before .before .before .before .before .before .args .table)) = c .before .loop .inv .1 ∙ ap (λ (n : ℕ). filled (fullEntry (now (c .before .before .before .before .before .before .args .d))) n (now (c .before .before .before .before .before .before .args .table))) all in
-    (is, rw is (tabled (now (c .before .before .before .before .before .before .args .d)) (now (c .before .before .before .before .before .before .args .table)) (c .before .before .before .before .before .before .pre .1) full))
+    (is, rw is (tabled (now (c .before .before .before .before .before .before .args .d)) (now (c .before .before .before .before .before .before .args .table)) (c .before .before .before .before .before .before .pre .1) full (accepted-filled (now (c .before .before .before .before .before .before .args .d)) (c .before .before .before .before .before .before .pre .0))))
 
 pub fill-classes-spec : {M : Type 1} → statement M
 fill-classes-spec =

@@ -12,7 +12,7 @@ use Rattle.classify.proofs.class_table.finish.Statement.{statement}
 use Rattle.classify.proofs.class_table.finish.Tie as tie
 
 abbrev Inv-loop : tie.InvT-loop
-Inv-loop d k list n table finished₀ size step at₀ finished at = Right d finished × (at ≤ 32)
+Inv-loop d k list n table finished₀ size step at₀ finished at = Right d finished × (at ≤ 40)
 
 abbrev μ-loop : tie.MeasureT-loop
 μ-loop d k list n table finished₀ size step at₀ finished at = 8 - at

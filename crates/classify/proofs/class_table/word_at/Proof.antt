@@ -1,11 +1,11 @@
 -- `word_at` meets its contract.
 -- Assumes nothing.
-use mathlib.Core.Path.{refl, sym, ap, _∙_}
+use mathlib.Core.Path.{sym, ap, _∙_}
 use borrow.Author.Needs.{needs}
 use denote.Ref.{now}
-use Rattle.classify.specs.Classify.{basicAt}
+use Rattle.description.specs.Description.{modelIn}
 use Rattle.classify.specs.Table.{wordOf}
-use Rattle.classify.proofs.Steps.{basic-done, whole-basic}
+use Rattle.classify.proofs.Steps.{whole-basic}
 use Rattle.types.proofs.Runs.{basic-low}
 use Rattle.classify.proofs.class_table.word_at.Statement.{statement}
 use Rattle.classify.proofs.class_table.word_at.Tie as tie
@@ -28,7 +28,7 @@ basic-word-requires c κs = basic-low (now (c .before .before .before .before .a
 returns-2 : tie.Need-returns-2
 returns-2 c =
     let basic = sym (c .before .before .before .kind-at .ensures) ∙ c .before .before .if1 .left in
-    (c .basic-word .ensures ∙ ap wordOf (basic-done (now (c .before .before .before .before .before .args .d)) (c .before .before .before .before .before .args .k) 0 (c .before .a-at .result) (c .before .before .before .before .before .pre .0) (c .before .a-at .ensures .0) basic (basicAt 2 (c .before .a-at .result) 0) refl ∙ sym (whole-basic (now (c .before .before .before .before .before .args .d)) (c .before .before .before .before .before .args .k) (c .before .before .before .before .before .pre .0) basic)), c .before .before .before .before .before .pre .1 .right)
+    (c .basic-word .ensures (modelIn (now (c .before .before .before .before .before .args .d))) ∙ ap wordOf (whole-basic (now (c .before .before .before .before .before .args .d)) (c .before .before .before .before .before .args .k) (c .before .before .before .before .before .pre .0) basic (c .before .a-at .result) (c .before .a-at .ensures .0)), c .before .before .before .before .before .pre .1 .right)
 
 pub word-at-spec : {M : Type 1} → statement M
 word-at-spec =

@@ -2,7 +2,7 @@
 -- Assumes nothing.
 use mathlib.Core.Path.{sym, ap, _∙_}
 use borrow.Author.Needs.{needs}
-use Rattle.classify.specs.Table.{unpackedOf}
+use Rattle.classify.specs.Table.{pairIn}
 use Rattle.classify.proofs.Packed.{clean-kept}
 use Rattle.classes.specs.CleanUp.{cleanUp}
 use Rattle.classify.proofs.packed_classes.clean_packed.Statement.{statement}
@@ -27,7 +27,7 @@ pack-requires : tie.Need-pack-requires
 pack-requires c κs = search needs
 
 returns-2 : tie.Need-returns-2
-returns-2 c = c .pack .ensures .1 ∙ c .before .clean-up .ensures ∙ ap cleanUp (c .before .before .unpack .ensures ∙ ap unpackedOf (c .before .before .before .wide .ensures))
+returns-2 c = c .pack .ensures .1 ∙ c .before .clean-up .ensures ∙ ap cleanUp (c .before .before .unpack .ensures ∙ ap pairIn (c .before .before .before .wide .ensures))
 
 pub clean-packed-spec : {M : Type 1} → statement M
 clean-packed-spec =

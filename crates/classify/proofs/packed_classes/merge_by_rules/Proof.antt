@@ -2,7 +2,7 @@
 -- Assumes nothing.
 use mathlib.Core.Path.{ap, ap₂, _∙_}
 use borrow.Author.Needs.{needs}
-use Rattle.classify.specs.Table.{unpackedOf}
+use Rattle.classify.specs.Table.{pairIn}
 use Rattle.classes.specs.Classes.{mergeAll}
 use Rattle.classify.proofs.packed_classes.merge_by_rules.Statement.{statement}
 use Rattle.classify.proofs.packed_classes.merge_by_rules.Tie as tie
@@ -26,7 +26,7 @@ pack-requires : tie.Need-pack-requires
 pack-requires c κs = search needs
 
 returns : tie.Need-returns
-returns c = c .pack .ensures .1 ∙ c .before .merge-both .ensures ∙ ap₂ mergeAll (c .before .before .before .before .unpack .ensures ∙ ap unpackedOf (c .before .before .before .before .before .wide .ensures)) (c .before .before .unpack2 .ensures ∙ ap unpackedOf (c .before .before .before .wide2 .ensures))
+returns c = c .pack .ensures .1 ∙ c .before .merge-both .ensures ∙ ap₂ mergeAll (c .before .before .before .before .unpack .ensures ∙ ap pairIn (c .before .before .before .before .before .wide .ensures)) (c .before .before .unpack2 .ensures ∙ ap pairIn (c .before .before .before .wide2 .ensures))
 
 pub merge-by-rules-spec : {M : Type 1} → statement M
 merge-by-rules-spec =

@@ -5,6 +5,7 @@ use native.Mathlib.Omega.{arith}
 use Rattle.classify.specs.Classify.{firstClass, secondClass, gap, basicAt}
 use Rattle.classify.proofs.Steps.{gap-small}
 use borrow.Author.Needs.{needs}
+use borrow.Author.Tests.{ne-eqb}
 use Rattle.classify.proofs.table_words.basic_at.Statement.{statement}
 use Rattle.classify.proofs.table_words.basic_at.Tie as tie
 
@@ -34,7 +35,7 @@ merge-both-requires c κs = search needs
 
 returns : tie.Need-returns
 unfolding basicAt firstClass secondClass gap
-returns c = c .merge-both .ensures ∙ rw (c .before .before .before .before .before .put-class .ensures, c .before .put-class2 .ensures, c .before .before .before .plus .ensures, c .before .before .before .before .wide .ensures)
+returns c = c .merge-both .ensures ∙ rw (ne-eqb (c .before .before .before .before .before .before .before .args .code) 16 (λ e. omega (arith, e, c .before .before .before .before .before .before .before .pre .0)), c .before .before .before .before .before .put-class .ensures, c .before .put-class2 .ensures, c .before .before .before .plus .ensures, c .before .before .before .before .wide .ensures)
 
 pub basic-at-spec : {M : Type 1} → statement M
 basic-at-spec =

@@ -16,7 +16,7 @@ widened-requires : tie.Need-widened-requires
 widened-requires c κs = search needs
 
 returns : tie.Need-returns
-returns c = c .widened .ensures ∙ basic-words (c .before .args .code) (c .before .pre)
+returns c = λ m. c .widened .ensures ∙ basic-words m (c .before .args .code) (c .before .pre)
 
 pub basic-word-spec : {M : Type 1} → statement M
 basic-word-spec = tie.close (tie.spec mul-widened array-read-widened widened-requires returns)

@@ -3,7 +3,7 @@
 use mathlib.Core.Path.{ap, _∙_}
 use Prim.Native.Nat.{ℕ, _/_}
 use borrow.Author.Needs.{needs}
-use Rattle.classify.specs.Table.{unpackedOf}
+use Rattle.classify.specs.Table.{pairIn}
 use Rattle.classify.proofs.table_words.classes_in.Statement.{statement}
 use Rattle.classify.proofs.table_words.classes_in.Tie as tie
 
@@ -20,7 +20,7 @@ unpack-requires : tie.Need-unpack-requires
 unpack-requires c κs = search needs
 
 returns : tie.Need-returns
-returns c = c .unpack .ensures ∙ ap (λ (x : ℕ). unpackedOf (x / 262144)) (c .before .wide .ensures)
+returns c = c .unpack .ensures ∙ ap (λ (x : ℕ). pairIn (x / 524288)) (c .before .wide .ensures)
 
 pub classes-in-spec : {M : Type 1} → statement M
 classes-in-spec =

@@ -2,7 +2,7 @@
 -- Assumes nothing.
 use mathlib.Core.Path.{ap, _∙_}
 use borrow.Author.Needs.{needs}
-use Rattle.classify.specs.Table.{unpackedOf, wordOf}
+use Rattle.classify.specs.Table.{pairIn, wordOf}
 use Rattle.classify.proofs.table_words.packed_word.Statement.{statement}
 use Rattle.classify.proofs.table_words.packed_word.Tie as tie
 
@@ -16,7 +16,7 @@ word-of-requires : tie.Need-word-of-requires
 word-of-requires c κs = search needs
 
 returns : tie.Need-returns
-returns c = c .word-of .ensures ∙ ap wordOf (c .before .unpack .ensures ∙ ap unpackedOf (c .before .before .wide .ensures))
+returns c = c .word-of .ensures ∙ ap wordOf (c .before .unpack .ensures ∙ ap pairIn (c .before .before .wide .ensures))
 
 pub packed-word-spec : {M : Type 1} → statement M
 packed-word-spec = tie.close (tie.spec wide-requires unpack-requires word-of-requires returns)

@@ -1,11 +1,14 @@
--- `lay` meets its contract.
+-- `lay` meets its contract: the named arguments first, and then the others.
 -- Assumes nothing.
+use mathlib.Core.Path.{ap, _∙_}
+use Prim.Native.Nat.{_≤_}
 use native.Mathlib.Omega.{arith}
 use borrow.Author.Needs.{needs}
 use denote.Ref.{now}
-use Rattle.layout.proofs.Layouts.{asks-first, start-used, asks-rest, whole-used, whole-values, whole-small, layout-is}
-use Rattle.description.specs.Description.{namedIn}
+use Rattle.layout.specs.Arguments.{usedAt}
+use Rattle.layout.proofs.Layouts.{valuesAt, named-alike, unnamed-alike, asks-first, laid-used, asks-rest, whole-used, whole-values, whole-small, layout-is}
 use Rattle.uses.proofs.Uses.{accepted-typed}
+use Rattle.places.proofs.Apart.{align-few}
 use Rattle.layout.proofs.deciding.lay.Statement.{statement}
 use Rattle.layout.proofs.deciding.lay.Tie as tie
 
@@ -22,26 +25,35 @@ fresh-requires : tie.Need-fresh-requires
 fresh-requires c κs = search needs
 
 lay-more-requires : tie.Need-lay-more-requires
-lay-more-requires c κs = (rw (c .before .before .before .byte-at .ensures .0) (asks-first (now (c .before .before .before .before .before .args .d)) (c .before .hidden-of .result) (c .fresh .result) (c .before .hidden-of .ensures) (c .fresh .ensures) (c .before .before .before .before .before .pre .0) (namedIn (now (c .before .before .before .before .before .args .d))) (accepted-typed (now (c .before .before .before .before .before .args .d)) (c .before .before .before .before .before .pre .0) .named)), c .before .before .before .before .before .pre .1)
+lay-more-requires c κs = (asks-first (now (c .before .before .before .before .before .args .d)) (c .before .hidden-of .result) (c .fresh .result) (c .before .hidden-of .ensures) (c .fresh .ensures) (c .before .before .before .before .before .pre .0) (c .before .before .before .byte-at .result) (omega (arith, c .before .before .before .byte-at .ensures .0, accepted-typed (now (c .before .before .before .before .before .args .d)) (c .before .before .before .before .before .pre .0) .named)), c .before .before .before .before .before .pre .1, named-alike (now (c .before .before .before .before .before .args .d)) (c .before .before .before .byte-at .result) (omega (arith, c .before .before .before .byte-at .ensures .0)))
 
 lay-more-requires-2 : tie.Need-lay-more-requires-2
-lay-more-requires-2 c κs = (asks-rest (now (c .before .before .before .before .before .before .before .args .d)) _ _ (c .before .before .before .hidden-of .ensures) (c .before .before .fresh .ensures) (c .before .lay-more .result) (c .before .lay-more .result) _ _ (c .before .before .before .before .before .byte-at .ensures .0) (c .before .before .before .before .byte-at2 .ensures .0) (c .before .lay-more .ensures) (c .before .before .before .before .before .before .before .pre .0), c .before .before .before .before .before .before .before .pre .1)
+lay-more-requires-2 c κs =
+    let order : c .before .before .before .before .before .byte-at .result ≤ c .before .before .before .before .byte-at2 .result = omega (arith, c .before .before .before .before .before .byte-at .ensures .0, c .before .before .before .before .byte-at2 .ensures .0, accepted-typed (now (c .before .before .before .before .before .before .before .args .d)) (c .before .before .before .before .before .before .before .pre .0) .named) in
+    (asks-rest (now (c .before .before .before .before .before .before .before .args .d)) (c .before .before .before .hidden-of .result) (c .before .before .fresh .result) (c .before .before .before .hidden-of .ensures) (c .before .before .fresh .ensures) (c .before .lay-more .result) (c .before .lay-more .result) (c .before .before .before .before .before .byte-at .result) (c .before .before .before .before .byte-at2 .result) order (c .before .lay-more .ensures) (c .before .before .before .before .before .before .before .pre .0) (omega (arith, c .before .before .before .before .byte-at2 .ensures .0)), c .before .before .before .before .before .before .before .pre .1, unnamed-alike (now (c .before .before .before .before .before .before .before .args .d)) (c .before .before .before .before .before .byte-at .result) (c .before .before .before .before .byte-at2 .result) (c .before .before .before .before .before .byte-at .ensures .0))
+
+area-align-requires : tie.Need-area-align-requires
+area-align-requires c κs = search needs
 
 raise-to-requires : tie.Need-raise-to-requires
-raise-to-requires c κs = (omega arith, whole-small (now (c .before .before .before .before .before .before .before .before .before .before .args .d)) _ _ (c .before .before .before .before .before .before .hidden-of .ensures) (c .before .before .before .before .before .fresh .ensures) (c .before .before .before .before .lay-more .result) (c .before .before .lay-more2 .result) _ _ (c .before .before .before .before .before .before .before .before .byte-at .ensures .0) (c .before .before .before .before .before .before .before .byte-at2 .ensures .0) (c .before .before .before .before .lay-more .ensures) (c .before .before .before .before .before .before .before .before .before .before .pre .0) (c .before .before .lay-more2 .ensures))
+raise-to-requires c κs =
+    let order : c .before .before .before .before .before .before .before .before .before .byte-at .result ≤ c .before .before .before .before .before .before .before .before .byte-at2 .result = omega (arith, c .before .before .before .before .before .before .before .before .before .byte-at .ensures .0, c .before .before .before .before .before .before .before .before .byte-at2 .ensures .0, accepted-typed (now (c .before .before .before .before .before .before .before .before .before .before .before .args .d)) (c .before .before .before .before .before .before .before .before .before .before .before .pre .0) .named) in
+    let used = whole-used (now (c .before .before .before .before .before .before .before .before .before .before .before .args .d)) (c .before .before .before .before .before .before .before .hidden-of .result) (c .before .before .before .before .before .before .fresh .result) (c .before .before .before .before .before .before .before .hidden-of .ensures) (c .before .before .before .before .before .before .fresh .ensures) (c .before .before .before .before .before .lay-more .result) (c .before .before .before .lay-more2 .result) (c .before .before .before .before .before .before .before .before .before .byte-at .result) (c .before .before .before .before .before .before .before .before .byte-at2 .result) order (c .before .before .before .before .before .lay-more .ensures) (c .before .before .before .lay-more2 .ensures) ∙ ap (usedAt (now (c .before .before .before .before .before .before .before .before .before .before .before .args .d))) (c .before .before .before .before .before .before .before .before .byte-at2 .ensures .0) in
+    omega (arith, whole-small (now (c .before .before .before .before .before .before .before .before .before .before .before .args .d)) (c .before .before .before .before .before .before .before .before .before .before .before .pre .0) _ used, c .area-align .ensures, align-few (c .before .before .before .lay-more2 .result .used))
 
 return-of-requires : tie.Need-return-of-requires
 return-of-requires c κs = search needs
 
 returned-size-requires : tie.Need-returned-size-requires
-returned-size-requires c κs = search needs
+returned-size-requires c κs = c .before .before .before .before .before .before .before .before .before .before .before .before .before .pre
 
 returns : tie.Need-returns
 returns c =
-    let used = whole-used (now (c .before .before .before .before .before .before .before .before .before .before .before .before .before .args .d)) _ _ (c .before .before .before .before .before .before .before .before .before .hidden-of .ensures) (c .before .before .before .before .before .before .before .before .fresh .ensures) (c .before .before .before .before .before .before .before .lay-more .result) (c .before .before .before .before .before .lay-more2 .result) _ _ (c .before .before .before .before .before .before .before .before .before .before .before .byte-at .ensures .0) (c .before .before .before .before .before .before .before .before .before .before .byte-at2 .ensures .0) (c .before .before .before .before .before .before .before .lay-more .ensures) (c .before .before .before .before .before .before .before .before .before .before .before .before .before .pre .0) (c .before .before .before .before .before .lay-more2 .ensures) in
-    let values = whole-values (now (c .before .before .before .before .before .before .before .before .before .before .before .before .before .args .d)) _ _ (c .before .before .before .before .before .before .before .before .before .hidden-of .ensures) (c .before .before .before .before .before .before .before .before .fresh .ensures) (c .before .before .before .before .before .before .before .lay-more .result) (c .before .before .before .before .before .lay-more2 .result) _ _ (c .before .before .before .before .before .before .before .before .before .before .before .byte-at .ensures .0) (c .before .before .before .before .before .before .before .before .before .before .byte-at2 .ensures .0) (c .before .before .before .before .before .before .before .lay-more .ensures) (c .before .before .before .before .before .before .before .before .before .before .before .before .before .pre .0) (c .before .before .before .before .before .lay-more2 .ensures) in
-    let named = start-used (now (c .before .before .before .before .before .before .before .before .before .before .before .before .before .args .d)) _ _ (c .before .before .before .before .before .before .before .before .before .hidden-of .ensures) (c .before .before .before .before .before .before .before .before .fresh .ensures) (c .before .before .before .before .before .before .before .lay-more .result) (c .before .before .before .before .before .before .before .lay-more .result) _ _ (c .before .before .before .before .before .before .before .before .before .before .before .byte-at .ensures .0) (c .before .before .before .before .before .before .before .before .before .before .byte-at2 .ensures .0) (c .before .before .before .before .before .before .before .lay-more .ensures) in
-    layout-is (now (c .before .before .before .before .before .before .before .before .before .before .before .before .before .args .d)) _ used (c .before .before .raise-to .ensures) values (c .before .return-of .ensures) (c .returned-size .ensures) (c .before .before .before .before .before .before .before .before .before .hidden-of .ensures) named
+    let order : c .before .before .before .before .before .before .before .before .before .before .before .before .byte-at .result ≤ c .before .before .before .before .before .before .before .before .before .before .before .byte-at2 .result = omega (arith, c .before .before .before .before .before .before .before .before .before .before .before .before .byte-at .ensures .0, c .before .before .before .before .before .before .before .before .before .before .before .byte-at2 .ensures .0, accepted-typed (now (c .before .before .before .before .before .before .before .before .before .before .before .before .before .before .args .d)) (c .before .before .before .before .before .before .before .before .before .before .before .before .before .before .pre .0) .named) in
+    let used = whole-used (now (c .before .before .before .before .before .before .before .before .before .before .before .before .before .before .args .d)) (c .before .before .before .before .before .before .before .before .before .before .hidden-of .result) (c .before .before .before .before .before .before .before .before .before .fresh .result) (c .before .before .before .before .before .before .before .before .before .before .hidden-of .ensures) (c .before .before .before .before .before .before .before .before .before .fresh .ensures) (c .before .before .before .before .before .before .before .before .lay-more .result) (c .before .before .before .before .before .before .lay-more2 .result) (c .before .before .before .before .before .before .before .before .before .before .before .before .byte-at .result) (c .before .before .before .before .before .before .before .before .before .before .before .byte-at2 .result) order (c .before .before .before .before .before .before .before .before .lay-more .ensures) (c .before .before .before .before .before .before .lay-more2 .ensures) ∙ ap (usedAt (now (c .before .before .before .before .before .before .before .before .before .before .before .before .before .before .args .d))) (c .before .before .before .before .before .before .before .before .before .before .before .byte-at2 .ensures .0) in
+    let values = whole-values (now (c .before .before .before .before .before .before .before .before .before .before .before .before .before .before .args .d)) (c .before .before .before .before .before .before .before .before .before .before .hidden-of .result) (c .before .before .before .before .before .before .before .before .before .fresh .result) (c .before .before .before .before .before .before .before .before .before .before .hidden-of .ensures) (c .before .before .before .before .before .before .before .before .before .fresh .ensures) (c .before .before .before .before .before .before .before .before .lay-more .result) (c .before .before .before .before .before .before .lay-more2 .result) (c .before .before .before .before .before .before .before .before .before .before .before .before .byte-at .result) (c .before .before .before .before .before .before .before .before .before .before .before .byte-at2 .result) order (c .before .before .before .before .before .before .before .before .lay-more .ensures) (c .before .before .before .before .before .before .lay-more2 .ensures) ∙ ap (valuesAt (now (c .before .before .before .before .before .before .before .before .before .before .before .before .before .before .args .d))) (c .before .before .before .before .before .before .before .before .before .before .before .byte-at2 .ensures .0) in
+    let named = laid-used (now (c .before .before .before .before .before .before .before .before .before .before .before .before .before .before .args .d)) (c .before .before .before .before .before .before .before .before .before .before .hidden-of .result) (c .before .before .before .before .before .before .before .before .before .fresh .result) (c .before .before .before .before .before .before .before .before .before .before .hidden-of .ensures) (c .before .before .before .before .before .before .before .before .before .fresh .ensures) (c .before .before .before .before .before .before .before .before .before .before .before .before .byte-at .result) (c .before .before .before .before .before .before .before .before .lay-more .result) (c .before .before .before .before .before .before .before .before .lay-more .ensures) ∙ ap (usedAt (now (c .before .before .before .before .before .before .before .before .before .before .before .before .before .before .args .d))) (c .before .before .before .before .before .before .before .before .before .before .before .before .byte-at .ensures .0) in
+    layout-is (now (c .before .before .before .before .before .before .before .before .before .before .before .before .before .before .args .d)) _ used (c .before .before .before .area-align .ensures) (c .before .before .raise-to .ensures) values (c .before .return-of .ensures) (c .returned-size .ensures) (c .before .before .before .before .before .before .before .before .before .before .hidden-of .ensures) named
 
 pub lay-spec : {M : Type 1} → statement M
 lay-spec =
@@ -53,6 +65,7 @@ lay-spec =
     fresh-requires
     lay-more-requires
     lay-more-requires-2
+    area-align-requires
     raise-to-requires
     return-of-requires
     returned-size-requires

@@ -1,8 +1,10 @@
 -- `hidden_of` meets its contract.
 -- Assumes nothing.
 use mathlib.Core.Path.{_≡_, sym, _∙_}
+use Prim.Native.Nat.{_/_}
 use native.Mathlib.Omega.{arith}
 use borrow.Author.Needs.{needs}
+use lib.ListN.{getD}
 use denote.Ref.{now}
 use Rattle.layout.proofs.Steps.{return-void, return-known, return-classes, hidden-some}
 use Rattle.description.specs.Description.{returnIn}
@@ -29,7 +31,7 @@ returns-2 : tie.Need-returns-2
 returns-2 c =
     let d = now (c .before .before .before .before .before .before .args .d) in
     let n : returnIn d ≡ 255 → ⊥ = λ e. c .before .before .before .if1 .left (c .before .before .before .before .byte-at .ensures .0 ∙ e) in
-    hidden-some d n (c .before .before .classes-in .result) (return-classes d (now (c .before .before .before .before .before .before .args .table)) (c .before .before .before .before .before .before .pre .1) (c .before .before .before .before .before .before .pre .0) (c .before .before .before .before .byte-at .result) (c .before .before .before .before .byte-at .ensures .0) n _ (c .before .before .classes-in .ensures)) _ (c .hidden-for .ensures)
+    hidden-some d n (getD (now (c .before .before .before .before .before .before .args .table)) (c .before .before .before .before .byte-at .result) 0 / 524288) (return-classes d (now (c .before .before .before .before .before .before .args .table)) (c .before .before .before .before .before .before .pre .1) (c .before .before .before .before .before .before .pre .0) (c .before .before .before .before .byte-at .result) (c .before .before .before .before .byte-at .ensures .0) n) (c .before .before .classes-in .result) (c .before .before .classes-in .ensures) _ (c .hidden-for .ensures)
 
 pub hidden-of-spec : {M : Type 1} → statement M
 hidden-of-spec =

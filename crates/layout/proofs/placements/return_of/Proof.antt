@@ -1,8 +1,10 @@
 -- `return_of` meets its contract.
 -- Assumes nothing.
 use mathlib.Core.Path.{_≡_, sym, _∙_}
+use Prim.Native.Nat.{_/_}
 use native.Mathlib.Omega.{arith}
 use borrow.Author.Needs.{needs}
+use lib.ListN.{getD}
 use denote.Ref.{now}
 use Rattle.layout.proofs.Steps.{return-void, return-known, return-classes, return-some}
 use Rattle.description.specs.Description.{returnIn}
@@ -25,14 +27,17 @@ array-copy-out-first c = search needs
 array-copy-out-second : tie.Need-array-copy-out-second
 array-copy-out-second c = search needs
 
+is-wide-requires : tie.Need-is-wide-requires
+is-wide-requires c κs = omega (arith, c .before .before .before .before .byte-at .ensures .0, return-known (now (c .before .before .before .before .before .before .args .d)) (c .before .before .before .before .before .before .pre .0) (λ e. c .before .before .before .if1 .left (c .before .before .before .before .byte-at .ensures .0 ∙ e)), c .before .before .before .before .before .before .pre .1 .sizes .few)
+
 return-place-requires : tie.Need-return-place-requires
 return-place-requires c κs = search needs
 
 returns-2 : tie.Need-returns-2
 returns-2 c =
-    let d = now (c .before .before .before .before .before .before .before .args .d) in
-    let n : returnIn d ≡ 255 → ⊥ = λ e. c .before .before .before .before .if1 .left (c .before .before .before .before .before .byte-at .ensures .0 ∙ e) in
-    return-some d n (c .before .before .before .classes-in .result) (return-classes d (now (c .before .before .before .before .before .before .before .args .table)) (c .before .before .before .before .before .before .before .pre .1) (c .before .before .before .before .before .before .before .pre .0) (c .before .before .before .before .before .byte-at .result) (c .before .before .before .before .before .byte-at .ensures .0) n _ (c .before .before .before .classes-in .ensures)) _ (c .return-place .ensures)
+    let d = now (c .before .before .before .before .before .before .before .before .args .d) in
+    let n : returnIn d ≡ 255 → ⊥ = λ e. c .before .before .before .before .before .if1 .left (c .before .before .before .before .before .before .byte-at .ensures .0 ∙ e) in
+    return-some d n (getD (now (c .before .before .before .before .before .before .before .before .args .table)) (c .before .before .before .before .before .before .byte-at .result) 0 / 524288) (return-classes d (now (c .before .before .before .before .before .before .before .before .args .table)) (c .before .before .before .before .before .before .before .before .pre .1) (c .before .before .before .before .before .before .before .before .pre .0) (c .before .before .before .before .before .before .byte-at .result) (c .before .before .before .before .before .before .byte-at .ensures .0) n) (c .before .before .before .before .classes-in .result) (c .before .before .before .before .classes-in .ensures) (c .before .is-wide .result) (c .before .is-wide .ensures) _ (c .return-place .ensures)
 
 pub return-of-spec : {M : Type 1} → statement M
 return-of-spec =
@@ -43,5 +48,6 @@ return-of-spec =
     classes-in-requires
     array-copy-out-first
     array-copy-out-second
+    is-wide-requires
     return-place-requires
     returns-2)

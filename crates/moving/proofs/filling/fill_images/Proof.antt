@@ -9,13 +9,13 @@ use Rattle.moving.proofs.filling.fill_images.Statement.{statement}
 use Rattle.moving.proofs.filling.fill_images.Tie as tie
 
 blank-images-requires : tie.Need-blank-images-requires
-blank-images-requires c κs = c .before .before .before .before .before .before .pre .0 .registers
+blank-images-requires c κs = (c .before .before .before .before .before .before .before .before .pre .0 .registers, c .before .before .before .before .before .before .before .before .pre .0 .upper)
 
 fresh-requires : tie.Need-fresh-requires
 fresh-requires c κs = search needs
 
 place-all-requires : tie.Need-place-all-requires
-place-all-requires c κs = (record { accepted = c .before .before .before .before .before .before .before .before .before .before .before .before .before .before .pre .0 .accepted; values = c .before .before .before .before .before .before .before .before .before .before .before .before .before .before .pre .0 .values; registers = omega (arith, c .before .before .before .before .before .before .before .before .before .before .before .before .before .before .pre .0 .registers); stack = omega (arith, c .before .before .before .before .before .before .before .before .before .before .before .before .before .before .pre .0 .stack) }, c .before .before .fresh .ensures ∙ ap fresh (c .before .before .before .before .before .before .before .before .before .before .before .before .before .before .pre .1), c .before .before .before .before .before .before .before .before .before .before .before .before .before .before .pre .2)
+place-all-requires c κs = (record { accepted = c .before .before .before .before .before .before .before .before .before .before .before .before .before .before .before .before .before .before .before .pre .0 .accepted; values = c .before .before .before .before .before .before .before .before .before .before .before .before .before .before .before .before .before .before .before .pre .0 .values; registers = omega (arith, c .before .before .before .before .before .before .before .before .before .before .before .before .before .before .before .before .before .before .before .pre .0 .registers); upper = omega (arith, c .before .before .before .before .before .before .before .before .before .before .before .before .before .before .before .before .before .before .before .pre .0 .upper); stack = omega (arith, c .before .before .before .before .before .before .before .before .before .before .before .before .before .before .before .before .before .before .before .pre .0 .stack) }, c .before .before .before .fresh .ensures ∙ ap fresh (c .before .before .before .before .before .before .before .before .before .before .before .before .before .before .before .before .before .before .before .pre .1), c .before .before .before .before .before .before .before .before .before .before .before .before .before .before .before .before .before .before .before .pre .2)
 
 same-length : tie.Need-same-length
 same-length c = search needs
@@ -23,8 +23,11 @@ same-length c = search needs
 same-length-2 : tie.Need-same-length-2
 same-length-2 c = search needs
 
+same-length-3 : tie.Need-same-length-3
+same-length-3 c = search needs
+
 returns : tie.Need-returns
-returns c = filled-images (c .before .before .before .before .before .before .before .before .before .before .before .before .before .before .before .before .before .before .before .args .d .now) (c .before .before .before .before .before .before .before .before .before .before .before .before .before .before .before .before .before .before .before .args .used) (c .before .before .before .before .before .before .before .before .before .before .before .before .before .before .before .before .before .before .before .args .address) (c .before .before .before .before .before .before .before .before .before .before .before .before .before .before .before .before .before .before .before .args .values .now) (c .before .before .before .before .before .before .before .before .before .before .before .before .before .before .before .before .before .before .before .args .stack .now) _ _ (c .before .before .before .before .before .before .before .before .before .before .before .before .before .before .before .before .before .before .before .pre .1) (c .before .before .before .before .before .before .before .before .before .before .before .before .before .before .before .before .before .before .before .pre .0 .stack) (c .before .before .before .before .before .before .before .before .before .before .before .before .blank-images .ensures) (c .before .before .before .before .place-all .ensures)
+returns c = filled-images (c .before .before .before .before .before .before .before .before .before .before .before .before .before .before .before .before .before .before .before .before .before .before .before .before .before .before .args .d .now) (c .before .before .before .before .before .before .before .before .before .before .before .before .before .before .before .before .before .before .before .before .before .before .before .before .before .before .args .used) (c .before .before .before .before .before .before .before .before .before .before .before .before .before .before .before .before .before .before .before .before .before .before .before .before .before .before .args .address) (c .before .before .before .before .before .before .before .before .before .before .before .before .before .before .before .before .before .before .before .before .before .before .before .before .before .before .args .values .now) (c .before .before .before .before .before .before .before .before .before .before .before .before .before .before .before .before .before .before .before .before .before .before .before .before .before .before .args .stack .now) _ _ (c .before .before .before .before .before .before .before .before .before .before .before .before .before .before .before .before .before .before .before .before .before .before .before .before .before .before .pre .1) (c .before .before .before .before .before .before .before .before .before .before .before .before .before .before .before .before .before .before .before .before .before .before .before .before .before .before .pre .0 .stack) (c .before .before .before .before .before .before .before .before .before .before .before .before .before .before .before .before .before .blank-images .ensures) (c .before .before .before .before .before .before .place-all .ensures)
 
 pub fill-images-spec : {M : Type 1} → statement M
 fill-images-spec =
@@ -35,4 +38,5 @@ fill-images-spec =
     place-all-requires
     same-length
     same-length-2
+    same-length-3
     returns)

@@ -1,40 +1,46 @@
 -- `place_all` meets its contract. The invariant: what is left to place comes to what was to be placed at first.
 -- Assumes nothing.
-use mathlib.Core.Path.{_≡_}
+use mathlib.Core.Path.{_≡_, ap}
 use Prim.Native.Nat.{_-_}
 use native.Mathlib.Omega.{arith}
-use Rattle.description.specs.Description.{argumentsIn}
+use lib.Dec.{ltb}
+use Rattle.description.specs.Description.{namedIn, argumentsIn}
 use Rattle.moving.proofs.Loops.{Placing, placing-first, placing-next, placing-last}
 use Rattle.moving.proofs.Turns.{whole, turn-type, turn-room-left, turn-small, turn-step, turn-move, turn-room}
 use Rattle.moving.proofs.filling.place_all.Statement.{statement}
 use Rattle.moving.proofs.filling.place_all.Tie as tie
 
 abbrev Inv-loop : tie.InvT-loop
-Inv-loop d values registers₀ stack₀ table arguments used₀ start₀ i₀ registers stack used start i = Placing d values registers₀ stack₀ registers stack used (start .0) i × (arguments ≡ argumentsIn d)
+Inv-loop d values registers₀ upper₀ stack₀ table named arguments used₀ start₀ i₀ registers upper stack used start i =
+    Placing d values registers₀ upper₀ stack₀ registers upper stack used (start .0) i × (arguments ≡ argumentsIn d) × (named ≡ namedIn d)
 
 abbrev μ-loop : tie.MeasureT-loop
-μ-loop d values registers₀ stack₀ table arguments used₀ start₀ i₀ registers stack used start i = arguments - i
+μ-loop d values registers₀ upper₀ stack₀ table named arguments used₀ start₀ i₀ registers upper stack used start i =
+    arguments - i
 
 byte-at-requires : tie.Need-byte-at-requires Inv-loop μ-loop
-byte-at-requires c κs = omega (arith, whole _ (c .before .before .before .before .pre .0 .accepted) .headed)
+byte-at-requires c κs = omega (arith, whole _ (c .before .before .before .before .before .pre .0 .accepted) .headed)
+
+byte-at-requires-2 : tie.Need-byte-at-requires-2 Inv-loop μ-loop
+byte-at-requires-2 c κs = omega (arith, whole _ (c .before .before .before .before .before .before .pre .0 .accepted) .headed)
 
 loop-holds : tie.Need-loop-holds Inv-loop μ-loop
-loop-holds c = (placing-first _ _ _ _ _ (c .before .before .before .before .before .pre .0) (c .before .before .before .before .before .pre .1), c .byte-at .ensures .0)
+loop-holds c = (placing-first _ _ _ _ _ _ (c .before .before .before .before .before .before .before .pre .0) (c .before .before .before .before .before .before .before .pre .1), c .byte-at2 .ensures .0, c .before .byte-at .ensures .0)
 
 argument-at-requires : tie.Need-argument-at-requires Inv-loop μ-loop
-argument-at-requires c κs = (whole _ (c .before .before .before .before .before .before .before .pre .0 .accepted), omega (arith, c .loop-test .taken, c .before .loop .inv .1))
+argument-at-requires c κs = (whole _ (c .before .before .before .before .before .before .before .before .before .pre .0 .accepted), omega (arith, c .loop-test .taken, c .before .loop .inv .1))
 
 extent-in-requires : tie.Need-extent-in-requires Inv-loop μ-loop
-extent-in-requires c κs = turn-type _ _ _ _ (omega (arith, c .before .loop-test .taken, c .before .before .loop .inv .1)) (c .before .before .loop .inv .0 .turn) (c .before .before .before .before .before .before .before .before .pre .0 .accepted) _ (c .argument-at .ensures)
+extent-in-requires c κs = turn-type _ _ _ _ (omega (arith, c .before .loop-test .taken, c .before .before .loop .inv .1)) (c .before .before .loop .inv .0 .turn) (c .before .before .before .before .before .before .before .before .before .before .pre .0 .accepted) _ (c .argument-at .ensures)
 
 place-type-requires : tie.Need-place-type-requires Inv-loop μ-loop
-place-type-requires c κs = (turn-type _ _ _ _ (omega (arith, c .before .before .before .loop-test .taken, c .before .before .before .before .loop .inv .1)) (c .before .before .before .before .loop .inv .0 .turn) (c .before .before .before .before .before .before .before .before .before .before .pre .0 .accepted) _ (c .before .before .argument-at .ensures), turn-room-left _ _ _ _ (omega (arith, c .before .before .before .loop-test .taken, c .before .before .before .before .loop .inv .1)) (c .before .before .before .before .loop .inv .0 .turn) _ (c .before .before .before .before .before .before .before .before .before .before .pre .2) (c .before .before .before .before .before .before .before .before .before .before .pre .0 .accepted) _ (c .before .before .argument-at .ensures), turn-small _ _ _ _ (omega (arith, c .before .before .before .loop-test .taken, c .before .before .before .before .loop .inv .1)) (c .before .before .before .before .loop .inv .0 .turn) _ (c .before .before .before .before .before .before .before .before .before .before .pre .2) (c .before .before .before .before .before .before .before .before .before .before .pre .0 .accepted) _ (c .before .before .argument-at .ensures), c .before .extent-in .ensures)
+place-type-requires c κs = (turn-type _ _ _ _ (omega (arith, c .before .before .before .loop-test .taken, c .before .before .before .before .loop .inv .1)) (c .before .before .before .before .loop .inv .0 .turn) (c .before .before .before .before .before .before .before .before .before .before .before .before .pre .0 .accepted) _ (c .before .before .argument-at .ensures), turn-room-left _ _ _ _ (omega (arith, c .before .before .before .loop-test .taken, c .before .before .before .before .loop .inv .1)) (c .before .before .before .before .loop .inv .0 .turn) _ (c .before .before .before .before .before .before .before .before .before .before .before .before .pre .2) (c .before .before .before .before .before .before .before .before .before .before .before .before .pre .0 .accepted) _ (c .before .before .argument-at .ensures) _ (ap (ltb _) (c .before .before .before .before .loop .inv .2)), turn-small _ _ _ _ (omega (arith, c .before .before .before .loop-test .taken, c .before .before .before .before .loop .inv .1)) (c .before .before .before .before .loop .inv .0 .turn) _ (c .before .before .before .before .before .before .before .before .before .before .before .before .pre .2) (c .before .before .before .before .before .before .before .before .before .before .before .before .pre .0 .accepted) _ (c .before .before .argument-at .ensures) _ (ap (ltb _) (c .before .before .before .before .loop .inv .2)), c .before .extent-in .ensures)
 
 place-one-requires : tie.Need-place-one-requires Inv-loop μ-loop
-place-one-requires c κs = turn-move _ _ _ _ (omega (arith, c .before .before .before .before .before .before .loop-test .taken, c .before .before .before .before .before .before .before .loop .inv .1)) (c .before .before .before .before .before .before .before .loop .inv .0 .turn) _ (turn-step _ _ _ _ (omega (arith, c .before .before .before .before .before .before .loop-test .taken, c .before .before .before .before .before .before .before .loop .inv .1)) (c .before .before .before .before .before .before .before .loop .inv .0 .turn) _ (c .before .before .before .before .before .before .before .before .before .before .before .before .before .pre .2) (c .before .before .before .before .before .before .before .before .before .before .before .before .before .pre .0 .accepted) _ (c .before .before .before .before .before .argument-at .ensures) (c .before .before .before .before .extent-in .result) (c .before .before .before .before .extent-in .ensures) (c .before .before .place-type .result) (c .before .before .place-type .ensures)) _ _ _ (c .before .before .before .before .before .before .before .loop .inv .0 .lent)
+place-one-requires c κs = turn-move _ _ _ _ (omega (arith, c .before .before .before .before .before .before .before .loop-test .taken, c .before .before .before .before .before .before .before .before .loop .inv .1)) (c .before .before .before .before .before .before .before .before .loop .inv .0 .turn) _ (turn-step _ _ _ _ (omega (arith, c .before .before .before .before .before .before .before .loop-test .taken, c .before .before .before .before .before .before .before .before .loop .inv .1)) (c .before .before .before .before .before .before .before .before .loop .inv .0 .turn) _ (c .before .before .before .before .before .before .before .before .before .before .before .before .before .before .before .before .pre .2) (c .before .before .before .before .before .before .before .before .before .before .before .before .before .before .before .before .pre .0 .accepted) _ (c .before .before .before .before .before .before .argument-at .ensures) _ (ap (ltb _) (c .before .before .before .before .before .before .before .before .loop .inv .2)) (c .before .before .before .before .before .extent-in .result) (c .before .before .before .before .before .extent-in .ensures) (c .before .before .before .place-type .result) (c .before .before .before .place-type .ensures)) _ _ _ _ (c .before .before .before .before .before .before .before .before .loop .inv .0 .lent)
 
 plus-requires : tie.Need-plus-requires Inv-loop μ-loop
-plus-requires c κs = turn-room _ _ _ _ (omega (arith, c .before .before .before .before .before .before .before .before .before .before .before .loop-test .taken, c .before .before .before .before .before .before .before .before .before .before .before .before .loop .inv .1)) (c .before .before .before .before .before .before .before .before .before .before .before .before .loop .inv .0 .turn) _ (turn-step _ _ _ _ (omega (arith, c .before .before .before .before .before .before .before .before .before .before .before .loop-test .taken, c .before .before .before .before .before .before .before .before .before .before .before .before .loop .inv .1)) (c .before .before .before .before .before .before .before .before .before .before .before .before .loop .inv .0 .turn) _ (c .before .before .before .before .before .before .before .before .before .before .before .before .before .before .before .before .before .before .pre .2) (c .before .before .before .before .before .before .before .before .before .before .before .before .before .before .before .before .before .before .pre .0 .accepted) _ (c .before .before .before .before .before .before .before .before .before .before .argument-at .ensures) (c .before .before .before .before .before .before .before .before .before .extent-in .result) (c .before .before .before .before .before .before .before .before .before .extent-in .ensures) (c .before .before .before .before .before .before .before .place-type .result) (c .before .before .before .before .before .before .before .place-type .ensures)) _ _ _ (c .before .before .before .before .before .before .before .before .before .before .before .before .loop .inv .0 .lent)
+plus-requires c κs = turn-room _ _ _ _ (omega (arith, c .before .before .before .before .before .before .before .before .before .before .before .before .before .before .loop-test .taken, c .before .before .before .before .before .before .before .before .before .before .before .before .before .before .before .loop .inv .1)) (c .before .before .before .before .before .before .before .before .before .before .before .before .before .before .before .loop .inv .0 .turn) _ (turn-step _ _ _ _ (omega (arith, c .before .before .before .before .before .before .before .before .before .before .before .before .before .before .loop-test .taken, c .before .before .before .before .before .before .before .before .before .before .before .before .before .before .before .loop .inv .1)) (c .before .before .before .before .before .before .before .before .before .before .before .before .before .before .before .loop .inv .0 .turn) _ (c .before .before .before .before .before .before .before .before .before .before .before .before .before .before .before .before .before .before .before .before .before .before .before .pre .2) (c .before .before .before .before .before .before .before .before .before .before .before .before .before .before .before .before .before .before .before .before .before .before .before .pre .0 .accepted) _ (c .before .before .before .before .before .before .before .before .before .before .before .before .before .argument-at .ensures) _ (ap (ltb _) (c .before .before .before .before .before .before .before .before .before .before .before .before .before .before .before .loop .inv .2)) (c .before .before .before .before .before .before .before .before .before .before .before .before .extent-in .result) (c .before .before .before .before .before .before .before .before .before .before .before .before .extent-in .ensures) (c .before .before .before .before .before .before .before .before .before .before .place-type .result) (c .before .before .before .before .before .before .before .before .before .before .place-type .ensures)) _ _ _ _ (c .before .before .before .before .before .before .before .before .before .before .before .before .before .before .before .loop .inv .0 .lent)
 
 add-i : tie.Need-add-i Inv-loop μ-loop
 add-i c = omega arith
@@ -43,7 +49,7 @@ loop-less : tie.Need-loop-less Inv-loop μ-loop
 loop-less c = omega arith
 
 loop-again : tie.Need-loop-again Inv-loop μ-loop
-loop-again c = (placing-next _ _ _ _ _ _ _ _ _ (omega (arith, c .before .before .before .before .before .before .before .before .before .before .before .before .before .loop-test .taken, c .before .before .before .before .before .before .before .before .before .before .before .before .before .before .loop .inv .1)) (c .before .before .before .before .before .before .before .before .before .before .before .before .before .before .loop .inv .0) _ (turn-step _ _ _ _ (omega (arith, c .before .before .before .before .before .before .before .before .before .before .before .before .before .loop-test .taken, c .before .before .before .before .before .before .before .before .before .before .before .before .before .before .loop .inv .1)) (c .before .before .before .before .before .before .before .before .before .before .before .before .before .before .loop .inv .0 .turn) _ (c .before .before .before .before .before .before .before .before .before .before .before .before .before .before .before .before .before .before .before .before .pre .2) (c .before .before .before .before .before .before .before .before .before .before .before .before .before .before .before .before .before .before .before .before .pre .0 .accepted) _ (c .before .before .before .before .before .before .before .before .before .before .before .before .argument-at .ensures) (c .before .before .before .before .before .before .before .before .before .before .before .extent-in .result) (c .before .before .before .before .before .before .before .before .before .before .before .extent-in .ensures) (c .before .before .before .before .before .before .before .before .before .place-type .result) (c .before .before .before .before .before .before .before .before .before .place-type .ensures)) _ (c .before .plus .ensures) _ _ (omega arith) (omega arith) (c .before .before .before .before .before .before .place-one .ensures), c .before .before .before .before .before .before .before .before .before .before .before .before .before .before .loop .inv .1)
+loop-again c = (placing-next _ _ _ _ _ _ _ _ _ _ _ (omega (arith, c .before .before .before .before .before .before .before .before .before .before .before .before .before .before .before .before .loop-test .taken, c .before .before .before .before .before .before .before .before .before .before .before .before .before .before .before .before .before .loop .inv .1)) (c .before .before .before .before .before .before .before .before .before .before .before .before .before .before .before .before .before .loop .inv .0) _ (turn-step _ _ _ _ (omega (arith, c .before .before .before .before .before .before .before .before .before .before .before .before .before .before .before .before .loop-test .taken, c .before .before .before .before .before .before .before .before .before .before .before .before .before .before .before .before .before .loop .inv .1)) (c .before .before .before .before .before .before .before .before .before .before .before .before .before .before .before .before .before .loop .inv .0 .turn) _ (c .before .before .before .before .before .before .before .before .before .before .before .before .before .before .before .before .before .before .before .before .before .before .before .before .before .pre .2) (c .before .before .before .before .before .before .before .before .before .before .before .before .before .before .before .before .before .before .before .before .before .before .before .before .before .pre .0 .accepted) _ (c .before .before .before .before .before .before .before .before .before .before .before .before .before .before .before .argument-at .ensures) _ (ap (ltb _) (c .before .before .before .before .before .before .before .before .before .before .before .before .before .before .before .before .before .loop .inv .2)) (c .before .before .before .before .before .before .before .before .before .before .before .before .before .before .extent-in .result) (c .before .before .before .before .before .before .before .before .before .before .before .before .before .before .extent-in .ensures) (c .before .before .before .before .before .before .before .before .before .before .before .before .place-type .result) (c .before .before .before .before .before .before .before .before .before .before .before .before .place-type .ensures)) _ (c .before .plus .ensures) _ _ _ (omega arith) (omega arith) (omega arith) (c .before .before .before .before .before .before .before .before .place-one .ensures), c .before .before .before .before .before .before .before .before .before .before .before .before .before .before .before .before .before .loop .inv .1, c .before .before .before .before .before .before .before .before .before .before .before .before .before .before .before .before .before .loop .inv .2)
 
 same-length : tie.Need-same-length Inv-loop μ-loop
 same-length c = omega arith
@@ -51,8 +57,11 @@ same-length c = omega arith
 same-length-2 : tie.Need-same-length-2 Inv-loop μ-loop
 same-length-2 c = omega arith
 
+same-length-3 : tie.Need-same-length-3 Inv-loop μ-loop
+same-length-3 c = omega arith
+
 returns : tie.Need-returns Inv-loop μ-loop
-returns c = placing-last _ _ _ _ _ _ _ _ _ (omega (arith, c .loop-test .left, c .before .loop .inv .1)) (c .before .loop .inv .0)
+returns c = placing-last _ _ _ _ _ _ _ _ _ _ _ (omega (arith, c .loop-test .left, c .before .loop .inv .1)) (c .before .loop .inv .0)
 
 pub place-all-spec : {M : Type 1} → statement M
 place-all-spec =
@@ -61,6 +70,7 @@ place-all-spec =
     Inv-loop
     μ-loop
     byte-at-requires
+    byte-at-requires-2
     loop-holds
     argument-at-requires
     extent-in-requires
@@ -72,4 +82,5 @@ place-all-spec =
     loop-again
     same-length
     same-length-2
+    same-length-3
     returns)

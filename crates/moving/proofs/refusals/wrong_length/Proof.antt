@@ -26,7 +26,14 @@ same-requires-3 c κs = search needs
 
 returns-3 : tie.Need-returns-3
 unfolding wrongLength
-returns-3 c = rw (sym (c .before .before .before .before .same .ensures) ∙ not-false _ (c .before .before .before .if1 .left), sym (c .before .before .same2 .ensures) ∙ not-false _ (c .before .if2 .left), c .same3 .ensures)
+returns-3 c = rw (sym (c .before .before .before .before .before .same .ensures) ∙ not-false _ (c .before .before .before .before .if1 .left), sym (c .before .before .before .same2 .ensures) ∙ not-false _ (c .before .before .if2 .left), sym (c .before .same3 .ensures) ∙ not-true _ (c .if3 .taken))
+
+same-requires-4 : tie.Need-same-requires-4
+same-requires-4 c κs = search needs
+
+returns-4 : tie.Need-returns-4
+unfolding wrongLength
+returns-4 c = rw (sym (c .before .before .before .before .before .before .same .ensures) ∙ not-false _ (c .before .before .before .before .before .if1 .left), sym (c .before .before .before .before .same2 .ensures) ∙ not-false _ (c .before .before .before .if2 .left), sym (c .before .before .same3 .ensures) ∙ not-false _ (c .before .if3 .left), c .same4 .ensures)
 
 pub wrong-length-spec : {M : Type 1} → statement M
 wrong-length-spec =
@@ -37,4 +44,6 @@ wrong-length-spec =
     same-requires-2
     returns-2
     same-requires-3
-    returns-3)
+    returns-3
+    same-requires-4
+    returns-4)

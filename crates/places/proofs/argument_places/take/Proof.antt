@@ -1,7 +1,7 @@
 -- `take` meets its contract.
 -- Assumes nothing.
 use borrow.Author.Needs.{needs}
-use Rattle.places.proofs.Records.{taken-general, taken-vector, taken-upper}
+use Rattle.places.proofs.Records.{taken-general, taken-vector, taken-wide, taken-upper}
 use Rattle.places.proofs.argument_places.take.Statement.{statement}
 use Rattle.places.proofs.argument_places.take.Tie as tie
 
@@ -23,6 +23,12 @@ enum-told-3 c = search needs
 before-last-requires : tie.Need-before-last-requires
 before-last-requires c κs = search needs
 
+enum-told-4 : tie.Need-enum-told-4
+enum-told-4 c = search needs
+
+one-more-requires-3 : tie.Need-one-more-requires-3
+one-more-requires-3 c κs = search needs
+
 returns : tie.Need-returns
 returns c = rw (c .before .enum-told .given .1) (taken-general _ _ (c .one-more .ensures))
 
@@ -31,6 +37,9 @@ returns-2 c = rw (c .before .enum-told2 .given .1) (taken-vector _ _ (c .one-mor
 
 returns-3 : tie.Need-returns-3
 returns-3 c = rw (c .before .enum-told3 .given .1) (taken-upper _ _ (c .before-last .ensures))
+
+returns-4 : tie.Need-returns-4
+returns-4 c = rw (c .before .enum-told4 .given .1) (taken-wide _ _ (c .one-more3 .ensures))
 
 pub take-spec : {M : Type 1} → statement M
 take-spec =
@@ -42,6 +51,9 @@ take-spec =
     one-more-requires-2
     enum-told-3
     before-last-requires
+    enum-told-4
+    one-more-requires-3
     returns
     returns-2
-    returns-3)
+    returns-3
+    returns-4)

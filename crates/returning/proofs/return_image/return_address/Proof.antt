@@ -2,7 +2,7 @@
 -- Assumes nothing.
 use native.Mathlib.Omega.{arith}
 use borrow.Author.Needs.{needs}
-use Rattle.places.specs.declared.Register.the-variants.{General, Vector, Upper}
+use Rattle.places.specs.declared.Register.the-variants.{General, Vector, Upper, Wide}
 use Rattle.returning.specs.ImageAsks.{Returning}
 use Rattle.returning.proofs.return_image.return_address.Statement.{statement}
 use Rattle.returning.proofs.return_image.return_address.Tie as tie
@@ -31,6 +31,15 @@ vector-bytes-requires-2 c κs = let k : Returning (Upper (c .before .register3 .
 plus-requires-2 : tie.Need-plus-requires-2
 plus-requires-2 c κs = let k : Returning (Upper (c .before .before .register3 .given .0 .0)) = rw (c .before .before .register3 .given .1) at (c .before .before .before .before .pre) in omega (arith, c .vector-bytes2 .ensures)
 
+enum-known-register-4 : tie.Need-enum-known-register-4
+enum-known-register-4 c = search needs
+
+vector-bytes-requires-3 : tie.Need-vector-bytes-requires-3
+vector-bytes-requires-3 c κs = let k : Returning (Wide (c .before .register4 .given .0 .0)) = rw (c .before .register4 .given .1) at (c .before .before .before .pre) in omega arith
+
+plus-requires-3 : tie.Need-plus-requires-3
+plus-requires-3 c κs = let k : Returning (Wide (c .before .before .register4 .given .0 .0)) = rw (c .before .before .register4 .given .1) at (c .before .before .before .before .pre) in omega (arith, c .vector-bytes3 .ensures)
+
 returns : tie.Need-returns
 returns c = rw (c .before .before .register .given .1) (c .general-bytes .ensures)
 
@@ -39,6 +48,9 @@ returns-2 c = rw (c .before .before .before .register2 .given .1) (omega (arith,
 
 returns-3 : tie.Need-returns-3
 returns-3 c = rw (c .before .before .before .register3 .given .1) (omega (arith, c .before .vector-bytes2 .ensures, c .plus2 .ensures))
+
+returns-4 : tie.Need-returns-4
+returns-4 c = rw (c .before .before .before .register4 .given .1) (omega (arith, c .before .vector-bytes3 .ensures, c .plus3 .ensures))
 
 pub return-address-spec : {M : Type 1} → statement M
 return-address-spec =
@@ -52,6 +64,10 @@ return-address-spec =
     enum-known-register-3
     vector-bytes-requires-2
     plus-requires-2
+    enum-known-register-4
+    vector-bytes-requires-3
+    plus-requires-3
     returns
     returns-2
-    returns-3)
+    returns-3
+    returns-4)

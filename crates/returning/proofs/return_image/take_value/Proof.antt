@@ -14,10 +14,10 @@ clear-requires : tie.Need-clear-requires
 clear-requires c κs = search needs
 
 take-part-requires : tie.Need-take-part-requires
-take-part-requires c κs = asks-low _ _ (c .before .before .before .before .before .before .before .before .before .before .pre .0) _ (c .before .before .before .before .before .before .before .parts-of .ensures) _ _ _ refl (omega arith) (c .before .before .before .before .before .before .before .before .before .before .pre .1)
+take-part-requires c κs = asks-low _ _ (c .before .before .before .before .before .before .before .before .before .before .before .pre .0) _ (c .before .before .before .before .before .before .before .parts-of .ensures) _ _ _ _ refl (omega arith) (c .before .before .before .before .before .before .before .before .before .before .before .pre .1) (c .before .before .before .before .before .before .before .before .before .before .before .pre .2)
 
 take-part-requires-2 : tie.Need-take-part-requires-2
-take-part-requires-2 c κs = asks-high _ _ (c .before .before .before .before .before .before .before .before .before .before .before .before .before .before .pre .0) _ (c .before .before .before .before .before .before .before .before .before .before .before .parts-of .ensures) _ _ _ refl (omega arith) (c .before .before .before .before .before .before .before .before .before .before .before .before .before .before .pre .1)
+take-part-requires-2 c κs = asks-high _ _ (c .before .before .before .before .before .before .before .before .before .before .before .before .before .before .before .pre .0) _ (c .before .before .before .before .before .before .before .before .before .before .before .parts-of .ensures) _ _ _ _ refl (omega arith) (c .before .before .before .before .before .before .before .before .before .before .before .before .before .before .before .pre .1) (c .before .before .before .before .before .before .before .before .before .before .before .before .before .before .before .pre .2)
 
 same-length : tie.Need-same-length
 same-length c = search needs

@@ -1,13 +1,14 @@
 -- `basic_extent` meets its contract: 15 is the pointer's entry, and no other one changes with the model.
 -- Assumes nothing.
 use mathlib.Core.Path.{ap, _∙_}
+use mathlib.Core.List.{[], _∷_}
 use borrow.Author.Needs.{needs}
 use lib.ListN.{take}
 use denote.Ref.{now}
 use Rattle.description.specs.declared.Model.the-variants.{Lp64}
 use Rattle.description.specs.Description.{modelIn}
 use Rattle.types.specs.Basic.{pointer, sizes, aligns, basicSize, basicAlign}
-use Rattle.types.proofs.Sizes.{before-last}
+use Rattle.types.proofs.Sizes.{other-entry}
 use Rattle.types.proofs.extents.basic_extent.Statement.{statement}
 use Rattle.types.proofs.extents.basic_extent.Tie as tie
 
@@ -39,8 +40,8 @@ number-requires-2 c κs = search needs
 returns-2 : tie.Need-returns-2
 unfolding basicSize basicAlign
 returns-2 c = (
-  c .before .number .ensures ∙ before-last (take 15 (sizes Lp64)) (pointer (modelIn (now (c .before .before .before .before .args .d)))) (c .before .before .before .before .args .code) 0 1 (search needs),
-  c .number2 .ensures ∙ before-last (take 15 (aligns Lp64)) (pointer (modelIn (now (c .before .before .before .before .args .d)))) (c .before .before .before .before .args .code) 0 1 (search needs),
+  c .before .number .ensures ∙ other-entry (take 15 (sizes Lp64)) (32 ∷ []) 8 (pointer (modelIn (now (c .before .before .before .before .args .d)))) (c .before .before .before .before .args .code) 0 1 (search needs) (search needs),
+  c .number2 .ensures ∙ other-entry (take 15 (aligns Lp64)) (32 ∷ []) 8 (pointer (modelIn (now (c .before .before .before .before .args .d)))) (c .before .before .before .before .args .code) 0 1 (search needs) (search needs),
 )
 
 pub basic-extent-spec : {M : Type 1} → statement M

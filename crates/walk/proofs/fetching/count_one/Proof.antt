@@ -20,6 +20,12 @@ one-more-requires-2 c κs = search needs
 enum-told-3 : tie.Need-enum-told-3
 enum-told-3 c = search needs
 
+enum-told-4 : tie.Need-enum-told-4
+enum-told-4 c = search needs
+
+one-more-requires-3 : tie.Need-one-more-requires-3
+one-more-requires-3 c κs = search needs
+
 returns : tie.Need-returns
 returns c = rw (c .before .enum-told .given .1) (c .one-more .ensures, omega arith)
 
@@ -28,6 +34,9 @@ returns-2 c = rw (c .before .enum-told2 .given .1) (omega arith, c .one-more2 .e
 
 returns-3 : tie.Need-returns-3
 returns-3 c = rw (c .enum-told3 .given .1) (omega arith, omega arith)
+
+returns-4 : tie.Need-returns-4
+returns-4 c = rw (c .before .enum-told4 .given .1) (omega arith, c .one-more3 .ensures)
 
 pub count-one-spec : {M : Type 1} → statement M
 count-one-spec =
@@ -38,6 +47,9 @@ count-one-spec =
     enum-told-2
     one-more-requires-2
     enum-told-3
+    enum-told-4
+    one-more-requires-3
     returns
     returns-2
-    returns-3)
+    returns-3
+    returns-4)

@@ -14,7 +14,7 @@ fits-requires : tie.Need-fits-requires
 fits-requires c κs = search needs
 
 returns : tie.Need-returns
-returns c = read-stack (c .before .before .before .args .walk) (c .before .before .before .args .shape) (c .before .before .raise-overflow .result .0) (sym (c .before .fits2 .ensures) ∙ not-true _ (c .if1 .taken)) (c .before .before .before .pre .1 .aligned) (c .before .before .raise-overflow .ensures)
+returns c = read-stack (c .before .before .before .args .walk) (c .before .before .before .args .shape) (c .before .before .raise-overflow .result .0) (sym (c .before .fits2 .ensures) ∙ not-true _ (c .if1 .taken)) (c .before .before .raise-overflow .ensures)
 
 registers-for-requires : tie.Need-registers-for-requires
 registers-for-requires c κs = search needs

@@ -36,13 +36,13 @@ raise-overflow-requires : tie.Need-raise-overflow-requires
 raise-overflow-requires c κs = search needs
 
 plus-requires-3 : tie.Need-plus-requires-3
-plus-requires-3 c κs = omega (arith, raised-small (c .before .before .before .before .before .before .before .args .shape .align .0) (c .before .before .before .before .before .before .before .args .walk .overflow .0) (c .raise-overflow .result .0) (c .before .before .before .before .before .before .before .pre .0 .overflow) (c .raise-overflow .ensures), c .before .before .before .before .before .before .before .pre .1 .size)
+plus-requires-3 c κs = omega (arith, raised-small (c .before .before .before .before .before .before .before .args .shape .align .0) (c .before .before .before .before .before .before .before .args .walk .overflow .0) (c .raise-overflow .result .0) (c .before .before .before .before .before .before .before .pre .1 .align) (c .before .before .before .before .before .before .before .pre .0 .overflow) (c .raise-overflow .ensures), c .before .before .before .before .before .before .before .pre .1 .size)
 
 raise-to-requires : tie.Need-raise-to-requires
-raise-to-requires c κs = (omega arith, omega (arith, raised-small (c .before .before .before .before .before .before .before .before .args .shape .align .0) (c .before .before .before .before .before .before .before .before .args .walk .overflow .0) (c .before .raise-overflow .result .0) (c .before .before .before .before .before .before .before .before .pre .0 .overflow) (c .before .raise-overflow .ensures), c .before .before .before .before .before .before .before .before .pre .1 .size, c .plus3 .ensures))
+raise-to-requires c κs = (omega arith, omega (arith, raised-small (c .before .before .before .before .before .before .before .before .args .shape .align .0) (c .before .before .before .before .before .before .before .before .args .walk .overflow .0) (c .before .raise-overflow .result .0) (c .before .before .before .before .before .before .before .before .pre .1 .align) (c .before .before .before .before .before .before .before .before .pre .0 .overflow) (c .before .raise-overflow .ensures), c .before .before .before .before .before .before .before .before .pre .1 .size, c .plus3 .ensures))
 
 returns-2 : tie.Need-returns-2
-returns-2 c = moved-stack (c .before .before .before .before .before .before .before .before .before .args .walk) (c .before .before .before .before .before .before .before .before .before .args .shape) _ (c .before .before .raise-overflow .result .0) (c .raise-to .result) (sym (c .before .before .before .before .fits2 .ensures) ∙ c .before .before .before .if1 .left) refl (c .before .before .before .before .before .before .before .before .before .pre .1 .aligned) (c .before .before .raise-overflow .ensures) (c .raise-to .ensures ∙ ap (raise 8) (c .before .plus3 .ensures))
+returns-2 c = moved-stack (c .before .before .before .before .before .before .before .before .before .args .walk) (c .before .before .before .before .before .before .before .before .before .args .shape) _ (c .before .before .raise-overflow .result .0) (c .raise-to .result) (sym (c .before .before .before .before .fits2 .ensures) ∙ c .before .before .before .if1 .left) refl (c .before .before .raise-overflow .ensures) (c .raise-to .ensures ∙ ap (raise 8) (c .before .plus3 .ensures))
 
 pub moved-on-spec : {M : Type 1} → statement M
 moved-on-spec =

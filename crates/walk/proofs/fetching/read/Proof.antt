@@ -29,6 +29,9 @@ enum-told-3 c = search needs
 minus-requires : tie.Need-minus-requires
 minus-requires c κs = search needs
 
+enum-told-4 : tie.Need-enum-told-4
+enum-told-4 c = search needs
+
 returns : tie.Need-returns
 returns c = rw (c .enum-told .given .1) (omega (arith, c .before .before .before .before .plus .ensures, c .before .before .before .before .before .general-bytes .ensures))
 
@@ -37,6 +40,9 @@ returns-2 c = rw (c .enum-told2 .given .1) (omega (arith, c .before .before .plu
 
 returns-3 : tie.Need-returns-3
 returns-3 c = rw (c .before .enum-told3 .given .1) (omega (arith, c .minus .ensures, c .before .before .before .plus2 .ensures, c .before .before .before .before .vector-bytes .ensures))
+
+returns-4 : tie.Need-returns-4
+returns-4 c = rw (c .enum-told4 .given .1) (omega (arith, c .before .before .plus2 .ensures, c .before .before .before .vector-bytes .ensures))
 
 pub read-spec : {M : Type 1} → statement M
 read-spec =
@@ -50,6 +56,8 @@ read-spec =
     enum-told-2
     enum-told-3
     minus-requires
+    enum-told-4
     returns
     returns-2
-    returns-3)
+    returns-3
+    returns-4)
