@@ -8,3 +8,4 @@ pub mod Loop
 pub mod Lists
 pub mod Stacked
 pub mod Needed
+pub mod Extending

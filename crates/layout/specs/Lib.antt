@@ -6,3 +6,4 @@ pub mod Placements
 pub mod Asks
 pub mod Lists
 pub mod StackNeeds
+pub mod Extending

@@ -9,3 +9,4 @@ pub mod Turns
 pub mod Loops
 pub mod Orders
 pub mod Searching
+pub mod Extending

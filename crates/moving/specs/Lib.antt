@@ -7,3 +7,4 @@ pub mod Frames
 pub mod Movers
 pub mod Asks
 pub mod Orders
+pub mod Extending

@@ -9,4 +9,5 @@ pub mod Demand3
 pub mod Calls
 pub mod Exports
 pub mod NeedsStack
+pub mod Extending
 pub mod Tidying
