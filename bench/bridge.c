@@ -8,6 +8,7 @@ static uint8_t registers[SHAPES][CB_REGISTER_IMAGE], upper[SHAPES][CB_UPPER_IMAG
 static uint8_t seat[SHAPES][CB_SEAT_LENGTH];
 static cb_station station[SHAPES];
 static cb_walk started[SHAPES];
+static uint8_t returned[SHAPES][CB_RETURN_IMAGE], returned_upper[SHAPES][CB_RETURN_UPPER];
 
 static void place(int which)
 {
@@ -78,6 +79,26 @@ static void first_step(int which)
     step(which, &walk, shapes[which].named);
 }
 
+static void show(int which)
+{
+    cb_part part;
+    cb_show(&station[which], seat[which], CB_SEAT_LENGTH, &started[which], registers[which], CB_REGISTER_IMAGE, stack[which], layout[which].area,
+            type_of(which, shapes[which].named), &part);
+}
+
+static void put(int which)
+{
+    cb_put_returned(shapes[which].description, shapes[which].length, 0, packed[which], layout[which].return_size, returned[which], CB_RETURN_IMAGE,
+                    returned_upper[which], CB_RETURN_UPPER);
+}
+
+static void take(int which)
+{
+    cb_gathered taken;
+    cb_take_returned(shapes[which].description, shapes[which].length, returned[which], CB_RETURN_IMAGE, returned_upper[which], CB_RETURN_UPPER, out,
+                     layout[which].return_size, &taken);
+}
+
 const operation bridge_operations[] = {
     { "cb_check", prepare, check },
     { "cb_layout_of", prepare, decide },
@@ -86,5 +107,8 @@ const operation bridge_operations[] = {
     { "cb_gather_values", prepare, gather },
     { "cb_open_walk and every step", prepare_walk, walk_all },
     { "the first cb_step", prepare_walk, first_step },
+    { "the first cb_show", prepare_walk, show },
+    { "cb_put_returned", prepare, put },
+    { "cb_take_returned", prepare, take },
     { 0, 0, 0 }
 };

@@ -1,4 +1,5 @@
-/* Counts the instructions of calls under callgrind: one dump for each count, which the report reads by its name. */
+/* Counts what calls cost: instructions, under callgrind or under qemu with bench/qemu_counter.c, or nanoseconds where the program is run by itself.
+   One line is written for each count, in the order of the counts: the case, the operation, how many calls, and the nanoseconds of one. */
 #ifndef COUNT_H
 #define COUNT_H
 
