@@ -1,5 +1,5 @@
 -- The layout as a whole: what is used and how many bytes the values have after any number of arguments. Assumes nothing.
-use mathlib.Core.Path.{_≡_, refl, sym, ap, ap₂, _∙_}
+use mathlib.Core.Path.{_≡_, refl, sym, ap, _∙_}
 use mathlib.Core.Bool.{Bool, true, false, cond}
 use mathlib.Core.List.{List}
 use Prim.Native.Nat.{ℕ, zero, suc, _+_, _-_, _^_, _≤_, _<_}
@@ -112,7 +112,7 @@ module _ (d : List ℕ) where
             ∙ sym (ap total (shapes-split d n m order) ∙ total-append (shapesFrom d 0 n) (shapesFrom d n (m - n)))
 
   -- rounding the area up does not overflow
-  pub whole-small : usesRefusal d ≡ 0 → (u : Used) → u ≡ usedAt d (argumentsIn d) → u .stack .0 + 32 ≤ 2 ^ 63
+  pub whole-small : usesRefusal d ≡ 0 → (u : Used) → u ≡ usedAt d (argumentsIn d) → u .stack .0 ≤ 2 ^ 20
   whole-small right u e =
       omega (
         arith,
@@ -121,12 +121,12 @@ module _ (d : List ℕ) where
         arguments-few d right,
       )
 
-  pub layout-is : (r : Layout) → r .used ≡ usedAt d (argumentsIn d) → r .align .0 ≡ areaAlign (r .used) → r .area .0 ≡ raise (r .align .0) (r .used .stack .0)
+  pub layout-is : (r : Layout) → r .used ≡ usedAt d (argumentsIn d) → r .align .0 ≡ areaAlign (r .used) → r .area .0 ≡ raise (areaAlign (r .used)) (r .used .stack .0)
       → r .values .0 ≡ valuesAt (argumentsIn d) → r .returns ≡ returnPlace d → r .returned .0 ≡ returnedSize d → r .hidden ≡ hidden d → r .named ≡ usedAt d (namedIn d) → r ≡ layoutOf d
   unfolding layoutOf valuesOf valuesAt areaOf area usedAt
   layout-is r u l a v p s q n =
       let align : r .align .0 ≡ areaAlign (usedAt d (argumentsIn d)) = l ∙ ap areaAlign u in
-      let area : r .area .0 ≡ areaOf d = a ∙ ap₂ (λ (m : ℕ) (x : Used). raise m (x .stack .0)) align u in
+      let area : r .area .0 ≡ areaOf d = a ∙ ap (λ (x : Used). raise (areaAlign x) (x .stack .0)) u in
       λ i. record { used = u i; area = record { 0 = area i }; align = record { 0 = align i }; values = record { 0 = v i }; returns = p i; returned = record { 0 = s i }; hidden = q i; named = n i }
 
 -- the answer

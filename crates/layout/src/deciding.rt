@@ -52,7 +52,7 @@ fn lay(d: &[u8], table: &[u32; 64]) -> Layout
     let used = all.used;
     let values = all.values;
     let align = places::area_align(used);
-    let area = units::raise_to(align, used.stack);
+    let area = places::area_of(used);
     let returns = placements::return_of(d, table);
     let returned = placements::returned_size(d, table);
     Layout {

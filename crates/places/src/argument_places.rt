@@ -68,6 +68,17 @@ pub fn area_align(used: Used) -> Bytes
     if used.strict { Bytes(32) } else { Bytes(16) }
 }
 
+// The area: what ends at `stack`, rounded up to its alignment.
+pub fn area_of(used: Used) -> Bytes
+    requires { ⌜ used .stack .0 ≤ 2 ^ 20 ⌝ }
+    ensures { λ r. ⌜ r .0 ≡ raise (areaAlign used) (used .stack .0) ⌝ }
+{
+    if used.strict {
+        return units::raise_to(Bytes(32), used.stack);
+    }
+    units::raise_to(Bytes(16), used.stack)
+}
+
 // ---- registers
 
 // The next register for one eightbyte, be there so many or not.
@@ -203,38 +214,51 @@ fn is_unnamed_wide(table: &[u32; 64], k: usize, named: bool) -> bool
     classify::is_wide(table, k)
 }
 
-// What is used once an argument of type k is on the stack.
+// What is used once an argument of type k is on the stack: a short way for one that is aligned to 8 or less, as most are, and never makes the area's
+// alignment 32.
 fn use_stack(used: Used, table: &[u32; 64], k: usize, named: bool) -> Used
     requires { ⌜ (k < 64) × Room used × Small (shapeIn named (getD (now table) k 0)) ⌝ }
     ensures { λ r. ⌜ r ≡ stacking eights used (shapeIn named (getD (now (table .entry)) k 0)) ⌝ }
 {
     let extent = types::extent_in(table, k);
-    on_stack(used, extent.size, extent.align).used
+    if units::over(extent.align, Bytes(8)) {
+        return on_stack(used, extent.size, extent.align).used;
+    }
+    let general = used.general;
+    let vector = used.vector;
+    let strict = used.strict;
+    let offset = units::raise_to(Bytes(8), used.stack);
+    let end = units::raise_to(Bytes(8), units::plus(offset, extent.size));
+    Used {
+        general: general,
+        vector: vector,
+        stack: end,
+        strict: strict,
+    }
 }
 
-// What is used after an argument of type k, as `place_shape` says it, without the place.
+// What is used after an argument of type k, as `place_shape` says it, without the place. Whether an unnamed one is wide is asked only where there are
+// registers for it.
 pub fn use_type(used: Used, table: &[u32; 64], k: usize, named: bool) -> Used
     requires { ⌜ (k < 64) × Room used × Small (shapeIn named (getD (now table) k 0)) × Asking (getD (now table) k 0) ⌝ }
     ensures { λ r. ⌜ r ≡ next eights used (shapeIn named (getD (now (table .entry)) k 0)) ⌝ }
 {
-    if is_unnamed_wide(table, k, named) {
-        return use_stack(used, table, k, named);
-    }
     let asks = asks_in(table, k);
-    let generals = units::with_more(used.general, asks.general);
-    if !units::at_most(generals, Registers(6)) {
-        return use_stack(used, table, k, named);
-    }
-    let vectors = units::with_more(used.vector, asks.vector);
-    if !units::at_most(vectors, Registers(8)) {
-        return use_stack(used, table, k, named);
-    }
     let stack = used.stack;
     let strict = used.strict;
-    Used {
-        general: generals,
-        vector: vectors,
-        stack: stack,
-        strict: strict,
+    let generals = units::with_more(used.general, asks.general);
+    if units::at_most(generals, Registers(6)) {
+        let vectors = units::with_more(used.vector, asks.vector);
+        if units::at_most(vectors, Registers(8)) {
+            if !is_unnamed_wide(table, k, named) {
+                return Used {
+                    general: generals,
+                    vector: vectors,
+                    stack: stack,
+                    strict: strict,
+                };
+            }
+        }
     }
+    use_stack(used, table, k, named)
 }

@@ -8,7 +8,6 @@ use denote.Ref.{now}
 use Rattle.layout.specs.Arguments.{usedAt}
 use Rattle.layout.proofs.Layouts.{valuesAt, named-alike, unnamed-alike, asks-first, laid-used, asks-rest, whole-used, whole-values, whole-small, layout-is}
 use Rattle.uses.proofs.Uses.{accepted-typed}
-use Rattle.places.proofs.Apart.{align-few}
 use Rattle.layout.proofs.deciding.lay.Statement.{statement}
 use Rattle.layout.proofs.deciding.lay.Tie as tie
 
@@ -35,11 +34,11 @@ lay-more-requires-2 c κs =
 area-align-requires : tie.Need-area-align-requires
 area-align-requires c κs = search needs
 
-raise-to-requires : tie.Need-raise-to-requires
-raise-to-requires c κs =
+area-of-requires : tie.Need-area-of-requires
+area-of-requires c κs =
     let order : c .before .before .before .before .before .before .before .before .before .byte-at .result ≤ c .before .before .before .before .before .before .before .before .byte-at2 .result = omega (arith, c .before .before .before .before .before .before .before .before .before .byte-at .ensures .0, c .before .before .before .before .before .before .before .before .byte-at2 .ensures .0, accepted-typed (now (c .before .before .before .before .before .before .before .before .before .before .before .args .d)) (c .before .before .before .before .before .before .before .before .before .before .before .pre .0) .named) in
     let used = whole-used (now (c .before .before .before .before .before .before .before .before .before .before .before .args .d)) (c .before .before .before .before .before .before .before .hidden-of .result) (c .before .before .before .before .before .before .fresh .result) (c .before .before .before .before .before .before .before .hidden-of .ensures) (c .before .before .before .before .before .before .fresh .ensures) (c .before .before .before .before .before .lay-more .result) (c .before .before .before .lay-more2 .result) (c .before .before .before .before .before .before .before .before .before .byte-at .result) (c .before .before .before .before .before .before .before .before .byte-at2 .result) order (c .before .before .before .before .before .lay-more .ensures) (c .before .before .before .lay-more2 .ensures) ∙ ap (usedAt (now (c .before .before .before .before .before .before .before .before .before .before .before .args .d))) (c .before .before .before .before .before .before .before .before .byte-at2 .ensures .0) in
-    omega (arith, whole-small (now (c .before .before .before .before .before .before .before .before .before .before .before .args .d)) (c .before .before .before .before .before .before .before .before .before .before .before .pre .0) _ used, c .area-align .ensures, align-few (c .before .before .before .lay-more2 .result .used))
+    whole-small (now (c .before .before .before .before .before .before .before .before .before .before .before .args .d)) (c .before .before .before .before .before .before .before .before .before .before .before .pre .0) _ used
 
 return-of-requires : tie.Need-return-of-requires
 return-of-requires c κs = search needs
@@ -53,7 +52,7 @@ returns c =
     let used = whole-used (now (c .before .before .before .before .before .before .before .before .before .before .before .before .before .before .args .d)) (c .before .before .before .before .before .before .before .before .before .before .hidden-of .result) (c .before .before .before .before .before .before .before .before .before .fresh .result) (c .before .before .before .before .before .before .before .before .before .before .hidden-of .ensures) (c .before .before .before .before .before .before .before .before .before .fresh .ensures) (c .before .before .before .before .before .before .before .before .lay-more .result) (c .before .before .before .before .before .before .lay-more2 .result) (c .before .before .before .before .before .before .before .before .before .before .before .before .byte-at .result) (c .before .before .before .before .before .before .before .before .before .before .before .byte-at2 .result) order (c .before .before .before .before .before .before .before .before .lay-more .ensures) (c .before .before .before .before .before .before .lay-more2 .ensures) ∙ ap (usedAt (now (c .before .before .before .before .before .before .before .before .before .before .before .before .before .before .args .d))) (c .before .before .before .before .before .before .before .before .before .before .before .byte-at2 .ensures .0) in
     let values = whole-values (now (c .before .before .before .before .before .before .before .before .before .before .before .before .before .before .args .d)) (c .before .before .before .before .before .before .before .before .before .before .hidden-of .result) (c .before .before .before .before .before .before .before .before .before .fresh .result) (c .before .before .before .before .before .before .before .before .before .before .hidden-of .ensures) (c .before .before .before .before .before .before .before .before .before .fresh .ensures) (c .before .before .before .before .before .before .before .before .lay-more .result) (c .before .before .before .before .before .before .lay-more2 .result) (c .before .before .before .before .before .before .before .before .before .before .before .before .byte-at .result) (c .before .before .before .before .before .before .before .before .before .before .before .byte-at2 .result) order (c .before .before .before .before .before .before .before .before .lay-more .ensures) (c .before .before .before .before .before .before .lay-more2 .ensures) ∙ ap (valuesAt (now (c .before .before .before .before .before .before .before .before .before .before .before .before .before .before .args .d))) (c .before .before .before .before .before .before .before .before .before .before .before .byte-at2 .ensures .0) in
     let named = laid-used (now (c .before .before .before .before .before .before .before .before .before .before .before .before .before .before .args .d)) (c .before .before .before .before .before .before .before .before .before .before .hidden-of .result) (c .before .before .before .before .before .before .before .before .before .fresh .result) (c .before .before .before .before .before .before .before .before .before .before .hidden-of .ensures) (c .before .before .before .before .before .before .before .before .before .fresh .ensures) (c .before .before .before .before .before .before .before .before .before .before .before .before .byte-at .result) (c .before .before .before .before .before .before .before .before .lay-more .result) (c .before .before .before .before .before .before .before .before .lay-more .ensures) ∙ ap (usedAt (now (c .before .before .before .before .before .before .before .before .before .before .before .before .before .before .args .d))) (c .before .before .before .before .before .before .before .before .before .before .before .before .byte-at .ensures .0) in
-    layout-is (now (c .before .before .before .before .before .before .before .before .before .before .before .before .before .before .args .d)) _ used (c .before .before .before .area-align .ensures) (c .before .before .raise-to .ensures) values (c .before .return-of .ensures) (c .returned-size .ensures) (c .before .before .before .before .before .before .before .before .before .before .hidden-of .ensures) named
+    layout-is (now (c .before .before .before .before .before .before .before .before .before .before .before .before .before .before .args .d)) _ used (c .before .before .before .area-align .ensures) (c .before .before .area-of .ensures) values (c .before .return-of .ensures) (c .returned-size .ensures) (c .before .before .before .before .before .before .before .before .before .before .hidden-of .ensures) named
 
 pub lay-spec : {M : Type 1} → statement M
 lay-spec =
@@ -66,7 +65,7 @@ lay-spec =
     lay-more-requires
     lay-more-requires-2
     area-align-requires
-    raise-to-requires
+    area-of-requires
     return-of-requires
     returned-size-requires
     returns)
