@@ -20,10 +20,13 @@ use Rattle.uses.specs.Uses.{usesRefusal}
 use Rattle.uses.proofs.Uses.{accepted-types, accepted-typed}
 use Rattle.places.specs.declared.Used.{Used}
 use Rattle.places.specs.declared.Placed.{Placed}
-use Rattle.places.specs.Shapes.{Shape, shapeOf, shapeIn}
+use Rattle.places.specs.Shapes.{Shape, shapeOf, shapeIn, Asking}
 use Rattle.places.specs.Places.{eights, place, next, after}
 use Rattle.places.specs.Images.{total}
+use Rattle.places.specs.Asked.{Between}
+use Rattle.places.specs.declared.Place.{Place as Record}
 use Rattle.places.specs.Recorded.{placeOf, recorded, Room, Small, IsPlaced}
+use Rattle.places.proofs.Asking.{asking-known}
 use Rattle.places.proofs.Prefix.{total-append}
 use Rattle.places.proofs.Apart.{after-grows}
 use Rattle.places.proofs.Offsets.{area-rounded}
@@ -145,13 +148,30 @@ module _ (d : List ℕ) where
       turn-shape =
           shape-known d table tabled b n (omega (arith, e, known a i l)) ∙ ap₂ (λ (c : Bool) (j : ℕ). shapeOf (modelIn d) c (tyAt d j)) f e
 
-      pub turn-room-left : Room u
+      turn-room-left : Room u
       turn-room-left = before-room i u (omega (arith, arguments-few d (right a))) (turn-asks a .before)
 
-      pub turn-small : Small (shapeIn b (getD table n 0))
+      turn-small : Small (shapeIn b (getD table n 0))
       turn-small = rw turn-shape (argument-small d (right a) i l)
 
-      pub turn-step : (x : Extent) → IsEntry (getD table n 0) x → (p : Placed) → IsPlaced (place eights u (shapeIn b (getD table n 0))) (next eights u (shapeIn b (getD table n 0))) p
+      -- what `use_type` and `place_between` ask
+      pub turn-uses : (n < 64) × Room u × Small (shapeIn b (getD table n 0)) × Asking (getD table n 0)
+      turn-uses = (turn-type a n e, turn-room-left, turn-small, asking-known d table tabled n (omega (arith, e, known a i l)))
+
+      turn-between : (w : Used) → w ≡ next eights u (shapeIn b (getD table n 0)) → Between b (getD table n 0) u w
+      unfolding shapeIn
+      turn-between w h = record {
+        shaped = rw turn-shape (argument-shaped d (right a) i l);
+        some = omega (arith, ap (λ (s : Shape). s .size) turn-shape, value-some a i l);
+        after = h;
+      }
+
+      pub turn-finds : (x : Extent) → IsEntry (getD table n 0) x → (w : Used) → w ≡ next eights u (shapeIn b (getD table n 0))
+          → (n < 64) × (u .stack .0 ≤ 2 ^ 20) × (x .align .0 ≤ 32) × IsEntry (getD table n 0) x × Between b (getD table n 0) u w
+      unfolding shapeIn
+      turn-finds x h w f = (turn-type a n e, turn-room-left .stack, omega (arith, h .align, turn-small .align), h, turn-between w f)
+
+      turn-step : (x : Extent) → IsEntry (getD table n 0) x → (p : Placed) → IsPlaced (place eights u (shapeIn b (getD table n 0))) (next eights u (shapeIn b (getD table n 0))) p
           → _≡_ {A = Step} (record { placement = record { ty = n; size = x .size; align = x .align; place = p .place }; used = p .used }) (stepAt d u i)
       unfolding stepAt shapeIn
       turn-step x h p q =
@@ -160,6 +180,12 @@ module _ (d : List ℕ) where
           let placed = place-is (p .place) (place eights u (shapeIn b (getD table n 0))) (q .place) ∙ ap (λ (s : Shape). recorded (place eights u s)) turn-shape in
           let used = q .used ∙ ap (λ (s : Shape). next eights u s) turn-shape in
           λ j. record { placement = record { ty = e j; size = record { 0 = size j }; align = record { 0 = align j }; place = placed j }; used = used j }
+
+      -- the step that they give
+      pub turn-made : (x : Extent) → IsEntry (getD table n 0) x → (w : Used) → w ≡ next eights u (shapeIn b (getD table n 0))
+          → (p : Record) → placeOf p ≡ place eights u (shapeIn b (getD table n 0))
+          → _≡_ {A = Step} (record { placement = record { ty = n; size = x .size; align = x .align; place = p }; used = w }) (stepAt d u i)
+      turn-made x h w f p g = turn-step x h (record { place = p; used = w }) (record { place = g; used = f })
 
     module _ (z : Step) (e : z ≡ stepAt d u i) where
       pub step-size : z .placement .size .0 ≡ shapeAt d i .size

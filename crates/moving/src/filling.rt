@@ -53,11 +53,11 @@ fn place_all(
         let k = description::argument_at(d, i);
         let extent = types::extent_in(table, k);
         let size = extent.size;
-        let placed = places::place_type(used, table, k, extent, i < named);
-        let place = placed.place;
+        let after = places::use_type(used, table, k, i < named);
+        let place = places::place_between(used, after, table, k, extent, i < named);
         images::place_one(registers, upper, stack, place, size, values, start);
         start = units::plus(start, size);
-        used = placed.used;
+        used = after;
         i += 1;
     }
 }
@@ -112,11 +112,11 @@ pub fn gather_all(
         let k = description::argument_at(d, i);
         let extent = types::extent_in(table, k);
         let size = extent.size;
-        let placed = places::place_type(used, table, k, extent, i < named);
-        let place = placed.place;
+        let after = places::use_type(used, table, k, i < named);
+        let place = places::place_between(used, after, table, k, extent, i < named);
         images::gather_one(registers, upper, stack, place, size, values, start);
         start = units::plus(start, size);
-        used = placed.used;
+        used = after;
         i += 1;
     }
 }

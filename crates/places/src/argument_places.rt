@@ -24,7 +24,7 @@ ghost use Rattle.classify.specs.Table.{wideIn};
 ghost use Rattle.places.specs.Shapes.{shapeIn, Asking};
 
 // "The lowest offset, after the one before, that is a multiple of 8 and of its alignment".
-fn stack_start(end: Bytes, align: Bytes) -> Bytes
+pub fn stack_start(end: Bytes, align: Bytes) -> Bytes
     requires { ⌜ (end .0 ≤ 2 ^ 20) × (align .0 ≤ 32) ⌝ }
     ensures { λ r. ⌜ r .0 ≡ raise (max 8 (align .0)) (end .0) ⌝ }
 {

@@ -6,7 +6,7 @@ use native.Mathlib.Omega.{arith}
 use lib.Dec.{ltb}
 use Rattle.description.specs.Description.{namedIn, argumentsIn}
 use Rattle.moving.proofs.Loops.{Placing, placing-first, placing-next, placing-last}
-use Rattle.moving.proofs.Turns.{whole, turn-type, turn-room-left, turn-small, turn-step, turn-move, turn-room}
+use Rattle.moving.proofs.Turns.{whole, turn-type, turn-uses, turn-finds, turn-made, turn-move, turn-room}
 use Rattle.moving.proofs.filling.place_all.Statement.{statement}
 use Rattle.moving.proofs.filling.place_all.Tie as tie
 
@@ -33,14 +33,17 @@ argument-at-requires c κs = (whole _ (c .before .before .before .before .before
 extent-in-requires : tie.Need-extent-in-requires Inv-loop μ-loop
 extent-in-requires c κs = turn-type _ _ _ _ (omega (arith, c .before .loop-test .taken, c .before .before .loop .inv .1)) (c .before .before .loop .inv .0 .turn) (c .before .before .before .before .before .before .before .before .before .before .pre .0 .accepted) _ (c .argument-at .ensures)
 
-place-type-requires : tie.Need-place-type-requires Inv-loop μ-loop
-place-type-requires c κs = (turn-type _ _ _ _ (omega (arith, c .before .before .before .loop-test .taken, c .before .before .before .before .loop .inv .1)) (c .before .before .before .before .loop .inv .0 .turn) (c .before .before .before .before .before .before .before .before .before .before .before .before .pre .0 .accepted) _ (c .before .before .argument-at .ensures), turn-room-left _ _ _ _ (omega (arith, c .before .before .before .loop-test .taken, c .before .before .before .before .loop .inv .1)) (c .before .before .before .before .loop .inv .0 .turn) _ (c .before .before .before .before .before .before .before .before .before .before .before .before .pre .2) (c .before .before .before .before .before .before .before .before .before .before .before .before .pre .0 .accepted) _ (c .before .before .argument-at .ensures) _ (ap (ltb _) (c .before .before .before .before .loop .inv .2)), turn-small _ _ _ _ (omega (arith, c .before .before .before .loop-test .taken, c .before .before .before .before .loop .inv .1)) (c .before .before .before .before .loop .inv .0 .turn) _ (c .before .before .before .before .before .before .before .before .before .before .before .before .pre .2) (c .before .before .before .before .before .before .before .before .before .before .before .before .pre .0 .accepted) _ (c .before .before .argument-at .ensures) _ (ap (ltb _) (c .before .before .before .before .loop .inv .2)), c .before .extent-in .ensures)
+use-type-requires : tie.Need-use-type-requires Inv-loop μ-loop
+use-type-requires c κs = turn-uses _ _ _ _ (omega (arith, c .before .before .before .loop-test .taken, c .before .before .before .before .loop .inv .1)) (c .before .before .before .before .loop .inv .0 .turn) _ (c .before .before .before .before .before .before .before .before .before .before .before .before .pre .2) (c .before .before .before .before .before .before .before .before .before .before .before .before .pre .0 .accepted) _ (c .before .before .argument-at .ensures) _ (ap (ltb _) (c .before .before .before .before .loop .inv .2))
+
+place-between-requires : tie.Need-place-between-requires Inv-loop μ-loop
+place-between-requires c κs = turn-finds _ _ _ _ (omega (arith, c .before .before .before .before .loop-test .taken, c .before .before .before .before .before .loop .inv .1)) (c .before .before .before .before .before .loop .inv .0 .turn) _ (c .before .before .before .before .before .before .before .before .before .before .before .before .before .pre .2) (c .before .before .before .before .before .before .before .before .before .before .before .before .before .pre .0 .accepted) _ (c .before .before .before .argument-at .ensures) _ (ap (ltb _) (c .before .before .before .before .before .loop .inv .2)) (c .before .before .extent-in .result) (c .before .before .extent-in .ensures) (c .use-type .result) (c .use-type .ensures)
 
 place-one-requires : tie.Need-place-one-requires Inv-loop μ-loop
-place-one-requires c κs = turn-move _ _ _ _ (omega (arith, c .before .before .before .before .before .before .before .loop-test .taken, c .before .before .before .before .before .before .before .before .loop .inv .1)) (c .before .before .before .before .before .before .before .before .loop .inv .0 .turn) _ (turn-step _ _ _ _ (omega (arith, c .before .before .before .before .before .before .before .loop-test .taken, c .before .before .before .before .before .before .before .before .loop .inv .1)) (c .before .before .before .before .before .before .before .before .loop .inv .0 .turn) _ (c .before .before .before .before .before .before .before .before .before .before .before .before .before .before .before .before .pre .2) (c .before .before .before .before .before .before .before .before .before .before .before .before .before .before .before .before .pre .0 .accepted) _ (c .before .before .before .before .before .before .argument-at .ensures) _ (ap (ltb _) (c .before .before .before .before .before .before .before .before .loop .inv .2)) (c .before .before .before .before .before .extent-in .result) (c .before .before .before .before .before .extent-in .ensures) (c .before .before .before .place-type .result) (c .before .before .before .place-type .ensures)) _ _ _ _ (c .before .before .before .before .before .before .before .before .loop .inv .0 .lent)
+place-one-requires c κs = turn-move _ _ _ _ (omega (arith, c .before .before .before .before .before .before .before .before .loop-test .taken, c .before .before .before .before .before .before .before .before .before .loop .inv .1)) (c .before .before .before .before .before .before .before .before .before .loop .inv .0 .turn) _ (turn-made _ _ _ _ (omega (arith, c .before .before .before .before .before .before .before .before .loop-test .taken, c .before .before .before .before .before .before .before .before .before .loop .inv .1)) (c .before .before .before .before .before .before .before .before .before .loop .inv .0 .turn) _ (c .before .before .before .before .before .before .before .before .before .before .before .before .before .before .before .before .before .pre .2) (c .before .before .before .before .before .before .before .before .before .before .before .before .before .before .before .before .before .pre .0 .accepted) _ (c .before .before .before .before .before .before .before .argument-at .ensures) _ (ap (ltb _) (c .before .before .before .before .before .before .before .before .before .loop .inv .2)) (c .before .before .before .before .before .before .extent-in .result) (c .before .before .before .before .before .before .extent-in .ensures) (c .before .before .before .before .use-type .result) (c .before .before .before .before .use-type .ensures) (c .before .before .before .place-between .result) (c .before .before .before .place-between .ensures)) _ _ _ _ (c .before .before .before .before .before .before .before .before .before .loop .inv .0 .lent)
 
 plus-requires : tie.Need-plus-requires Inv-loop μ-loop
-plus-requires c κs = turn-room _ _ _ _ (omega (arith, c .before .before .before .before .before .before .before .before .before .before .before .before .before .before .loop-test .taken, c .before .before .before .before .before .before .before .before .before .before .before .before .before .before .before .loop .inv .1)) (c .before .before .before .before .before .before .before .before .before .before .before .before .before .before .before .loop .inv .0 .turn) _ (turn-step _ _ _ _ (omega (arith, c .before .before .before .before .before .before .before .before .before .before .before .before .before .before .loop-test .taken, c .before .before .before .before .before .before .before .before .before .before .before .before .before .before .before .loop .inv .1)) (c .before .before .before .before .before .before .before .before .before .before .before .before .before .before .before .loop .inv .0 .turn) _ (c .before .before .before .before .before .before .before .before .before .before .before .before .before .before .before .before .before .before .before .before .before .before .before .pre .2) (c .before .before .before .before .before .before .before .before .before .before .before .before .before .before .before .before .before .before .before .before .before .before .before .pre .0 .accepted) _ (c .before .before .before .before .before .before .before .before .before .before .before .before .before .argument-at .ensures) _ (ap (ltb _) (c .before .before .before .before .before .before .before .before .before .before .before .before .before .before .before .loop .inv .2)) (c .before .before .before .before .before .before .before .before .before .before .before .before .extent-in .result) (c .before .before .before .before .before .before .before .before .before .before .before .before .extent-in .ensures) (c .before .before .before .before .before .before .before .before .before .before .place-type .result) (c .before .before .before .before .before .before .before .before .before .before .place-type .ensures)) _ _ _ _ (c .before .before .before .before .before .before .before .before .before .before .before .before .before .before .before .loop .inv .0 .lent)
+plus-requires c κs = turn-room _ _ _ _ (omega (arith, c .before .before .before .before .before .before .before .before .before .before .before .before .before .before .before .loop-test .taken, c .before .before .before .before .before .before .before .before .before .before .before .before .before .before .before .before .loop .inv .1)) (c .before .before .before .before .before .before .before .before .before .before .before .before .before .before .before .before .loop .inv .0 .turn) _ (turn-made _ _ _ _ (omega (arith, c .before .before .before .before .before .before .before .before .before .before .before .before .before .before .before .loop-test .taken, c .before .before .before .before .before .before .before .before .before .before .before .before .before .before .before .before .loop .inv .1)) (c .before .before .before .before .before .before .before .before .before .before .before .before .before .before .before .before .loop .inv .0 .turn) _ (c .before .before .before .before .before .before .before .before .before .before .before .before .before .before .before .before .before .before .before .before .before .before .before .before .pre .2) (c .before .before .before .before .before .before .before .before .before .before .before .before .before .before .before .before .before .before .before .before .before .before .before .before .pre .0 .accepted) _ (c .before .before .before .before .before .before .before .before .before .before .before .before .before .before .argument-at .ensures) _ (ap (ltb _) (c .before .before .before .before .before .before .before .before .before .before .before .before .before .before .before .before .loop .inv .2)) (c .before .before .before .before .before .before .before .before .before .before .before .before .before .extent-in .result) (c .before .before .before .before .before .before .before .before .before .before .before .before .before .extent-in .ensures) (c .before .before .before .before .before .before .before .before .before .before .before .use-type .result) (c .before .before .before .before .before .before .before .before .before .before .before .use-type .ensures) (c .before .before .before .before .before .before .before .before .before .before .place-between .result) (c .before .before .before .before .before .before .before .before .before .before .place-between .ensures)) _ _ _ _ (c .before .before .before .before .before .before .before .before .before .before .before .before .before .before .before .before .loop .inv .0 .lent)
 
 add-i : tie.Need-add-i Inv-loop μ-loop
 add-i c = omega arith
@@ -49,7 +52,7 @@ loop-less : tie.Need-loop-less Inv-loop μ-loop
 loop-less c = omega arith
 
 loop-again : tie.Need-loop-again Inv-loop μ-loop
-loop-again c = (placing-next _ _ _ _ _ _ _ _ _ _ _ (omega (arith, c .before .before .before .before .before .before .before .before .before .before .before .before .before .before .before .before .loop-test .taken, c .before .before .before .before .before .before .before .before .before .before .before .before .before .before .before .before .before .loop .inv .1)) (c .before .before .before .before .before .before .before .before .before .before .before .before .before .before .before .before .before .loop .inv .0) _ (turn-step _ _ _ _ (omega (arith, c .before .before .before .before .before .before .before .before .before .before .before .before .before .before .before .before .loop-test .taken, c .before .before .before .before .before .before .before .before .before .before .before .before .before .before .before .before .before .loop .inv .1)) (c .before .before .before .before .before .before .before .before .before .before .before .before .before .before .before .before .before .loop .inv .0 .turn) _ (c .before .before .before .before .before .before .before .before .before .before .before .before .before .before .before .before .before .before .before .before .before .before .before .before .before .pre .2) (c .before .before .before .before .before .before .before .before .before .before .before .before .before .before .before .before .before .before .before .before .before .before .before .before .before .pre .0 .accepted) _ (c .before .before .before .before .before .before .before .before .before .before .before .before .before .before .before .argument-at .ensures) _ (ap (ltb _) (c .before .before .before .before .before .before .before .before .before .before .before .before .before .before .before .before .before .loop .inv .2)) (c .before .before .before .before .before .before .before .before .before .before .before .before .before .before .extent-in .result) (c .before .before .before .before .before .before .before .before .before .before .before .before .before .before .extent-in .ensures) (c .before .before .before .before .before .before .before .before .before .before .before .before .place-type .result) (c .before .before .before .before .before .before .before .before .before .before .before .before .place-type .ensures)) _ (c .before .plus .ensures) _ _ _ (omega arith) (omega arith) (omega arith) (c .before .before .before .before .before .before .before .before .place-one .ensures), c .before .before .before .before .before .before .before .before .before .before .before .before .before .before .before .before .before .loop .inv .1, c .before .before .before .before .before .before .before .before .before .before .before .before .before .before .before .before .before .loop .inv .2)
+loop-again c = (placing-next _ _ _ _ _ _ _ _ _ _ _ (omega (arith, c .before .before .before .before .before .before .before .before .before .before .before .before .before .before .before .before .loop-test .taken, c .before .before .before .before .before .before .before .before .before .before .before .before .before .before .before .before .before .loop .inv .1)) (c .before .before .before .before .before .before .before .before .before .before .before .before .before .before .before .before .before .loop .inv .0) _ (turn-made _ _ _ _ (omega (arith, c .before .before .before .before .before .before .before .before .before .before .before .before .before .before .before .before .loop-test .taken, c .before .before .before .before .before .before .before .before .before .before .before .before .before .before .before .before .before .loop .inv .1)) (c .before .before .before .before .before .before .before .before .before .before .before .before .before .before .before .before .before .loop .inv .0 .turn) _ (c .before .before .before .before .before .before .before .before .before .before .before .before .before .before .before .before .before .before .before .before .before .before .before .before .before .pre .2) (c .before .before .before .before .before .before .before .before .before .before .before .before .before .before .before .before .before .before .before .before .before .before .before .before .before .pre .0 .accepted) _ (c .before .before .before .before .before .before .before .before .before .before .before .before .before .before .before .argument-at .ensures) _ (ap (ltb _) (c .before .before .before .before .before .before .before .before .before .before .before .before .before .before .before .before .before .loop .inv .2)) (c .before .before .before .before .before .before .before .before .before .before .before .before .before .before .extent-in .result) (c .before .before .before .before .before .before .before .before .before .before .before .before .before .before .extent-in .ensures) (c .before .before .before .before .before .before .before .before .before .before .before .before .use-type .result) (c .before .before .before .before .before .before .before .before .before .before .before .before .use-type .ensures) (c .before .before .before .before .before .before .before .before .before .before .before .place-between .result) (c .before .before .before .before .before .before .before .before .before .before .before .place-between .ensures)) _ (c .plus .ensures) _ _ _ (omega arith) (omega arith) (omega arith) (c .before .before .before .before .before .before .before .place-one .ensures), c .before .before .before .before .before .before .before .before .before .before .before .before .before .before .before .before .before .loop .inv .1, c .before .before .before .before .before .before .before .before .before .before .before .before .before .before .before .before .before .loop .inv .2)
 
 same-length : tie.Need-same-length Inv-loop μ-loop
 same-length c = omega arith
@@ -74,7 +77,8 @@ place-all-spec =
     loop-holds
     argument-at-requires
     extent-in-requires
-    place-type-requires
+    use-type-requires
+    place-between-requires
     place-one-requires
     plus-requires
     add-i
