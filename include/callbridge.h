@@ -45,7 +45,7 @@ extern "C" {
    cb_refusal had no type; in version 2 structs had padding, a cb_layout had no return_size, `attached` had to be 0 or 1, and a refused
    call left a cb_part as it was; in version 3 there were no vectors of 32 bytes: no upper images, two classes in a cb_classes, no
    area_alignment in a cb_layout. */
-#define CB_VERSION 4
+#define CB_VERSION 5
 
 /* Sizes that the description's rules fix. */
 #define CB_MAX_ARGUMENTS 64      /* arguments of one call: a list of so many placements is always long enough */
@@ -57,7 +57,7 @@ extern "C" {
 #define CB_UPPER_IMAGE 128       /* bytes of the upper image, exactly: bytes 16 to 31 of ymm0 to ymm7, at 16 */
 #define CB_RETURN_IMAGE 80       /* bytes of the return image, exactly: rax, rdx at 8 bytes, xmm0, xmm1, st0, st1 at 16 */
 #define CB_RETURN_UPPER 16       /* bytes of the upper return image, exactly: bytes 16 to 31 of ymm0 */
-#define CB_LISTING_ROOM 4096     /* bytes of the buffer of cb_write_listing, exactly */
+#define CB_LISTING_ROOM 8192     /* bytes of the buffer of cb_write_listing, exactly */
 
 /* ---- the bytes of a description: docs/FORMAT.md and kcb(5) say what each is; cb_begin, below, builds one */
 
@@ -225,7 +225,8 @@ enum cb_register {
     CB_NONE = 255
 };
 
-/* One argument: its size and alignment in bytes, its type's number, and its place.
+/* One argument: its size and alignment in bytes, its type's number, its place, where its value begins in the packed values, and 1 where it
+   is named. The first value begins at 0, each other where the one before ends, and the last ends where the values of cb_layout end.
    In registers: first and second are an enum cb_register for each eightbyte, second is CB_NONE where there is one eightbyte, offset is 0.
    A vector of 32 bytes has CB_XMM0Y + k first and CB_NONE second: bytes 0 to 15 in the register image, 16 to 31 in the upper image.
    On the stack: first and second are CB_NONE, and offset is its first byte in the stack image. */
@@ -233,10 +234,12 @@ typedef struct cb_placement {
     size_t size;
     size_t align;
     size_t offset;
+    size_t value;
     uint8_t type;
     uint8_t first;
     uint8_t second;
-    uint8_t reserved[5];
+    uint8_t named;
+    uint8_t reserved[4];
 } cb_placement;
 
 /* A call as a whole.

@@ -23,9 +23,9 @@ import os
 import threading
 from typing import List, NamedTuple, Optional, Tuple, Union
 
-__version__ = '4.0.0'
+__version__ = '5.0.0'
 
-INTERFACE = 4  # CB_VERSION of the header that this module is written for
+INTERFACE = 5  # CB_VERSION of the header that this module is written for
 MAX_ARGUMENTS = 64
 MAX_DESCRIPTION = 586
 SEAT_LENGTH = 586
@@ -33,7 +33,7 @@ REGISTER_IMAGE = 176  # bytes: rdi, rsi, rdx, rcx, r8, r9 at 8, xmm0 to xmm7 at 
 UPPER_IMAGE = 128  # bytes: bytes 16 to 31 of ymm0 to ymm7, at 16
 RETURN_IMAGE = 80  # bytes: rax, rdx at 8, xmm0, xmm1, st0, st1 at 16
 RETURN_UPPER = 16  # bytes: bytes 16 to 31 of ymm0
-LISTING_ROOM = 4096
+LISTING_ROOM = 8192
 
 Bytes = Union[bytes, bytearray, memoryview]
 
@@ -105,10 +105,12 @@ cb_placement = _struct(
     ('size', _size),
     ('align', _size),
     ('offset', _size),
+    ('value', _size),
     ('type', _byte),
     ('first', _byte),
     ('second', _byte),
-    ('reserved', _byte * 5),
+    ('named', _byte),
+    ('reserved', _byte * 4),
 )
 cb_layout = _struct(
     'cb_layout',
@@ -358,12 +360,14 @@ class Place(NamedTuple):
 
 
 class Placement(NamedTuple):
-    """One argument: its type's number, its size and alignment in bytes, and its place."""
+    """One argument: its type's number, its size and alignment in bytes, its place, where its value begins in the packed values, and whether it is named."""
 
     type: int
     size: int
     align: int
     place: Place
+    value: int
+    named: bool
 
 
 class Layout(NamedTuple):
@@ -407,7 +411,7 @@ def _layout(of) -> Layout:
 
 def _placement(of) -> Placement:
     registers = _registers(of.first, of.second)
-    return Placement(of.type, of.size, of.align, Place(registers, None if registers else of.offset))
+    return Placement(of.type, of.size, of.align, Place(registers, None if registers else of.offset), of.value, of.named != 0)
 
 
 def layout_of(description: Bytes) -> Layout:

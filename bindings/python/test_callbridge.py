@@ -149,10 +149,10 @@ class Raw(Case):
     def test_reserved_bytes(self):
         layout, placements = rubbish(callbridge.cb_layout), rubbish(callbridge.cb_placement * 6)
         self.assertEqual(self.library.cb_lay_out(MIXED, len(MIXED), layout, placements, 4).number, 11)
-        self.assertEqual((bytes(layout), bytes(placements)), (b'\xa5' * 96, b'\xa5' * 192))
+        self.assertEqual((bytes(layout), bytes(placements)), (b'\xa5' * 96, b'\xa5' * 240))
         self.assertEqual(self.library.cb_lay_out(MIXED, len(MIXED), layout, placements, 6).number, 0)
-        self.assertEqual((bytes(layout.reserved), bytes(placements)[160:]), (bytes(5), b'\xa5' * 32))
-        self.assertEqual([bytes(one.reserved) for one in placements[:5]], [bytes(5)] * 5)
+        self.assertEqual((bytes(layout.reserved), bytes(placements)[200:]), (bytes(5), b'\xa5' * 40))
+        self.assertEqual([bytes(one.reserved) for one in placements[:5]], [bytes(4)] * 5)
 
     def test_any_number_but_0_is_attached(self):
         for number in range(1, 256):
@@ -258,6 +258,7 @@ class Layouts(Case):
         self.assertEqual(layout, (4, 2, 16, 16, 16, 60, 8, 2, 1, 16, 5, (Register.XMM0,), False))
         self.assertEqual([str(one.place) for one in placements], ['rdi', 'xmm0 rsi', 'stack 0', 'xmm1', 'rdx rcx'])
         self.assertEqual([one[:3] for one in placements], [(0, 4, 4), (3, 16, 8), (4, 16, 16), (1, 8, 8), (5, 16, 16)])
+        self.assertEqual([(one.value, one.named) for one in placements], [(0, True), (4, True), (20, True), (36, False), (44, False)])
         self.assertEqual(placements[2].place, ((), 0))
         self.assertEqual(placements[0].place, ((Register.RDI,), None))
 
@@ -510,22 +511,23 @@ class Anything(Case):
             accepted += 1
             values = bytes(one & 1 for one in noise(chance, layout.values))
             self.assertEqual(sum(one.size for one in placements), layout.values)
+            self.assertEqual([one.value for one in placements], [sum(two.size for two in placements[:n]) for n in range(len(placements))])
+            self.assertEqual([one.named for one in placements], [n < d[7] for n in range(len(placements))])
             placed = callbridge.place_values(d, values, 99)
             self.assertEqual(callbridge.gather_values(d, placed.registers, placed.upper, placed.stack), (values, 99 if layout.hidden else 0))
             station = Station()
             station.attach(d)
-            at = sum(one.size for one in placements[: d[7]])
             if d[6] % 2 == 0:
                 self.refused(16, station.open_walk)
                 continue
             walk = station.open_walk()
             for one in placements[d[7] :]:
+                value = values[one.value : one.value + one.size]
                 part = walk.show(placed.registers, placed.stack, one.type)
                 if part:
                     image = getattr(placed, part.image)
-                    self.assertEqual(image[part.offset : part.offset + part.length], values[at : at + one.size])
-                self.assertEqual(walk.step(placed.registers, placed.stack, one.type), values[at : at + one.size])
-                at += one.size
+                    self.assertEqual(image[part.offset : part.offset + part.length], value)
+                self.assertEqual(walk.step(placed.registers, placed.stack, one.type), value)
         self.assertGreater(accepted, 500)
 
 

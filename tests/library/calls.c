@@ -167,12 +167,10 @@ static cb_placement placements[CB_MAX_ARGUMENTS];
 
 static void handle(void *user, const void *const *values, void *result)
 {
-    size_t at = 0;
     expect("user", (uintptr_t)user, (uintptr_t)&arrivals);
     for (size_t i = 0; i < layout.arguments; i++) {
         expect("the alignment of a value", (uintptr_t)values[i] % 32, 0);
-        same("a value", (const uint8_t *)values[i], sent + at, placements[i].size);
-        at += placements[i].size;
+        same("a value", (const uint8_t *)values[i], sent + placements[i].value, placements[i].size);
     }
     memcpy(result, answer, answer_size);
     arrivals++;

@@ -300,9 +300,11 @@ static void lay_out(void)
         field(list[i].size);
         field(list[i].align);
         field(list[i].offset);
+        field(list[i].value);
         field(list[i].type);
         field(list[i].first);
         field(list[i].second);
+        field(list[i].named);
         RESERVED(&list[i]);
     }
     answer_canaries(LIST);

@@ -93,8 +93,9 @@ static void sizes(void)
     expect("sizeof(cb_part)", sizeof(cb_part),
            FIELD(cb_part, offset) + FIELD(cb_part, length) + FIELD(cb_part, image) + FIELD(cb_part, reserved));
     expect("sizeof(cb_placement)", sizeof(cb_placement),
-           FIELD(cb_placement, size) + FIELD(cb_placement, align) + FIELD(cb_placement, offset) + FIELD(cb_placement, type) +
-               FIELD(cb_placement, first) + FIELD(cb_placement, second) + FIELD(cb_placement, reserved));
+           FIELD(cb_placement, size) + FIELD(cb_placement, align) + FIELD(cb_placement, offset) + FIELD(cb_placement, value) +
+               FIELD(cb_placement, type) + FIELD(cb_placement, first) + FIELD(cb_placement, second) + FIELD(cb_placement, named) +
+               FIELD(cb_placement, reserved));
     expect("sizeof(cb_layout)", sizeof(cb_layout),
            FIELD(cb_layout, general_registers) + FIELD(cb_layout, vector_registers) + FIELD(cb_layout, stack_end) +
                FIELD(cb_layout, area) + FIELD(cb_layout, area_alignment) + FIELD(cb_layout, values) + FIELD(cb_layout, return_size) +
@@ -213,14 +214,16 @@ static void layouts(void)
            offsetof(cb_layout, reserved));
 }
 
-static void record(const cb_placement *is, size_t size, size_t align, size_t offset, size_t type, size_t first, size_t second)
+static void record(const cb_placement *is, size_t size, size_t align, size_t offset, size_t value, size_t type, size_t first, size_t second, size_t named)
 {
     expect("placement.size", is->size, size);
     expect("placement.align", is->align, align);
     expect("placement.offset", is->offset, offset);
+    expect("placement.value", is->value, value);
     expect("placement.type", is->type, type);
     expect("placement.first", is->first, first);
     expect("placement.second", is->second, second);
+    expect("placement.named", is->named, named);
     RESERVED(*is);
 }
 
@@ -231,18 +234,20 @@ static void lists(void)
     FRESH(records);
     answered("cb_lay_out", cb_lay_out(wide, sizeof wide, &whole, records, 14));
     all_are("the records behind the twelfth", &records[12], 2 * sizeof records[0], FILLING);
-    record(&records[0], 16, 16, 0, 0, CB_NONE, CB_NONE);
-    record(&records[1], 8, 8, 0, 1, CB_RDI, CB_NONE);
-    record(&records[7], 8, 8, 0, 2, CB_XMM5, CB_NONE);
-    record(&records[9], 16, 16, 32, 0, CB_NONE, CB_NONE);
-    record(&records[10], 24, 8, 48, 3, CB_NONE, CB_NONE);
-    record(&records[11], 8, 8, 0, 1, CB_RSI, CB_NONE);
+    record(&records[0], 16, 16, 0, 0, 0, CB_NONE, CB_NONE, 1);
+    record(&records[1], 8, 8, 0, 16, 1, CB_RDI, CB_NONE, 1);
+    record(&records[7], 8, 8, 0, 64, 2, CB_XMM5, CB_NONE, 1);
+    record(&records[9], 16, 16, 32, 88, 0, CB_NONE, CB_NONE, 0);
+    record(&records[10], 24, 8, 48, 104, 3, CB_NONE, CB_NONE, 0);
+    record(&records[11], 8, 8, 0, 128, 1, CB_RSI, CB_NONE, 0);
+    expect("where the last value ends", records[11].value + records[11].size, whole.values);
     answered("cb_lay_out", cb_lay_out(vector, sizeof vector, &whole, records, 14));
-    record(&records[1], 32, 32, 0, 1, CB_XMM0Y, CB_NONE);
-    record(&records[2], 32, 32, 0, 1, CB_NONE, CB_NONE);
-    printf("cb_placement %zu: size %zu align %zu offset %zu type %zu first %zu second %zu reserved %zu\n", sizeof(cb_placement),
-           offsetof(cb_placement, size), offsetof(cb_placement, align), offsetof(cb_placement, offset), offsetof(cb_placement, type),
-           offsetof(cb_placement, first), offsetof(cb_placement, second), offsetof(cb_placement, reserved));
+    record(&records[1], 32, 32, 0, 4, 1, CB_XMM0Y, CB_NONE, 1);
+    record(&records[2], 32, 32, 0, 36, 1, CB_NONE, CB_NONE, 0);
+    printf("cb_placement %zu: size %zu align %zu offset %zu value %zu type %zu first %zu second %zu named %zu reserved %zu\n",
+           sizeof(cb_placement), offsetof(cb_placement, size), offsetof(cb_placement, align), offsetof(cb_placement, offset),
+           offsetof(cb_placement, value), offsetof(cb_placement, type), offsetof(cb_placement, first), offsetof(cb_placement, second),
+           offsetof(cb_placement, named), offsetof(cb_placement, reserved));
 }
 
 static void needed(const uint8_t *description, size_t length, size_t looked, size_t is_needed)

@@ -97,6 +97,10 @@ pub struct Placement {
     pub size: usize,
     pub align: usize,
     pub place: Place,
+    /// Where its value begins in the packed values.
+    pub value: usize,
+    /// Whether it is one of the named arguments.
+    pub named: bool,
 }
 
 /// Where a value is returned.
@@ -151,10 +155,12 @@ const NO_PLACEMENT: raw::Placement = raw::Placement {
     size: 0,
     align: 0,
     offset: 0,
+    value: 0,
     type_number: 0,
     first: raw::NONE,
     second: raw::NONE,
-    reserved: [0; 5],
+    named: 0,
+    reserved: [0; 4],
 };
 
 fn layout_from(of: &raw::Layout) -> Layout {
@@ -182,7 +188,14 @@ fn placement_from(of: &raw::Placement) -> Placement {
         (Some(first), None) => Place::One(first),
         _ => Place::Stack(of.offset),
     };
-    Placement { type_number: of.type_number, size: of.size, align: of.align, place }
+    Placement {
+        type_number: of.type_number,
+        size: of.size,
+        align: of.align,
+        place,
+        value: of.value,
+        named: of.named != 0,
+    }
 }
 
 /// The layout of a call: refused 1 to 10.

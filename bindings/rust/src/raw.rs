@@ -102,10 +102,12 @@ pub struct Placement {
     pub size: usize,
     pub align: usize,
     pub offset: usize,
+    pub value: usize,
     pub type_number: u8,
     pub first: u8,
     pub second: u8,
-    pub reserved: [u8; 5],
+    pub named: u8,
+    pub reserved: [u8; 4],
 }
 
 #[repr(C)]

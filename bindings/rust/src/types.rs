@@ -109,8 +109,8 @@ pub fn tidy(description: &[u8]) -> Result<Vec<u8>, Refusal> {
 
 /// The layout as text, or the line `refused n`, or `refused n type t` where the refusal names a type.
 pub fn listing(description: &[u8]) -> String {
-    let mut out = [0u8; 4096];
-    // Safety: pointer and length are those of one slice; `out` has the 4096 bytes that the call wants.
+    let mut out = [0u8; 8192];
+    // Safety: pointer and length are those of one slice; `out` has the 8192 bytes that the call wants.
     let length =
         unsafe { raw::cb_write_listing(description.as_ptr(), description.len(), out.as_mut_ptr()) };
     String::from_utf8_lossy(&out[..length]).into_owned()

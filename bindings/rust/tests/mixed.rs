@@ -91,6 +91,11 @@ fn places() {
     let texts: Vec<String> = placements.iter().map(|one| one.place.to_string()).collect();
     assert_eq!(texts, ["rdi", "xmm0 rsi", "stack 0", "xmm1", "rdx rcx"]);
     assert_eq!(placements[2].place, Place::Stack(0));
+    let values: Vec<usize> = placements.iter().map(|one| one.value).collect();
+    assert_eq!(values, [0, 4, 20, 36, 44]);
+    let named: Vec<bool> = placements.iter().map(|one| one.named).collect();
+    assert_eq!(named, [true, true, true, false, false]);
+    assert!(callbridge::listing(MIXED).contains("3 type 1 size 8 align 8 xmm1 at 36 unnamed\n"));
     assert!(callbridge::listing(MIXED).ends_with("walk gp 16 fp 64 over 16\n"));
 }
 

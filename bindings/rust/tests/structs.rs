@@ -34,7 +34,7 @@ fn structs_are_those_of_the_library() {
             named_general_registers named_vector_registers named_stack_end
             arguments return_first return_second hidden reserved
         }
-        "cb_placement" Placement { size align offset type_number first second reserved }
+        "cb_placement" Placement { size align offset value type_number first second named reserved }
         "cb_stack_need" StackNeed { looked needed reserved }
         "cb_tidied" Tidied { length }
         "cb_placed" Placed { vector_registers }

@@ -8,18 +8,18 @@ use lib.Dec.{eqb}
 use lib.ListN.{replicate}
 use Rattle.description.specs.Description.{argumentsIn}
 use Rattle.types.specs.Wrong.{refusalFor}
-use Rattle.places.specs.declared.Used.{Used}
+use Rattle.layout.specs.declared.placements.Laying.{Laying}
 use Rattle.layout.specs.declared.Layout.{Layout as Whole}
 use Rattle.layout.specs.declared.placements.Placement.{Placement as Record}
 use Rattle.layout.specs.declared.lent_list.Begun.{Begun}
 use Rattle.layout.specs.declared.LayoutAnswer.{LayoutAnswer}
 use Rattle.layout.specs.declared.LayoutAnswer.the-variants.{Laid, Refused}
 use Rattle.layout.specs.Layout.{layoutOf as wholeOf, tableAfter}
-use Rattle.layout.specs.Asks.{AskArgument}
+use Rattle.layout.specs.Asks.{AskRecord}
 use Rattle.layout.specs.Verdict.{verdict}
 use Rattle.layout.specs.Placements.{stepAt}
-use Rattle.layout.specs.Lists.{listRefusal, listAnswer, listCount, listUsed, begunOf}
-use Rattle.layout.proofs.Lists.{begun-answer, begun-count, begun-used, turn-accepted, turn-asks, turn-record, turn-used}
+use Rattle.layout.specs.Lists.{listRefusal, listAnswer, listCount, listLaying, begunOf}
+use Rattle.layout.proofs.Lists.{begun-answer, begun-count, begun-before, turn-accepted, turn-asks, turn-record, turn-after}
 use Rattle.flat.specs.declared.Layout.{Layout}
 use Rattle.flat.specs.Records.{placementOf, layoutOf}
 use Rattle.c_calls.specs.declared.ListBegun.{ListBegun}
@@ -38,20 +38,20 @@ module _ (d : List ℕ) (room : ℕ) where
       by true q z = refl
       by false q z = absurd (let f : _≡_ {A = ℕ} 0 1 = cc in omega arith)
 
-  module _ (before : Layout) (b : Begun) (is : b ≡ begunOf d room) (r : ListBegun) (count : r .count ≡ b .count) (used : r .used ≡ b .used) (table : r .table ≡ tableAfter d (replicate 64 0)) where
+  module _ (before : Layout) (b : Begun) (is : b ≡ begunOf d room) (r : ListBegun) (count : r .count ≡ b .count) (laid : r .before ≡ b .before) (table : r .table ≡ tableAfter d (replicate 64 0)) where
     answer-is : listAnswer d room ≡ b .answer
     answer-is = sym (begun-answer d room) ∙ ap (λ (c : Begun). c .answer) (sym is)
 
     count-is : b .count ≡ listCount d room
     count-is = ap (λ (c : Begun). c .count) is ∙ begun-count d room
 
-    used-is : b .used ≡ listUsed d room 0
-    used-is = ap (λ (c : Begun). c .used) is ∙ begun-used d room
+    laying-is : b .before ≡ listLaying d room 0
+    laying-is = ap (λ (c : Begun). c .before) is ∙ begun-before d room
 
     joined : (a : LayoutAnswer) → listAnswer d room ≡ a → r .layout ≡ leftIn (layoutGiven (argumentsIn d) a) before → r .refusal ≡ refusalIn (layoutGiven (argumentsIn d) a)
         → r ≡ listBegun d before room
     unfolding listBegun listGiven
-    joined a e l f = rw e (λ i. record { layout = l i; refusal = f i; count = (count ∙ count-is) i; used = (used ∙ used-is) i; table = table i })
+    joined a e l f = rw e (λ i. record { layout = l i; refusal = f i; count = (count ∙ count-is) i; before = (laid ∙ laying-is) i; table = table i })
 
     -- as the code finds it: the summary that the answer gives
     pub begun-given : r .refusal ≡ refusalIn (layoutGiven (b .count) (b .answer)) → r .layout ≡ leftIn (layoutGiven (b .count) (b .answer)) before → r ≡ listBegun d before room
@@ -67,9 +67,9 @@ module _ (d : List ℕ) (room : ℕ) where
     unfolding listBegun
     row-count = refl
 
-    pub row-used : listBegun d before room .used ≡ listUsed d room 0
+    pub row-before : listBegun d before room .before ≡ listLaying d room 0
     unfolding listBegun
-    row-used = refl
+    row-before = refl
 
     pub row-refusal : listBegun d before room .refusal ≡ refusalIn (listGiven d room)
     unfolding listBegun
@@ -87,18 +87,18 @@ module _ (d : List ℕ) (room : ℕ) where
       pub row-accepted : verdict d ≡ 0
       row-accepted = turn-accepted d room i fewer
 
-      pub row-asks : AskArgument d i (listUsed d room i)
+      pub row-asks : AskRecord d i (listLaying d room i)
       row-asks = turn-asks d room i fewer
 
-      pub row-record : flatStep d (listUsed d room i) i .placement ≡ flatAt d i
+      pub row-record : flatStep d (listLaying d room i) i .placement ≡ flatAt d i
       unfolding flatStep flatAt
       row-record = ap placementOf (turn-record d room i fewer)
 
-      pub row-next : flatStep d (listUsed d room i) i .used ≡ listUsed d room (i + 1)
+      pub row-next : flatStep d (listLaying d room i) i .after ≡ listLaying d room (i + 1)
       unfolding flatStep
-      row-next = turn-used d room i fewer
+      row-next = turn-after d room i fewer
 
-pub step-is : (d : List ℕ) (u : Used) (i : ℕ) (r : FlatStep) (p : Record) → p ≡ stepAt d u i .placement → r .placement ≡ placementOf p → r .used ≡ stepAt d u i .used
-    → r ≡ flatStep d u i
+pub step-is : (d : List ℕ) (l : Laying) (i : ℕ) (r : FlatStep) (p : Record) → p ≡ stepAt d l i .placement → r .placement ≡ placementOf p → r .after ≡ stepAt d l i .after
+    → r ≡ flatStep d l i
 unfolding flatStep
-step-is d u i r p e q h j = record { placement = (q ∙ ap placementOf e) j; used = h j }
+step-is d l i r p e q h j = record { placement = (q ∙ ap placementOf e) j; after = h j }

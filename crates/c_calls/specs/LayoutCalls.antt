@@ -4,9 +4,9 @@ use Prim.Native.Nat.{ℕ}
 use Rattle.description.specs.Description.{argumentsIn}
 use lib.ListN.{replicate}
 use Rattle.layout.specs.Layout.{tableAfter}
-use Rattle.places.specs.declared.Used.{Used}
+use Rattle.layout.specs.declared.placements.Laying.{Laying}
 use Rattle.layout.specs.Placements.{stepAt, placementAt}
-use Rattle.layout.specs.Lists.{listAnswer, listCount, listUsed}
+use Rattle.layout.specs.Lists.{listAnswer, listCount, listLaying}
 use Rattle.flat.specs.declared.Layout.{Layout}
 use Rattle.flat.specs.declared.Placement.{Placement}
 use Rattle.layout.specs.declared.LayoutAnswer.{LayoutAnswer}
@@ -31,14 +31,14 @@ flatAt d i = placementOf (placementAt d i)
 
 -- what is decided before the first record
 unfoldable pub listBegun : List ℕ → Layout → ℕ → ListBegun
-listBegun d before room = record {
-  layout = leftIn (listGiven d room) before;
+listBegun d was room = record {
+  layout = leftIn (listGiven d room) was;
   refusal = refusalIn (listGiven d room);
   count = listCount d room;
-  used = listUsed d room 0;
+  before = listLaying d room 0;
   table = tableAfter d (replicate 64 0);
 }
 
--- one record where u is used before it, and what is used after it
-unfoldable pub flatStep : List ℕ → Used → ℕ → FlatStep
-flatStep d u i = record { placement = placementOf (stepAt d u i .placement); used = stepAt d u i .used }
+-- one record where l is laid out before it, and what is laid out after it
+unfoldable pub flatStep : List ℕ → Laying → ℕ → FlatStep
+flatStep d l i = record { placement = placementOf (stepAt d l i .placement); after = stepAt d l i .after }

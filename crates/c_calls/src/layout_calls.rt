@@ -4,15 +4,15 @@ use crate::FlatStep;
 use crate::GivenLayout;
 use crate::ListBegun;
 use flat::Layout;
+use layout::Laying;
 use layout::LayoutAnswer;
-use places::Used;
 ghost use mathlib.Core.Path.{_≡_};
 ghost use Prim.Native.Nat.{_≤_};
 ghost use Rattle.description.specs.Description.{argumentsIn};
 ghost use Rattle.classify.specs.Table.{Tabled};
 ghost use Rattle.layout.specs.Layout.{layoutAnswer};
 ghost use Rattle.layout.specs.Verdict.{verdict};
-ghost use Rattle.layout.specs.Asks.{AskArgument};
+ghost use Rattle.layout.specs.Asks.{AskRecord};
 ghost use Rattle.c_calls.specs.Outcome.{refusalIn, leftIn};
 ghost use Rattle.c_calls.specs.LayoutCalls.{layoutGiven, listBegun, flatStep};
 
@@ -52,37 +52,37 @@ pub fn layout_of(d: &[u8], before: Layout) -> GivenLayout
 }
 
 // The call as a whole, for a list of `room` records.
-pub fn begin_list(d: &[u8], before: Layout, room: usize) -> ListBegun
-    ensures { λ r. ⌜ (r ≡ listBegun (now (d .entry)) before room) × (r .count ≤ room)
+pub fn begin_list(d: &[u8], was: Layout, room: usize) -> ListBegun
+    ensures { λ r. ⌜ (r ≡ listBegun (now (d .entry)) was room) × (r .count ≤ room)
         × (verdict (now (d .entry)) ≡ 0 → Tabled (now (d .entry)) (r .table)) ⌝ }
 {
     let mut table = [0u32; 64];
     let begun = layout::begin_with(d, room, &mut table);
     let answer = begun.answer;
-    let used = begun.used;
-    let given = layout_given(answer, begun.count, before);
+    let before = begun.before;
+    let given = layout_given(answer, begun.count, was);
     let layout = given.layout;
     let refusal = given.refusal;
     ListBegun {
         layout: layout,
         refusal: refusal,
         count: begun.count,
-        used: used,
+        before: before,
         table: table,
     }
 }
 
-// The flat record of argument i, and what is used after it, by the table of the list that was begun.
-pub fn place_flat(d: &[u8], used: Used, i: usize, begun: ListBegun) -> FlatStep
-    requires { ⌜ AskArgument (now d) i used × Tabled (now d) (begun .table) ⌝ }
-    ensures { λ r. ⌜ r ≡ flatStep (now (d .entry)) used i ⌝ }
+// The flat record of argument i, and what is laid out after it, by the table of the list that was begun.
+pub fn place_flat(d: &[u8], before: Laying, i: usize, begun: ListBegun) -> FlatStep
+    requires { ⌜ AskRecord (now d) i before × Tabled (now d) (begun .table) ⌝ }
+    ensures { λ r. ⌜ r ≡ flatStep (now (d .entry)) before i ⌝ }
 {
     let table = begun.table;
-    let step = layout::place_argument(d, used, i, &table);
+    let step = layout::place_argument(d, before, i, &table);
     let record = step.placement;
-    let after = step.used;
+    let after = step.after;
     FlatStep {
         placement: flat::placement_of(record),
-        used: after,
+        after: after,
     }
 }

@@ -40,7 +40,7 @@ use flat::Station;
 use flat::Tidied;
 use flat::Walk;
 use form::Refusal;
-use places::Used;
+use layout::Laying;
 use types::Extent;
 
 // Of each call the lent record at exit, and the refusal.
@@ -95,18 +95,18 @@ pub struct GivenWalk {
     pub refusal: Refusal,
 }
 
-// Before the first record of a lent list: what `GivenLayout` says, how many records there are, none for a refusal, what is used,
-// and the table that the records are made by.
+// Before the first record of a lent list: what `GivenLayout` says, how many records there are, none for a refusal, what is laid
+// out already, and the table that the records are made by.
 pub struct ListBegun {
     pub layout: Layout,
     pub refusal: Refusal,
     pub count: usize,
-    pub used: Used,
+    pub before: Laying,
     pub table: [u32; 64],
 }
 
-// One flat record, and what is used after it.
+// One flat record, and what is laid out after it.
 pub struct FlatStep {
     pub placement: Placement,
-    pub used: Used,
+    pub after: Laying,
 }

@@ -49,7 +49,7 @@ ghost use Rattle.c_calls.specs.WalkCalls.{openGiven, stepGiven, shownPart, show
 // CB_VERSION.
 #[no_mangle]
 pub extern "C" fn cb_version() -> u32
-    ensures { λ r. ⌜ r ≡ 4 ⌝ }
+    ensures { λ r. ⌜ r ≡ 5 ⌝ }
 {
     flat::version()
 }
@@ -124,12 +124,12 @@ pub extern "C" fn cb_lay_out(d: &[u8], layout: &mut Layout, list: &mut [Placemen
     let head = c_calls::begin_list(d, *layout, list.len());
     *layout = head.layout;
     let n = head.count;
-    let mut used = head.used;
+    let mut before = head.before;
     let mut i = 0;
     while i < n {
-        let step = c_calls::place_flat(d, used, i, head);
+        let step = c_calls::place_flat(d, before, i, head);
         list[i] = step.placement;
-        used = step.used;
+        before = step.after;
         i += 1;
     }
     head.refusal
@@ -148,8 +148,8 @@ pub extern "C" fn cb_needs_stack(d: &[u8], need: &mut StackNeed) -> Refusal
 
 // The layout as text; the answer is its length.
 #[no_mangle]
-pub extern "C" fn cb_write_listing(d: &[u8], out: &mut [u8; 4096]) -> usize
-    ensures { λ r. ⌜ (r ≡ length (listing (now (d .entry)))) × (r ≤ 3452)
+pub extern "C" fn cb_write_listing(d: &[u8], out: &mut [u8; 8192]) -> usize
+    ensures { λ r. ⌜ (r ≡ length (listing (now (d .entry)))) × (r ≤ 4540)
         × (now (out .exit) ≡ listing (now (d .entry)) ++ drop (length (listing (now (d .entry)))) (now (out .entry))) ⌝ }
 {
     listing::write_listing(d, out)

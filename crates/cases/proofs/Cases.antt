@@ -17,10 +17,10 @@ use Rattle.uses.specs.Uses.{wrongNumber, wrongReturn, wrongUse, narrow, narrowU
 use Rattle.places.specs.Shapes.{kindsOf, kindsFor, shapeOf}
 use Rattle.places.specs.Places.{enough, fits, start, place, next, area}
 use Rattle.places.specs.Returns.{returnOf, hiddenBy}
-use Rattle.layout.specs.Arguments.{isNamed, shapeAt, shapesFrom, isVoid, returnPlace, returnedSize, hidden, usedAt, areaOf}
+use Rattle.layout.specs.Arguments.{isNamed, shapeAt, shapesFrom, isVoid, returnPlace, returnedSize, hidden, usedAt, valueStart, areaOf}
 use Rattle.layout.specs.Verdict.{wideArea, verdict}
 use Rattle.layout.specs.Layout.{valuesOf, layoutOf, layoutAnswer}
-use Rattle.layout.specs.Placements.{placementAt}
+use Rattle.layout.specs.Placements.{layingAt, placementAt}
 use Rattle.layout.specs.declared.LayoutAnswer.{LayoutAnswer}
 use Rattle.layout.specs.declared.LayoutAnswer.the-variants.{Laid}
 use Rattle.layout.specs.declared.placements.Placement.{Placement}
@@ -34,5 +34,5 @@ abbrev want : Case → LayoutAnswer × List Placement
 want c = (Laid (c .laid), c .records)
 
 pub cases-hold : map got cases ≡ map want cases
-unfolding cases raise kindAt aAt countAt memberAt argumentAt firstFrom tooShort wrongMark wrongVersion wrongCounts wrongLength brokenBasic brokenArray brokenRun brokenRecord wrongRecord basicSize basicAlign alignTy sizeTy offsetAfter endAfter tysFrom tyBy tyAt variadicIn modelIn large tooLarge same isX87 mergeOf mergeAll upAlone settled cleanUp firstClass secondClass gap oneClass vectorAt basicAt elementsAt eightbytesIn closed classesAt eightbytesOf shown classesOf wrongNumber wrongReturn wrongUse narrow narrowUnnamed kindsOf kindsFor shapeOf enough fits start place next area returnOf hiddenBy isNamed shapeAt shapesFrom isVoid returnPlace hidden usedAt areaOf wideArea verdict valuesOf returnedSize layoutOf layoutAnswer placementAt
+unfolding cases raise kindAt aAt countAt memberAt argumentAt firstFrom tooShort wrongMark wrongVersion wrongCounts wrongLength brokenBasic brokenArray brokenRun brokenRecord wrongRecord basicSize basicAlign alignTy sizeTy offsetAfter endAfter tysFrom tyBy tyAt variadicIn modelIn large tooLarge same isX87 mergeOf mergeAll upAlone settled cleanUp firstClass secondClass gap oneClass vectorAt basicAt elementsAt eightbytesIn closed classesAt eightbytesOf shown classesOf wrongNumber wrongReturn wrongUse narrow narrowUnnamed kindsOf kindsFor shapeOf enough fits start place next area returnOf hiddenBy isNamed shapeAt shapesFrom isVoid returnPlace hidden usedAt valueStart areaOf wideArea verdict valuesOf returnedSize layoutOf layoutAnswer layingAt placementAt
 cases-hold = refl

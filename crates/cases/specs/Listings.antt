@@ -1,4 +1,4 @@
--- What the lister prints of each of the cases, line by line. Assumes nothing: these are definitions.
+-- What the lister prints of each of the cases, line by line: document 01, "The lister"; document 02, request 2026-07. Assumes nothing: these are definitions.
 use mathlib.Core.List.{List, [], _∷_, _++_}
 use Prim.Native.Nat.{ℕ}
 use Prim.Native.String.{String}
@@ -13,14 +13,14 @@ printed (line ∷ lines) = bytes line ++ newline ++ printed lines
 -- in the order of the cases
 unfoldable pub listings : List (List ℕ)
 listings =
-    -- the lister's case: the text of document 01
+    -- the lister's case: the text of document 01, with what document 02 appends (request 2026-07)
     printed (
     "KCB 1 args 5 named 3 gp 4 vec 2 stack 16" ∷
-    "0 type 0 size 4 align 4 rdi" ∷
-    "1 type 3 size 16 align 8 xmm0 rsi" ∷
-    "2 type 4 size 16 align 16 stack 0" ∷
-    "3 type 1 size 8 align 8 xmm1" ∷
-    "4 type 5 size 16 align 16 rdx rcx" ∷
+    "0 type 0 size 4 align 4 rdi at 0 named" ∷
+    "1 type 3 size 16 align 8 xmm0 rsi at 4 named" ∷
+    "2 type 4 size 16 align 16 stack 0 at 20 named" ∷
+    "3 type 1 size 8 align 8 xmm1 at 36 unnamed" ∷
+    "4 type 5 size 16 align 16 rdx rcx at 44 unnamed" ∷
     "return type 1 xmm0" ∷
     "walk gp 16 fp 64 over 16" ∷
     []
@@ -28,11 +28,11 @@ listings =
     -- P1
     printed (
     "KCB 1 args 5 named 2 gp 2 vec 2 stack 16" ∷
-    "0 type 0 size 4 align 4 rdi" ∷
-    "1 type 1 size 8 align 8 xmm0" ∷
-    "2 type 0 size 4 align 4 rsi" ∷
-    "3 type 2 size 16 align 16 stack 0" ∷
-    "4 type 1 size 8 align 8 xmm1" ∷
+    "0 type 0 size 4 align 4 rdi at 0 named" ∷
+    "1 type 1 size 8 align 8 xmm0 at 4 named" ∷
+    "2 type 0 size 4 align 4 rsi at 12 unnamed" ∷
+    "3 type 2 size 16 align 16 stack 0 at 16 unnamed" ∷
+    "4 type 1 size 8 align 8 xmm1 at 32 unnamed" ∷
     "return void" ∷
     "walk gp 8 fp 64 over 0" ∷
     []
@@ -40,7 +40,7 @@ listings =
     -- P2
     printed (
     "KCB 1 args 1 named 1 gp 2 vec 0 stack 0" ∷
-    "0 type 2 size 16 align 16 rdi rsi" ∷
+    "0 type 2 size 16 align 16 rdi rsi at 0 named" ∷
     "return void" ∷
     "walk none" ∷
     []
@@ -48,7 +48,7 @@ listings =
     -- P3
     printed (
     "KCB 1 args 1 named 1 gp 0 vec 0 stack 16" ∷
-    "0 type 2 size 16 align 16 stack 0" ∷
+    "0 type 2 size 16 align 16 stack 0 at 0 named" ∷
     "return void" ∷
     "walk none" ∷
     []
@@ -56,7 +56,7 @@ listings =
     -- P4
     printed (
     "KCB 1 args 1 named 1 gp 0 vec 0 stack 16" ∷
-    "0 type 2 size 16 align 16 stack 0" ∷
+    "0 type 2 size 16 align 16 stack 0 at 0 named" ∷
     "return void" ∷
     "walk none" ∷
     []
@@ -64,7 +64,7 @@ listings =
     -- P5
     printed (
     "KCB 1 args 1 named 1 gp 1 vec 1 stack 0" ∷
-    "0 type 2 size 16 align 16 rdi xmm0" ∷
+    "0 type 2 size 16 align 16 rdi xmm0 at 0 named" ∷
     "return void" ∷
     "walk none" ∷
     []
@@ -72,7 +72,7 @@ listings =
     -- P6
     printed (
     "KCB 1 args 1 named 1 gp 0 vec 2 stack 0" ∷
-    "0 type 3 size 16 align 16 xmm0 xmm1" ∷
+    "0 type 3 size 16 align 16 xmm0 xmm1 at 0 named" ∷
     "return void" ∷
     "walk none" ∷
     []
@@ -80,13 +80,13 @@ listings =
     -- P7
     printed (
     "KCB 1 args 7 named 7 gp 6 vec 0 stack 16" ∷
-    "0 type 0 size 8 align 8 rdi" ∷
-    "1 type 0 size 8 align 8 rsi" ∷
-    "2 type 0 size 8 align 8 rdx" ∷
-    "3 type 0 size 8 align 8 rcx" ∷
-    "4 type 0 size 8 align 8 r8" ∷
-    "5 type 1 size 16 align 16 stack 0" ∷
-    "6 type 0 size 8 align 8 r9" ∷
+    "0 type 0 size 8 align 8 rdi at 0 named" ∷
+    "1 type 0 size 8 align 8 rsi at 8 named" ∷
+    "2 type 0 size 8 align 8 rdx at 16 named" ∷
+    "3 type 0 size 8 align 8 rcx at 24 named" ∷
+    "4 type 0 size 8 align 8 r8 at 32 named" ∷
+    "5 type 1 size 16 align 16 stack 0 at 40 named" ∷
+    "6 type 0 size 8 align 8 r9 at 56 named" ∷
     "return void" ∷
     "walk none" ∷
     []
@@ -94,14 +94,14 @@ listings =
     -- P8
     printed (
     "KCB 1 args 8 named 8 gp 6 vec 0 stack 32" ∷
-    "0 type 0 size 8 align 8 rdi" ∷
-    "1 type 0 size 8 align 8 rsi" ∷
-    "2 type 0 size 8 align 8 rdx" ∷
-    "3 type 0 size 8 align 8 rcx" ∷
-    "4 type 0 size 8 align 8 r8" ∷
-    "5 type 0 size 8 align 8 r9" ∷
-    "6 type 0 size 8 align 8 stack 0" ∷
-    "7 type 1 size 16 align 16 stack 16" ∷
+    "0 type 0 size 8 align 8 rdi at 0 named" ∷
+    "1 type 0 size 8 align 8 rsi at 8 named" ∷
+    "2 type 0 size 8 align 8 rdx at 16 named" ∷
+    "3 type 0 size 8 align 8 rcx at 24 named" ∷
+    "4 type 0 size 8 align 8 r8 at 32 named" ∷
+    "5 type 0 size 8 align 8 r9 at 40 named" ∷
+    "6 type 0 size 8 align 8 stack 0 at 48 named" ∷
+    "7 type 1 size 16 align 16 stack 16 at 56 named" ∷
     "return void" ∷
     "walk none" ∷
     []
@@ -109,7 +109,7 @@ listings =
     -- P9
     printed (
     "KCB 1 args 1 named 1 gp 1 vec 1 stack 0" ∷
-    "0 type 3 size 12 align 4 xmm0 rdi" ∷
+    "0 type 3 size 12 align 4 xmm0 rdi at 0 named" ∷
     "return void" ∷
     "walk none" ∷
     []
@@ -117,15 +117,15 @@ listings =
     -- P10
     printed (
     "KCB 1 args 9 named 9 gp 0 vec 8 stack 16" ∷
-    "0 type 0 size 8 align 8 xmm0" ∷
-    "1 type 0 size 8 align 8 xmm1" ∷
-    "2 type 0 size 8 align 8 xmm2" ∷
-    "3 type 0 size 8 align 8 xmm3" ∷
-    "4 type 0 size 8 align 8 xmm4" ∷
-    "5 type 0 size 8 align 8 xmm5" ∷
-    "6 type 0 size 8 align 8 xmm6" ∷
-    "7 type 1 size 16 align 8 stack 0" ∷
-    "8 type 0 size 8 align 8 xmm7" ∷
+    "0 type 0 size 8 align 8 xmm0 at 0 named" ∷
+    "1 type 0 size 8 align 8 xmm1 at 8 named" ∷
+    "2 type 0 size 8 align 8 xmm2 at 16 named" ∷
+    "3 type 0 size 8 align 8 xmm3 at 24 named" ∷
+    "4 type 0 size 8 align 8 xmm4 at 32 named" ∷
+    "5 type 0 size 8 align 8 xmm5 at 40 named" ∷
+    "6 type 0 size 8 align 8 xmm6 at 48 named" ∷
+    "7 type 1 size 16 align 8 stack 0 at 56 named" ∷
+    "8 type 0 size 8 align 8 xmm7 at 72 named" ∷
     "return void" ∷
     "walk none" ∷
     []
@@ -133,7 +133,7 @@ listings =
     -- P11
     printed (
     "KCB 1 args 1 named 1 gp 2 vec 0 stack 0" ∷
-    "0 type 1 size 4 align 4 rsi" ∷
+    "0 type 1 size 4 align 4 rsi at 0 named" ∷
     "return type 3 memory" ∷
     "walk none" ∷
     []
@@ -141,13 +141,13 @@ listings =
     -- 000, figure 3.32
     printed (
     "KCB 1 args 7 named 3 gp 2 vec 3 stack 64" ∷
-    "0 type 0 size 4 align 4 rdi" ∷
-    "1 type 1 size 8 align 8 xmm0" ∷
-    "2 type 2 size 32 align 32 xmm1y" ∷
-    "3 type 0 size 4 align 4 rsi" ∷
-    "4 type 3 size 16 align 16 stack 0" ∷
-    "5 type 2 size 32 align 32 stack 32" ∷
-    "6 type 1 size 8 align 8 xmm2" ∷
+    "0 type 0 size 4 align 4 rdi at 0 named" ∷
+    "1 type 1 size 8 align 8 xmm0 at 4 named" ∷
+    "2 type 2 size 32 align 32 xmm1y at 12 named" ∷
+    "3 type 0 size 4 align 4 rsi at 44 unnamed" ∷
+    "4 type 3 size 16 align 16 stack 0 at 48 unnamed" ∷
+    "5 type 2 size 32 align 32 stack 32 at 64 unnamed" ∷
+    "6 type 1 size 8 align 8 xmm2 at 96 unnamed" ∷
     "return void" ∷
     "walk gp 8 fp 80 over 0" ∷
     []
@@ -155,18 +155,18 @@ listings =
     -- 000, figure 3.6
     printed (
     "KCB 1 args 12 named 12 gp 6 vec 4 stack 32" ∷
-    "0 type 0 size 4 align 4 rdi" ∷
-    "1 type 0 size 4 align 4 rsi" ∷
-    "2 type 4 size 16 align 8 rdx xmm0" ∷
-    "3 type 0 size 4 align 4 rcx" ∷
-    "4 type 0 size 4 align 4 r8" ∷
-    "5 type 2 size 16 align 16 stack 0" ∷
-    "6 type 1 size 8 align 8 xmm1" ∷
-    "7 type 3 size 32 align 32 xmm2y" ∷
-    "8 type 1 size 8 align 8 xmm3" ∷
-    "9 type 0 size 4 align 4 r9" ∷
-    "10 type 0 size 4 align 4 stack 16" ∷
-    "11 type 0 size 4 align 4 stack 24" ∷
+    "0 type 0 size 4 align 4 rdi at 0 named" ∷
+    "1 type 0 size 4 align 4 rsi at 4 named" ∷
+    "2 type 4 size 16 align 8 rdx xmm0 at 8 named" ∷
+    "3 type 0 size 4 align 4 rcx at 24 named" ∷
+    "4 type 0 size 4 align 4 r8 at 28 named" ∷
+    "5 type 2 size 16 align 16 stack 0 at 32 named" ∷
+    "6 type 1 size 8 align 8 xmm1 at 48 named" ∷
+    "7 type 3 size 32 align 32 xmm2y at 56 named" ∷
+    "8 type 1 size 8 align 8 xmm3 at 88 named" ∷
+    "9 type 0 size 4 align 4 r9 at 96 named" ∷
+    "10 type 0 size 4 align 4 stack 16 at 100 named" ∷
+    "11 type 0 size 4 align 4 stack 24 at 104 named" ∷
     "return void" ∷
     "walk none" ∷
     []
@@ -174,8 +174,8 @@ listings =
     -- a struct of one, and a union with four doubles
     printed (
     "KCB 1 args 2 named 2 gp 0 vec 1 stack 32" ∷
-    "0 type 2 size 32 align 32 xmm0y" ∷
-    "1 type 4 size 32 align 32 stack 0" ∷
+    "0 type 2 size 32 align 32 xmm0y at 0 named" ∷
+    "1 type 4 size 32 align 32 stack 0 at 32 named" ∷
     "return type 2 xmm0y" ∷
     "walk none" ∷
     []
@@ -183,9 +183,9 @@ listings =
     -- unnamed ones
     printed (
     "KCB 1 args 3 named 0 gp 0 vec 0 stack 96" ∷
-    "0 type 1 size 16 align 16 stack 0" ∷
-    "1 type 2 size 32 align 32 stack 32" ∷
-    "2 type 0 size 32 align 32 stack 64" ∷
+    "0 type 1 size 16 align 16 stack 0 at 0 unnamed" ∷
+    "1 type 2 size 32 align 32 stack 32 at 16 unnamed" ∷
+    "2 type 0 size 32 align 32 stack 64 at 48 unnamed" ∷
     "return void" ∷
     "walk gp 0 fp 48 over 0" ∷
     []
@@ -193,8 +193,8 @@ listings =
     -- one in a register alone
     printed (
     "KCB 1 args 2 named 2 gp 0 vec 1 stack 16" ∷
-    "0 type 0 size 32 align 32 xmm0y" ∷
-    "1 type 1 size 16 align 16 stack 0" ∷
+    "0 type 0 size 32 align 32 xmm0y at 0 named" ∷
+    "1 type 1 size 16 align 16 stack 0 at 32 named" ∷
     "return void" ∷
     "walk none" ∷
     []
@@ -202,22 +202,22 @@ listings =
     -- a ninth
     printed (
     "KCB 1 args 16 named 16 gp 6 vec 8 stack 64" ∷
-    "0 type 0 size 32 align 32 xmm0y" ∷
-    "1 type 0 size 32 align 32 xmm1y" ∷
-    "2 type 0 size 32 align 32 xmm2y" ∷
-    "3 type 0 size 32 align 32 xmm3y" ∷
-    "4 type 0 size 32 align 32 xmm4y" ∷
-    "5 type 0 size 32 align 32 xmm5y" ∷
-    "6 type 0 size 32 align 32 xmm6y" ∷
-    "7 type 0 size 32 align 32 xmm7y" ∷
-    "8 type 1 size 8 align 8 rdi" ∷
-    "9 type 1 size 8 align 8 rsi" ∷
-    "10 type 1 size 8 align 8 rdx" ∷
-    "11 type 1 size 8 align 8 rcx" ∷
-    "12 type 1 size 8 align 8 r8" ∷
-    "13 type 1 size 8 align 8 r9" ∷
-    "14 type 0 size 32 align 32 stack 0" ∷
-    "15 type 1 size 8 align 8 stack 32" ∷
+    "0 type 0 size 32 align 32 xmm0y at 0 named" ∷
+    "1 type 0 size 32 align 32 xmm1y at 32 named" ∷
+    "2 type 0 size 32 align 32 xmm2y at 64 named" ∷
+    "3 type 0 size 32 align 32 xmm3y at 96 named" ∷
+    "4 type 0 size 32 align 32 xmm4y at 128 named" ∷
+    "5 type 0 size 32 align 32 xmm5y at 160 named" ∷
+    "6 type 0 size 32 align 32 xmm6y at 192 named" ∷
+    "7 type 0 size 32 align 32 xmm7y at 224 named" ∷
+    "8 type 1 size 8 align 8 rdi at 256 named" ∷
+    "9 type 1 size 8 align 8 rsi at 264 named" ∷
+    "10 type 1 size 8 align 8 rdx at 272 named" ∷
+    "11 type 1 size 8 align 8 rcx at 280 named" ∷
+    "12 type 1 size 8 align 8 r8 at 288 named" ∷
+    "13 type 1 size 8 align 8 r9 at 296 named" ∷
+    "14 type 0 size 32 align 32 stack 0 at 304 named" ∷
+    "15 type 1 size 8 align 8 stack 32 at 336 named" ∷
     "return void" ∷
     "walk none" ∷
     []

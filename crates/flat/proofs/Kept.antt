@@ -32,7 +32,7 @@ use Rattle.layout.specs.declared.placements.Placement.{Placement as Record}
 use Rattle.layout.specs.declared.Layout.{Layout as Whole}
 use Rattle.layout.specs.Arguments.{shapeAt, usedAt, isVoid, returnClasses, returnPlace, hidden}
 use Rattle.layout.specs.Layout.{layoutOf as wholeOf}
-use Rattle.layout.specs.Placements.{placementAt}
+use Rattle.layout.specs.Placements.{layingAt, placementAt}
 use Rattle.layout.proofs.Verdict.{accepted-uses}
 use Rattle.layout.proofs.Bounds.{argument-shaped}
 use Rattle.flat.specs.declared.Layout.{Layout}
@@ -58,6 +58,10 @@ walk-means w = refl
 
 -- ---- one argument
 
+mark-meant : (b : Bool) → eqb (cond b 1 0) 1 ≡ b
+mark-meant true = refl
+mark-meant false = refl
+
 alone-known : (a : Register) (size : ℕ) → Alone a size → Known a
 alone-known (General n) size h = h .0
 alone-known (Vector n) size h = h .0
@@ -70,26 +74,28 @@ single-known (Vector n) h = h
 single-known (Upper n) h = h
 single-known (Wide n) h = absurd h
 
-place-meant : (size align : Bytes) (ty n : ℕ) (p : Place) → Inside p (size .0) n
-    → placeMeant (record { size = size; align = align; offset = slotOf p .offset; ty = ty; first = slotOf p .first; second = slotOf p .second; «reserved_1» = 0; «reserved_4» = 0 }) ≡ p
+place-meant : (size align value : Bytes) (ty named n : ℕ) (p : Place) → Inside p (size .0) n
+    → placeMeant (record { size = size; align = align; offset = slotOf p .offset; value = value; ty = ty; first = slotOf p .first; second = slotOf p .second; named = named; «reserved_4» = 0 }) ≡ p
 unfolding placeMeant Inside
-place-meant size align ty n (One a) h =
+place-meant size align value ty named n (One a) h =
     let k = alone-known a (size .0) h in
     rw (ne-eqb (registerNumber a) 255 (λ e. omega (arith, register-low a k))) (ap One (register-meant a k))
-place-meant size align ty n (Two a b) h =
+place-meant size align value ty named n (Two a b) h =
     let k = single-known a (h .0) in
     let l = single-known b (h .1 .0) in
     rw (ne-eqb (registerNumber a) 255 (λ e. omega (arith, register-low a k)), ne-eqb (registerNumber b) 255 (λ e. omega (arith, register-low b l)))
     (ap₂ Two (register-meant a k) (register-meant b l))
-place-meant size align ty n (Stack o) h = refl
+place-meant size align value ty named n (Stack o) h = refl
 
 placement-meant : (p : Record) (n : ℕ) → Inside (p .place) (p .size .0) n → placementMeant (placementOf p) ≡ p
 unfolding placementMeant placementOf
 placement-meant p n h =
-    ap (λ (q : Place). record { ty = p .ty; size = p .size; align = p .align; place = q }) (place-meant (p .size) (p .align) (p .ty) n (p .place) h)
+    ap₂ (λ (q : Place) (b : Bool). record { ty = p .ty; size = p .size; align = p .align; place = q; at = p .at; named = b })
+    (place-meant (p .size) (p .align) (p .at) (p .ty) (cond (p .named) 1 0) n (p .place) h)
+    (mark-meant (p .named))
 
 pub placements-mean : PlacementsMean
-unfolding placementAt
+unfolding placementAt layingAt
 placements-mean d v i h =
     placement-meant (placementAt d i) (next eights (usedAt d i) (shapeAt d i) .stack .0)
     (place-inside (usedAt d i) (shapeAt d i) (next eights (usedAt d i) (shapeAt d i) .stack .0) (argument-shaped d (accepted-uses d v) i h) (omega arith) .1)
@@ -175,10 +181,6 @@ strict-meant : (b : Bool) → eqb (cond b 32 16) 32 ≡ b
 strict-meant true = refl
 strict-meant false = refl
 
-hidden-meant : (b : Bool) → eqb (cond b 1 0) 1 ≡ b
-hidden-meant true = refl
-hidden-meant false = refl
-
 module _ (l : Whole) (n : ℕ) where
   -- a flat layout with another return place
   abbrev with : ReturnPlace → Bool → Layout
@@ -222,7 +224,7 @@ module _ (l : Whole) (n : ℕ) where
     values = l .values;
     returns = return-place-meant (l .returns) (l .hidden) h j;
     returned = l .returned;
-    hidden = hidden-meant (l .hidden) j;
+    hidden = mark-meant (l .hidden) j;
     named = record { general = l .named .general; vector = l .named .vector; stack = l .named .stack; strict = false };
   }
 

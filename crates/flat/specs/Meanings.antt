@@ -30,7 +30,7 @@ placeMeant p =
     (cond (eqb (p .second) 255) (One (registerMeant (p .first))) (Two (registerMeant (p .first)) (registerMeant (p .second))))
 
 unfoldable pub placementMeant : Placement → Record
-placementMeant p = record { ty = p .ty; size = p .size; align = p .align; place = placeMeant p }
+placementMeant p = record { ty = p .ty; size = p .size; align = p .align; place = placeMeant p; at = p .value; named = eqb (p .named) 1 }
 
 -- CB_NONE first: void, or memory where a hidden address is passed; CB_ST0 first: the x87 stack
 unfoldable pub returnPlaceMeant : Layout → ReturnPlace

@@ -28,10 +28,11 @@ placementOf p = record {
   size = p .size;
   align = p .align;
   offset = slotOf (p .place) .offset;
+  value = p .at;
   ty = p .ty;
   first = slotOf (p .place) .first;
   second = slotOf (p .place) .second;
-  «reserved_1» = 0;
+  named = cond (p .named) 1 0;
   «reserved_4» = 0;
 }
 

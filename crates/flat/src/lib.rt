@@ -37,16 +37,17 @@ pub struct Part {
     pub reserved_4: u32,
 }
 
-// cb_placement: one argument; its registers by enum cb_register, or its stack offset.
+// cb_placement: one argument; its registers by enum cb_register, or its stack offset; where its value begins, and 1 where it is named.
 #[repr(C)]
 pub struct Placement {
     pub size: Bytes,
     pub align: Bytes,
     pub offset: Bytes,
+    pub value: Bytes,
     pub ty: u8,
     pub first: u8,
     pub second: u8,
-    pub reserved_1: u8,
+    pub named: u8,
     pub reserved_4: u32,
 }
 
@@ -160,7 +161,7 @@ pub fn nowhere() -> Part
 
 // CB_VERSION: the version of the header that has these records.
 pub fn version() -> u32
-    ensures { λ r. ⌜ r ≡ 4 ⌝ }
+    ensures { λ r. ⌜ r ≡ 5 ⌝ }
 {
-    4
+    5
 }

@@ -76,16 +76,19 @@ pub fn placement_of(argument: layout::Placement) -> Placement
     let size = argument.size;
     let align = argument.align;
     let place = argument.place;
+    let value = argument.at;
     let slot = slot_of(place);
     let offset = slot.offset;
+    let named = if argument.named { 1 } else { 0 };
     Placement {
         size: size,
         align: align,
         offset: offset,
+        value: value,
         ty: argument.ty,
         first: slot.first,
         second: slot.second,
-        reserved_1: 0,
+        named: named,
         reserved_4: 0,
     }
 }

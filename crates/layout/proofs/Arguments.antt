@@ -8,8 +8,9 @@ use native.Mathlib.Omega.{arith}
 use lib.ListN.{length}
 use Rattle.places.specs.Shapes.{Shape}
 use Rattle.places.specs.Places.{eights, next, after}
-use Rattle.places.proofs.Prefix.{after-append}
-use Rattle.layout.specs.Arguments.{shapeAt, shapesFrom, usedFirst, usedAt}
+use Rattle.places.specs.Images.{total}
+use Rattle.places.proofs.Prefix.{after-append, total-append}
+use Rattle.layout.specs.Arguments.{shapeAt, shapesFrom, usedFirst, usedAt, valueStart}
 
 module _ (d : List ℕ) where
   pub shapes-none : (i : ℕ) → shapesFrom d i 0 ≡ []
@@ -64,3 +65,16 @@ module _ (d : List ℕ) where
 
   pub used-next : (i : ℕ) → usedAt d (i + 1) ≡ next eights (usedAt d i) (shapeAt d i)
   used-next i = used-split i (i + 1) (omega arith) ∙ rw (shapes-single i)
+
+  -- ---- where the values begin
+
+  pub start-none : valueStart d 0 ≡ 0
+  unfolding valueStart
+  start-none = rw (shapes-none 0)
+
+  pub start-next : (i : ℕ) → valueStart d (i + 1) ≡ valueStart d i + shapeAt d i .size
+  unfolding valueStart
+  start-next i =
+      ap total (shapes-split i (i + 1) (omega arith))
+      ∙ total-append (shapesFrom d 0 i) (shapesFrom d i (i + 1 - i))
+      ∙ ap (λ (n : ℕ). total (shapesFrom d 0 i) + n) (ap total (shapes-single i) ∙ omega arith)

@@ -8,12 +8,13 @@ use Rattle.addresses.specs.Addresses.{All}
 use borrow.Author.Tests.{le-ltb}
 use Rattle.description.specs.Description.{typesIn, namedIn, argumentsIn, argumentAt, modelIn}
 use Rattle.form.proofs.Form.{accepted-counts}
-use Rattle.types.proofs.Large.{accepted-form}
+use Rattle.types.proofs.Large.{accepted-form, accepted-sized}
+use Rattle.types.proofs.Laws.{size-low, type-filled}
 use Rattle.uses.specs.Uses.{usesRefusal}
 use Rattle.uses.proofs.Uses.{accepted-types, accepted-typed}
 use Rattle.places.specs.declared.Used.{Used}
 use Rattle.types.specs.Decode.{tyAt}
-use Rattle.places.specs.Shapes.{wide?, Shaped}
+use Rattle.places.specs.Shapes.{wide?, shapeOf, Shaped}
 use Rattle.places.specs.Places.{eights, next}
 use Rattle.places.specs.Recorded.{Small, Room}
 use Rattle.places.proofs.Fits.{next-bounds}
@@ -35,6 +36,13 @@ module _ (d : List ℕ) (right : usesRefusal d ≡ 0) where
   pub argument-small : (i : ℕ) → i < argumentsIn d → Small (shapeAt d i)
   unfolding shapeAt
   argument-small i h = accepted-small-shape d (accepted-types d right) (argumentAt d i) (argument-known i h) (isNamed d i)
+
+  -- no argument is empty
+  pub argument-some : (i : ℕ) → i < argumentsIn d → 1 ≤ shapeAt d i .size
+  unfolding shapeAt shapeOf
+  argument-some i h =
+      let k = argumentAt d i in
+      size-low (modelIn d) (tyAt d k) (type-filled d k (accepted-sized d (accepted-types d right) k (argument-known i h)))
 
   pub argument-shaped : (i : ℕ) → i < argumentsIn d → Shaped (shapeAt d i)
   unfolding shapeAt

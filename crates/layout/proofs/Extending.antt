@@ -14,14 +14,14 @@ use Rattle.classify.specs.Classify.{classesOf}
 use Rattle.uses.proofs.Uses.{accepted-types}
 use Rattle.places.specs.Shapes.{Shape}
 use Rattle.places.specs.Places.{eights, after, area}
-use Rattle.places.specs.Images.{stackAt, addresses}
+use Rattle.places.specs.Images.{stackAt, addresses, total}
 use Rattle.places.specs.Returns.{hiddenFor}
 use Rattle.places.proofs.Apart.{Grows}
 use Rattle.places.proofs.Growing.{all-grow, area-more}
 use Rattle.places.proofs.Prefix.{addresses-append}
-use Rattle.layout.specs.Arguments.{isNamed, shapeAt, shapesFrom, shapes, isVoid, hidden, usedFirst, usedAt, areaOf}
+use Rattle.layout.specs.Arguments.{isNamed, shapeAt, shapesFrom, shapes, isVoid, hidden, usedFirst, usedAt, valueStart, areaOf}
 use Rattle.layout.specs.Layout.{layoutOf}
-use Rattle.layout.specs.Placements.{placementAt}
+use Rattle.layout.specs.Placements.{layingAt, placementAt}
 use Rattle.layout.specs.Extending.{Extends, Continues, Unmoved}
 use Rattle.layout.proofs.Arguments.{shapes-split, used-split}
 use Rattle.layout.proofs.Bounds.{argument-known}
@@ -55,6 +55,10 @@ module _ (d e : List ℕ) (x : Extends d e) where
   unfolding usedAt
   used-same i l = rw (hidden-same, shapes-same 0 i (omega arith))
 
+  start-same : (i : ℕ) → i ≤ argumentsIn d → valueStart e i ≡ valueStart d i
+  unfolding valueStart
+  start-same i l = ap total (shapes-same 0 i (omega arith))
+
   shapes-more : shapes e ≡ shapes d ++ added d e
   shapes-more = shapes-split e (argumentsIn d) (argumentsIn e) (x .pair .long) ∙ ap (λ (ss : List Shape). ss ++ added d e) (shapes-same 0 (argumentsIn d) (omega arith))
 
@@ -72,11 +76,13 @@ module _ (d e : List ℕ) (x : Extends d e) where
   addresses-more = rw (shapes-more, hidden-same) (addresses-append stackAt eights (shapes d) (added d e) (usedFirst d))
 
   pub unmoved : Unmoved d e
-  unfolding placementAt layoutOf
+  unfolding placementAt layingAt layoutOf isNamed
   unmoved = record {
     places = λ i l. rw (shape-same i l, used-same i (omega arith));
     sizes = λ i l. rw (shape-same i l);
     aligns = λ i l. rw (shape-same i l);
+    values = λ i l. ap (λ (v : ℕ). record { 0 = v }) (start-same i (omega arith));
+    marks = λ i l. x .pair .named i l;
     address = hidden-same;
     general = grows .general;
     vector = grows .vector;

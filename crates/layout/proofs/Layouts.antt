@@ -21,14 +21,15 @@ use Rattle.places.specs.declared.Used.{Used}
 use Rattle.places.specs.Places.{eights, fresh, after, areaAlign, area}
 use Rattle.places.specs.Images.{total}
 use Rattle.places.proofs.Prefix.{total-append}
-use Rattle.layout.specs.Arguments.{isNamed, shapesFrom, returnPlace, returnedSize, hidden, usedAt, areaOf}
-use Rattle.layout.specs.Asks.{Before, AskArguments, Alike, IsLaid}
+use Rattle.layout.specs.Arguments.{isNamed, shapesFrom, returnPlace, returnedSize, hidden, usedAt, valueStart, areaOf}
+use Rattle.layout.specs.Asks.{Before, AskRecord, AskArguments, Alike, IsLaid}
+use Rattle.layout.specs.Placements.{layingFresh, layingAt, stepAt}
 use Rattle.layout.specs.Verdict.{verdict}
 use Rattle.layout.specs.Layout.{valuesOf, layoutOf, layoutAnswer, refusalIn, tableAfter}
 use Rattle.layout.specs.declared.LayoutAnswer.the-variants.{Laid, Refused}
 use Rattle.layout.specs.declared.Layout.{Layout}
 use Rattle.layout.specs.declared.placements.Laying.{Laying}
-use Rattle.layout.proofs.Arguments.{shapes-none, shapes-single, shapes-split, used-none, used-next, used-split}
+use Rattle.layout.proofs.Arguments.{shapes-split, used-none, used-next, used-split, start-none, start-next}
 use Rattle.layout.proofs.Verdict.{ten, no-ten}
 use Rattle.layout.proofs.Bounds.{arguments-few, argument-small, before-next}
 
@@ -37,28 +38,15 @@ fresh-before true = omega arith
 fresh-before false = omega arith
 
 module _ (d : List ℕ) where
-  -- the bytes of the first n values
-  unfoldable pub valuesAt : ℕ → ℕ
-  valuesAt n = total (shapesFrom d 0 n)
-
-  values-next : (n : ℕ) → valuesAt (n + 1) ≡ valuesAt n + total (shapesFrom d n (n + 1 - n))
-  unfolding valuesAt
-  values-next n = ap total (shapes-split d n (n + 1) (omega arith)) ∙ total-append (shapesFrom d 0 n) (shapesFrom d n (n + 1 - n))
-
   module _ (right : usesRefusal d ≡ 0) where
-    one-small : (n : ℕ) → n < argumentsIn d → total (shapesFrom d n (n + 1 - n)) ≤ 4096
-    one-small n l =
-        omega (arith, ap total (shapes-single d n), argument-small d right n l .size)
-
     -- after n arguments
-    pub asks-at : (n m : ℕ) → n ≤ m → m ≤ argumentsIn d → AskArguments d n m (usedAt d n) (valuesAt n)
-    unfolding valuesAt
+    pub asks-at : (n m : ℕ) → n ≤ m → m ≤ argumentsIn d → AskArguments d n m (usedAt d n) (valueStart d n)
     asks-at zero m h l = record {
       right = right;
       order = h;
       there = l;
       before = rw (used-none d) (fresh-before (hidden d));
-      sum = rw (shapes-none d 0) (omega arith);
+      sum = omega (arith, start-none d);
     }
     asks-at (suc n) m h l =
         let r = asks-at n m (omega arith) l in
@@ -68,8 +56,24 @@ module _ (d : List ℕ) where
           order = omega arith;
           there = l;
           before = rw (used-next d n) (before-next d right n (usedAt d n) (omega arith) (r .before));
-          sum = omega (arith, values-next n, one-small n (omega arith), r .sum);
+          sum = omega (arith, start-next d n, argument-small d right n (omega arith) .size, r .sum);
         })
+
+    -- what the record of argument i asks
+    pub record-asks : (i : ℕ) → i < argumentsIn d → AskRecord d i (layingAt d i)
+    unfolding layingAt
+    record-asks i l =
+        let a = asks-at i (argumentsIn d) (omega arith) (omega arith) in
+        record { argument = record { right = right; there = l; before = a .before }; sum = a .sum }
+
+  -- what is laid out before the first argument, and after one more
+  pub laying-none : layingAt d 0 ≡ layingFresh (hidden d)
+  unfolding layingAt layingFresh
+  laying-none = λ j. record { used = used-none d j; values = record { 0 = start-none d j } }
+
+  pub laying-next : (i : ℕ) → stepAt d (layingAt d i) i .after ≡ layingAt d (i + 1)
+  unfolding stepAt layingAt
+  laying-next i = λ j. record { used = sym (used-next d i) j; values = record { 0 = sym (start-next d i) j } }
 
   -- the named arguments stand before the others
   pub named-alike : (n : ℕ) → n ≤ namedIn d → Alike d 0 n true
@@ -91,8 +95,8 @@ module _ (d : List ℕ) where
     pub laid-used : (n : ℕ) (r : Laying) → IsLaid f 0 (shapesFrom d 0 (n - 0)) r → r .used ≡ usedAt d n
     laid-used n r h = h .used ∙ ap (λ (u : Used). after eights u (shapesFrom d 0 (n - 0))) start ∙ sym (used-split d 0 n (omega arith))
 
-    pub laid-values : (n : ℕ) (r : Laying) → IsLaid f 0 (shapesFrom d 0 (n - 0)) r → r .values .0 ≡ valuesAt n
-    unfolding valuesAt
+    pub laid-values : (n : ℕ) (r : Laying) → IsLaid f 0 (shapesFrom d 0 (n - 0)) r → r .values .0 ≡ valueStart d n
+    unfolding valueStart
     laid-values n r h = let q : n - 0 ≡ n = omega arith in rw q at (h .values) ∙ omega arith
 
     -- the named arguments first, and then others
@@ -104,8 +108,8 @@ module _ (d : List ℕ) where
         pub whole-used : r .used ≡ usedAt d m
         whole-used = k .used ∙ ap (λ (u : Used). after eights u (shapesFrom d n (m - n))) (laid-used n p h) ∙ sym (used-split d n m order)
 
-        pub whole-values : r .values .0 ≡ valuesAt m
-        unfolding valuesAt
+        pub whole-values : r .values .0 ≡ valueStart d m
+        unfolding valueStart
         whole-values =
             k .values
             ∙ ap (λ (v : ℕ). v + total (shapesFrom d n (m - n))) (laid-values n p h)
@@ -122,8 +126,8 @@ module _ (d : List ℕ) where
       )
 
   pub layout-is : (r : Layout) → r .used ≡ usedAt d (argumentsIn d) → r .align .0 ≡ areaAlign (r .used) → r .area .0 ≡ raise (areaAlign (r .used)) (r .used .stack .0)
-      → r .values .0 ≡ valuesAt (argumentsIn d) → r .returns ≡ returnPlace d → r .returned .0 ≡ returnedSize d → r .hidden ≡ hidden d → r .named ≡ usedAt d (namedIn d) → r ≡ layoutOf d
-  unfolding layoutOf valuesOf valuesAt areaOf area usedAt
+      → r .values .0 ≡ valueStart d (argumentsIn d) → r .returns ≡ returnPlace d → r .returned .0 ≡ returnedSize d → r .hidden ≡ hidden d → r .named ≡ usedAt d (namedIn d) → r ≡ layoutOf d
+  unfolding layoutOf valuesOf valueStart areaOf area usedAt
   layout-is r u l a v p s q n =
       let align : r .align .0 ≡ areaAlign (usedAt d (argumentsIn d)) = l ∙ ap areaAlign u in
       let area : r .area .0 ≡ areaOf d = a ∙ ap (λ (x : Used). raise (areaAlign x) (x .stack .0)) u in

@@ -2,6 +2,7 @@ pub mod Verdict
 pub mod Layouts
 pub mod Records
 pub mod Arguments
+pub mod Packing
 pub mod Bounds
 pub mod Steps
 pub mod Loop

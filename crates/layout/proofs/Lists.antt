@@ -15,21 +15,19 @@ use Rattle.types.specs.Wrong.{refusalFor}
 use Rattle.types.proofs.Wrong.{no-type}
 use Rattle.form.specs.declared.Refusal.{Refusal}
 use Rattle.form.proofs.Order.{refuses-exactly, accepts-exactly, first-before, first-behind, first-both, positive-append}
-use Rattle.places.specs.declared.Used.{Used}
-use Rattle.places.specs.Places.{eights, fresh, next}
-use Rattle.layout.specs.Arguments.{shapeAt, usedFirst, usedAt, hidden}
+use Rattle.layout.specs.Arguments.{hidden}
 use Rattle.layout.specs.Verdict.{checkOrder, verdict}
 use Rattle.layout.specs.Layout.{layoutOf, layoutAnswer, tableAfter}
-use Rattle.layout.specs.Asks.{AskArgument}
-use Rattle.layout.specs.Placements.{placementAt, stepAt}
-use Rattle.layout.specs.Lists.{shortList, listRefusal, listAnswer, listCount, listUsed, begunOf, openedOf, layoutOrder}
+use Rattle.layout.specs.Asks.{AskRecord}
+use Rattle.layout.specs.Placements.{layingFresh, layingAt, placementAt, stepAt}
+use Rattle.layout.specs.Lists.{shortList, listRefusal, listAnswer, listCount, listLaying, begunOf, openedOf, layoutOrder}
 use Rattle.layout.specs.declared.Layout.{Layout}
+use Rattle.layout.specs.declared.placements.Laying.{Laying}
 use Rattle.layout.specs.declared.lent_list.Begun.{Begun}
 use Rattle.layout.specs.declared.lent_list.Opened.{Opened}
 use Rattle.layout.specs.declared.LayoutAnswer.the-variants.{Laid, Refused}
-use Rattle.layout.proofs.Arguments.{used-none, used-next}
 use Rattle.layout.proofs.Verdict.{accepted-uses, check-positive}
-use Rattle.layout.proofs.Layouts.{asks-at, laid-accepted, refused-verdict, refused-nonzero}
+use Rattle.layout.proofs.Layouts.{record-asks, laying-none, laying-next, laid-accepted, refused-verdict, refused-nonzero}
 
 -- the answer is n exactly where condition n holds and none before it; 11 comes last
 pub list-exactly : (d : List ℕ) (room n : ℕ) → n ≢ 0 → (listRefusal d room ≡ n) ↔ Answers (layoutOrder d room) n
@@ -67,32 +65,32 @@ module _ (d : List ℕ) (room : ℕ) where
   list-room h = ltb-false room (argumentsIn d) (list-none-exactly d room .0 h .1 .1 .1 .1 .1 .1 .1 .1 .1 .1 .0)
 
   -- what `begin` answers
-  begun-accepted : listRefusal d room ≡ 0 → (r : Begun) → r .answer ≡ Laid (layoutOf d) → r .count ≡ argumentsIn d → r .used ≡ usedFirst d → r ≡ begunOf d room
-  unfolding begunOf listAnswer listCount listUsed
+  begun-accepted : listRefusal d room ≡ 0 → (r : Begun) → r .answer ≡ Laid (layoutOf d) → r .count ≡ argumentsIn d → r .before ≡ layingFresh (hidden d) → r ≡ begunOf d room
+  unfolding begunOf listAnswer listCount listLaying
   begun-accepted e r a n u =
-      rw (eq-eqb (listRefusal d room) 0 e) (λ i. record { answer = a i; count = n i; used = (u ∙ sym (used-none d)) i })
+      rw (eq-eqb (listRefusal d room) 0 e) (λ i. record { answer = a i; count = n i; before = (u ∙ sym (laying-none d)) i })
 
-  begun-refused : (listRefusal d room ≡ 0 → ⊥) → (r : Begun) → r .answer ≡ Refused (refusalFor d (listRefusal d room)) → r .count ≡ 0 → r .used ≡ fresh false → r ≡ begunOf d room
-  unfolding begunOf listAnswer listCount listUsed
-  begun-refused e r a n u = rw (ne-eqb (listRefusal d room) 0 e) (λ i. record { answer = a i; count = n i; used = u i })
+  begun-refused : (listRefusal d room ≡ 0 → ⊥) → (r : Begun) → r .answer ≡ Refused (refusalFor d (listRefusal d room)) → r .count ≡ 0 → r .before ≡ layingFresh false → r ≡ begunOf d room
+  unfolding begunOf listAnswer listCount listLaying
+  begun-refused e r a n u = rw (ne-eqb (listRefusal d room) 0 e) (λ i. record { answer = a i; count = n i; before = u i })
 
-  pub begin-refused : (f : Refusal) (r : Begun) → layoutAnswer d ≡ Refused f → r .answer ≡ Refused f → r .count ≡ 0 → r .used ≡ fresh false → r ≡ begunOf d room
+  pub begin-refused : (f : Refusal) (r : Begun) → layoutAnswer d ≡ Refused f → r .answer ≡ Refused f → r .count ≡ 0 → r .before ≡ layingFresh false → r ≡ begunOf d room
   begin-refused f r e a n u =
       let z = refused-nonzero d f e in
       begun-refused (λ q. z (sym (list-verdict z) ∙ q)) r (a ∙ ap Refused (refused-verdict d f e ∙ ap (refusalFor d) (sym (list-verdict z)))) n u
 
   pub begin-short : (l : Layout) (f : Refusal) (r : Begun) → layoutAnswer d ≡ Laid l → room < argumentsIn d → f ≡ refusalOf 11 → r .answer ≡ Refused f → r .count ≡ 0
-      → r .used ≡ fresh false → r ≡ begunOf d room
+      → r .before ≡ layingFresh false → r ≡ begunOf d room
   begin-short l f r e h q a n u =
       let v = eleven (laid-accepted d l e .0) h in
       begun-refused (λ z. omega arith) r (a ∙ ap Refused (q ∙ sym (no-type d 11 refl refl) ∙ ap (refusalFor d) (sym v))) n u
 
-  pub begin-laid : (l : Layout) (r : Begun) → layoutAnswer d ≡ Laid l → argumentsIn d ≤ room → r .answer ≡ Laid l → r .count ≡ argumentsIn d → r .used ≡ fresh (l .hidden)
+  pub begin-laid : (l : Layout) (r : Begun) → layoutAnswer d ≡ Laid l → argumentsIn d ≤ room → r .answer ≡ Laid l → r .count ≡ argumentsIn d → r .before ≡ layingFresh (l .hidden)
       → r ≡ begunOf d room
   unfolding layoutOf
   begin-laid l r e h a n u =
       let k = laid-accepted d l e in
-      begun-accepted (no-eleven (k .0) h) r (a ∙ ap Laid (k .1)) n (u ∙ ap (λ (m : Layout). fresh (m .hidden)) (k .1))
+      begun-accepted (no-eleven (k .0) h) r (a ∙ ap Laid (k .1)) n (u ∙ ap (λ (m : Layout). layingFresh (m .hidden)) (k .1))
 
   pub begun-answer : begunOf d room .answer ≡ listAnswer d room
   unfolding begunOf
@@ -102,18 +100,18 @@ module _ (d : List ℕ) (room : ℕ) where
   unfolding begunOf
   begun-count = refl
 
-  pub begun-used : begunOf d room .used ≡ listUsed d room 0
+  pub begun-before : begunOf d room .before ≡ listLaying d room 0
   unfolding begunOf
-  begun-used = refl
+  begun-before = refl
 
   -- what `open_list` answers
-  pub opened-is : (h : Begun) (t : List ℕ) (r : Opened) → h ≡ begunOf d room → t ≡ tableAfter d (replicate 64 0) → r .answer ≡ h .answer → r .count ≡ h .count → r .used ≡ h .used → r .table ≡ t
+  pub opened-is : (h : Begun) (t : List ℕ) (r : Opened) → h ≡ begunOf d room → t ≡ tableAfter d (replicate 64 0) → r .answer ≡ h .answer → r .count ≡ h .count → r .before ≡ h .before → r .table ≡ t
       → r ≡ openedOf d room
   unfolding begunOf openedOf
   opened-is h t r eh et a n u w = λ i. record {
     answer = (a ∙ ap (λ (b : Begun). b .answer) eh) i;
     count = (n ∙ ap (λ (b : Begun). b .count) eh) i;
-    used = (u ∙ ap (λ (b : Begun). b .used) eh) i;
+    before = (u ∙ ap (λ (b : Begun). b .before) eh) i;
     table = (w ∙ et) i;
   }
 
@@ -125,9 +123,9 @@ module _ (d : List ℕ) (room : ℕ) where
   unfolding openedOf
   opened-count = refl
 
-  pub opened-used : openedOf d room .used ≡ listUsed d room 0
+  pub opened-before : openedOf d room .before ≡ listLaying d room 0
   unfolding openedOf
-  opened-used = refl
+  opened-before = refl
 
   -- the turns of the loop: there are some only where the list is filled
   module _ (i : ℕ) (less : i < listCount d room) where
@@ -143,22 +141,19 @@ module _ (d : List ℕ) (room : ℕ) where
     unfolding listCount
     there = rw (eq-eqb (listRefusal d room) 0 filling) at less
 
-    used-is : (j : ℕ) → listUsed d room j ≡ usedAt d j
-    unfolding listUsed
-    used-is j = rw (eq-eqb (listRefusal d room) 0 filling)
+    laying-is : (j : ℕ) → listLaying d room j ≡ layingAt d j
+    unfolding listLaying
+    laying-is j = rw (eq-eqb (listRefusal d room) 0 filling)
 
     pub turn-accepted : verdict d ≡ 0
     turn-accepted = list-accepted filling
 
-    pub turn-asks : AskArgument d i (listUsed d room i)
-    turn-asks =
-        let a = asks-at d (accepted-uses d (list-accepted filling)) i (argumentsIn d) (omega (arith, there)) (omega arith) in
-        rw (used-is i) (record { right = a .right; there = there; before = a .before })
+    pub turn-asks : AskRecord d i (listLaying d room i)
+    turn-asks = rw (laying-is i) (record-asks d (accepted-uses d (list-accepted filling)) i there)
 
-    pub turn-record : stepAt d (listUsed d room i) i .placement ≡ placementAt d i
+    pub turn-record : stepAt d (listLaying d room i) i .placement ≡ placementAt d i
     unfolding stepAt placementAt
-    turn-record = rw (used-is i)
+    turn-record = rw (laying-is i)
 
-    pub turn-used : stepAt d (listUsed d room i) i .used ≡ listUsed d room (i + 1)
-    unfolding stepAt
-    turn-used = ap (λ (u : Used). next eights u (shapeAt d i)) (used-is i) ∙ sym (used-next d i) ∙ sym (used-is (i + 1))
+    pub turn-after : stepAt d (listLaying d room i) i .after ≡ listLaying d room (i + 1)
+    turn-after = ap (λ (l : Laying). stepAt d l i .after) (laying-is i) ∙ laying-next d i ∙ sym (laying-is (i + 1))

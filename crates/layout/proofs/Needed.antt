@@ -23,7 +23,7 @@ use Rattle.places.proofs.Apart.{after-grows}
 use Rattle.places.proofs.Records.{place-written}
 use Rattle.layout.specs.Arguments.{shapeAt, shapesFrom, shapes, usedFirst, usedAt, areaOf}
 use Rattle.layout.specs.Verdict.{wideArea, verdict}
-use Rattle.layout.specs.Placements.{placementAt}
+use Rattle.layout.specs.Placements.{layingAt, placementAt}
 use Rattle.layout.specs.StackNeeds.{stacked, firstStacked, stackNeed, OnStack, FirstOnStack, StackNeeded}
 use Rattle.layout.proofs.Arguments.{used-none, used-split}
 use Rattle.layout.proofs.Bounds.{argument-shaped}
@@ -49,7 +49,7 @@ module _ (d : List ℕ) (right : usesRefusal d ≡ 0) where
   -- ---- what a record says
 
   said : (i : ℕ) → i < argumentsIn d → placeOf (placementAt d i .place) ≡ place eights (usedAt d i) (shapeAt d i)
-  unfolding placementAt
+  unfolding placementAt layingAt
   said i l = place-written (usedAt d i) (shapeAt d i) (argument-shaped d right i l)
 
   on-stack : (i : ℕ) → i < argumentsIn d → stacked d i ≡ true → OnStack d i

@@ -1,5 +1,5 @@
 -- What the records of an accepted description are sure of: their addresses are those that bytes are moved by, and all is bounded (A6). Assumes nothing.
-use mathlib.Core.Path.{_≡_, refl, ap, ap₂, _∙_}
+use mathlib.Core.Path.{_≡_, refl, sym, ap, ap₂, _∙_}
 use mathlib.Core.List.{List, _++_}
 use Prim.Native.Nat.{ℕ, zero, suc, _+_, _≤_, _<_}
 use native.Mathlib.Omega.{arith}
@@ -16,19 +16,19 @@ use Rattle.places.specs.Images.{stackAt, bytesOf, addresses}
 use Rattle.places.specs.Recorded.{placeOf}
 use Rattle.places.proofs.Records.{place-written}
 use Rattle.places.proofs.Offsets.{area-rounded, area-sixteens}
-use Rattle.layout.specs.Arguments.{shapeAt, shapesFrom, shapes, usedFirst, usedAt, areaOf}
+use Rattle.layout.specs.Arguments.{isNamed, shapeAt, shapesFrom, shapes, usedFirst, usedAt, valueStart, areaOf}
 use Rattle.layout.specs.Verdict.{verdict}
 use Rattle.layout.specs.Layout.{valuesOf}
-use Rattle.layout.specs.Placements.{placementAt}
-use Rattle.layout.specs.Statements.{Bounded, recordAddresses}
-use Rattle.layout.proofs.Arguments.{used-none, used-next}
+use Rattle.layout.specs.Placements.{layingAt, placementAt}
+use Rattle.layout.specs.Statements.{Bounded, recordAddresses, ValuesPacked}
+use Rattle.layout.proofs.Arguments.{used-none, used-next, start-none, start-next}
 use Rattle.layout.proofs.Verdict.{accepted-uses, accepted-area}
 use Rattle.layout.proofs.Bounds.{argument-shaped}
-use Rattle.layout.proofs.Layouts.{asks-at, valuesAt}
+use Rattle.layout.proofs.Layouts.{asks-at}
 
 module _ (d : List ℕ) (right : usesRefusal d ≡ 0) where
   record-bytes : (i : ℕ) → i < argumentsIn d → bytesOf stackAt (placeOf (placementAt d i .place)) (placementAt d i .size .0) ≡ bytesOf stackAt (place eights (usedAt d i) (shapeAt d i)) (shapeAt d i .size)
-  unfolding placementAt
+  unfolding placementAt layingAt
   record-bytes i h = ap (λ (p : Place). bytesOf stackAt p (shapeAt d i .size)) (place-written (usedAt d i) (shapeAt d i) (argument-shaped d right i h))
 
   -- bytes are moved by the addresses of the records that `lay_out` writes, one after the other
@@ -43,7 +43,7 @@ module _ (d : List ℕ) (right : usesRefusal d ≡ 0) where
   all-addresses = records-addresses (argumentsIn d) 0 (omega arith) ∙ ap (λ (u : Used). addresses stackAt eights u (shapes d)) (used-none d)
 
 pub accepted-bounded : (d : List ℕ) → IsBytes d → verdict d ≡ 0 → Bounded d
-unfolding valuesOf valuesAt areaOf usedAt
+unfolding valuesOf valueStart areaOf usedAt
 accepted-bounded d bytes v =
     let right = accepted-uses d v in
     let types = accepted-types d right in
@@ -61,3 +61,17 @@ accepted-bounded d bytes v =
       rounded = area-rounded eights (usedFirst d) (shapes d) .multiple;
       values = all .sum;
     }
+
+-- the values lie one behind the other, from 0 to the total
+start-end : (d : List ℕ) → valueStart d (argumentsIn d) ≡ valuesOf d
+unfolding valueStart valuesOf
+start-end d = refl
+
+pub values-packed : (d : List ℕ) → ValuesPacked d
+unfolding placementAt layingAt isNamed
+values-packed d = record {
+  first = start-none d;
+  next = λ i. start-next d i;
+  last = λ i e. sym (start-next d i) ∙ ap (valueStart d) e ∙ start-end d;
+  marks = λ i. refl;
+}

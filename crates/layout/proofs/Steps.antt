@@ -2,7 +2,7 @@
 use mathlib.Core.Path.{_≡_, refl, sym, ap, _∙_}
 use mathlib.Core.Bool.{Bool, false}
 use mathlib.Core.List.{List, [], _∷_}
-use Prim.Native.Nat.{ℕ, _/_, _<_}
+use Prim.Native.Nat.{ℕ, _+_, _/_, _^_, _≤_, _<_}
 use native.Mathlib.Omega.{arith}
 use borrow.Author.Tests.{eq-eqb, ne-eqb}
 use lib.Dec.{ltb}
@@ -15,14 +15,14 @@ use Rattle.classes.specs.declared.Class.the-variants.{NoClass}
 use Rattle.classify.specs.Classify.{classesOf}
 use Rattle.uses.specs.Uses.{usesRefusal}
 use Rattle.uses.proofs.Uses.{accepted-types, accepted-return, right-below}
-use Rattle.places.specs.declared.Shape.{Shape as Coded}
 use Rattle.places.specs.declared.Used.{Used}
-use Rattle.places.specs.declared.Placed.{Placed}
+use Rattle.places.specs.declared.Place.{Place}
 use Rattle.places.specs.declared.ReturnPlace.{ReturnPlace}
 use Rattle.places.specs.declared.ReturnPlace.the-variants.{Void}
 use Rattle.places.specs.Shapes.{Shape, shapeOf, shapeIn, Asking}
 use Rattle.places.specs.Places.{eights, place, next}
-use Rattle.places.specs.Recorded.{asked, recorded, IsPlaced, Room, Small}
+use Rattle.places.specs.Recorded.{placeOf, recorded, Room, Small}
+use Rattle.places.specs.Asked.{Between}
 use Rattle.places.specs.Returns.{returnOf, classesBy, hiddenBy, hiddenFor}
 use Rattle.places.proofs.Records.{place-is, shape-known}
 use Rattle.places.proofs.Asking.{asking-known}
@@ -33,10 +33,11 @@ use Rattle.types.specs.declared.Extent.{Extent}
 use Rattle.classify.specs.Table.{pairIn, wideIn, unpackedOf, Tabled}
 use Rattle.classify.proofs.Table.{pair-taken}
 use Rattle.layout.specs.Arguments.{isNamed, shapeAt, isVoid, returnClasses, returnPlace, returnedSize, hidden}
-use Rattle.layout.specs.Asks.{AskArgument}
-use Rattle.layout.specs.Placements.{stepAt, turnAt}
+use Rattle.layout.specs.Asks.{AskArgument, AskRecord}
+use Rattle.layout.specs.Placements.{stepOf, stepAt, turnAt}
 use Rattle.layout.specs.declared.placements.Turn.{Turn}
-use Rattle.layout.proofs.Bounds.{arguments-few, types-few, argument-known, argument-small, before-room}
+use Rattle.layout.specs.declared.placements.Laying.{Laying}
+use Rattle.layout.proofs.Bounds.{arguments-few, types-few, argument-known, argument-small, argument-some, argument-shaped, before-room}
 use Rattle.layout.specs.declared.placements.Step.{Step}
 
 -- what is returned
@@ -87,17 +88,6 @@ pub named-by : (d : List ℕ) (i n : ℕ) → n ≡ namedIn d → isNamed d i �
 unfolding isNamed
 named-by d i n e = rw e
 
-pub step-is : (d : List ℕ) (u : Used) (i k : ℕ) (s : Coded) (p : Placed) → k ≡ argumentAt d i → asked s ≡ shapeAt d i
-    → IsPlaced (place eights u (asked s)) (next eights u (asked s)) p
-    → _≡_ {A = Step} (record { placement = record { ty = k; size = s .size; align = s .align; place = p .place }; used = p .used }) (stepAt d u i)
-unfolding stepAt
-step-is d u i k s p e f h =
-    let size : s .size .0 ≡ shapeAt d i .size = ap (λ (x : Shape). x .size) f in
-    let align : s .align .0 ≡ shapeAt d i .align = ap (λ (x : Shape). x .align) f in
-    let placed = place-is (p .place) (place eights u (asked s)) (h .place) ∙ ap (λ (x : Shape). recorded (place eights u x)) f in
-    let used = h .used ∙ ap (λ (x : Shape). next eights u x) f in
-    λ j. record { placement = record { ty = e j; size = record { 0 = size j }; align = record { 0 = align j }; place = placed j }; used = used j }
-
 -- by the entry of the argument's type
 module _ (d t : List ℕ) (w : Tabled d t) (u : Used) (i : ℕ) (a : AskArgument d i u) (k : ℕ) (e : k ≡ argumentAt d i) (named : Bool) (n : isNamed d i ≡ named) where
   known : k < typesIn d
@@ -110,16 +100,12 @@ module _ (d t : List ℕ) (w : Tabled d t) (u : Used) (i : ℕ) (a : AskArgument
   pub turn-low : k < 64
   turn-low = omega (arith, known, types-few d (a .right))
 
-  pub shape-asks : (s : Coded) → asked s ≡ shapeIn named (getD t k 0) → Room u × Small (asked s)
-  shape-asks s f = (before-room i u (omega (arith, arguments-few d (a .right), a .there)) (a .before), rw (f ∙ entry-shape) (argument-small d (a .right) i (a .there)))
+  pub place-asks : (k < 64) × Room u × Small (shapeIn named (getD t k 0))
+  place-asks = (turn-low, before-room i u (omega (arith, arguments-few d (a .right), a .there)) (a .before), rw entry-shape (argument-small d (a .right) i (a .there)))
 
-  pub shape-is : (s : Coded) → asked s ≡ shapeIn named (getD t k 0) → asked s ≡ shapeAt d i
-  shape-is s f = f ∙ entry-shape
-
-  -- the same without the record
+  -- without the record
   pub turn-asks : (k < 64) × Room u × Small (shapeIn named (getD t k 0)) × Asking (getD t k 0)
-  turn-asks =
-      (turn-low, before-room i u (omega (arith, arguments-few d (a .right), a .there)) (a .before), rw entry-shape (argument-small d (a .right) i (a .there)), asking-known d t w k known)
+  turn-asks = (place-asks .0, place-asks .1, place-asks .2, asking-known d t w k known)
 
   pub turn-is : (x : Extent) → IsEntry (getD t k 0) x → (after : Used) → after ≡ next eights u (shapeIn named (getD t k 0))
       → _≡_ {A = Turn} (record { size = x .size; used = after }) (turnAt d u i)
@@ -128,3 +114,58 @@ module _ (d t : List ℕ) (w : Tabled d t) (u : Used) (i : ℕ) (a : AskArgument
       let size : x .size .0 ≡ shapeAt d i .size = h .size ∙ ap (λ (s : Shape). s .size) entry-shape in
       let used : after ≡ next eights u (shapeAt d i) = q ∙ ap (λ (s : Shape). next eights u s) entry-shape in
       λ j. record { size = record { 0 = size j }; used = used j }
+
+-- the record, by the same entry
+module _ (d t : List ℕ) (w : Tabled d t) (l : Laying) (i : ℕ) (a : AskRecord d i l) (k : ℕ) (e : k ≡ argumentAt d i) (named : Bool) (n : isNamed d i ≡ named) (x : Extent) (h : IsEntry (getD t k 0) x) where
+  shape-is : shapeIn named (getD t k 0) ≡ shapeAt d i
+  shape-is = entry-shape d t w (l .used) i (a .argument) k e named n
+
+  size-is : x .size .0 ≡ shapeAt d i .size
+  unfolding shapeIn
+  size-is = h .size ∙ ap (λ (s : Shape). s .size) shape-is
+
+  align-is : x .align .0 ≡ shapeAt d i .align
+  unfolding shapeIn
+  align-is = h .align ∙ ap (λ (s : Shape). s .align) shape-is
+
+  -- no sum overflows
+  pub values-room : l .values .0 + x .size .0 ≤ 2 ^ 63
+  values-room =
+      omega (
+        arith,
+        size-is,
+        argument-small d (a .argument .right) i (a .argument .there) .size,
+        a .sum,
+        arguments-few d (a .argument .right),
+        a .argument .there,
+      )
+
+  -- what `place_between` asks, where u is used after the argument
+  pub between-asks : (u : Used) → u ≡ next eights (l .used) (shapeIn named (getD t k 0))
+      → (k < 64) × (l .used .stack .0 ≤ 2 ^ 20) × (x .align .0 ≤ 32) × IsEntry (getD t k 0) x × Between named (getD t k 0) (l .used) u
+  unfolding shapeIn
+  between-asks u f =
+      let asks = place-asks d t w (l .used) i (a .argument) k e named n in (
+        asks .0,
+        asks .1 .stack,
+        omega (arith, align-is, argument-small d (a .argument .right) i (a .argument .there) .align),
+        h,
+        record {
+          shaped = rw shape-is (argument-shaped d (a .argument .right) i (a .argument .there));
+          some = omega (arith, ap (λ (s : Shape). s .size) shape-is, argument-some d (a .argument .right) i (a .argument .there));
+          after = f;
+        },
+      )
+
+  pub step-is : (u : Used) → u ≡ next eights (l .used) (shapeIn named (getD t k 0))
+      → (p : Place) → placeOf p ≡ place eights (l .used) (shapeIn named (getD t k 0))
+      → stepOf l k x p named u ≡ stepAt d l i
+  unfolding stepAt
+  step-is u f p g =
+      let placed = place-is p (place eights (l .used) (shapeIn named (getD t k 0))) g ∙ ap (λ (s : Shape). recorded (place eights (l .used) s)) shape-is in
+      let used = f ∙ ap (λ (s : Shape). next eights (l .used) s) shape-is in
+      let values : l .values .0 + x .size .0 ≡ l .values .0 + shapeAt d i .size = ap (λ (m : ℕ). l .values .0 + m) size-is in
+      λ j. record {
+        placement = record { ty = e j; size = record { 0 = size-is j }; align = record { 0 = align-is j }; place = placed j; at = l .values; named = sym n j };
+        after = record { used = used j; values = record { 0 = values j } };
+      }

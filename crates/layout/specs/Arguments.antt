@@ -13,6 +13,7 @@ use Rattle.places.specs.declared.ReturnPlace.{ReturnPlace}
 use Rattle.places.specs.declared.ReturnPlace.the-variants.{Void}
 use Rattle.places.specs.Shapes.{Shape, shapeOf}
 use Rattle.places.specs.Places.{eights, fresh, after, area}
+use Rattle.places.specs.Images.{total}
 use Rattle.places.specs.Returns.{returnOf, hiddenFor}
 
 -- "N, named arguments": the first N are
@@ -56,6 +57,10 @@ usedFirst d = fresh (hidden d)
 
 unfoldable pub usedAt : List ℕ → ℕ → Used
 usedAt d i = after eights (usedFirst d) (shapesFrom d 0 i)
+
+-- where the value of argument i begins: "packed, argument after argument, size bytes each, no gaps"
+unfoldable pub valueStart : List ℕ → ℕ → ℕ
+valueStart d i = total (shapesFrom d 0 i)
 
 -- "The stack image is the rounded area"
 unfoldable pub areaOf : List ℕ → ℕ

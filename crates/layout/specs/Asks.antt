@@ -24,6 +24,11 @@ pub record AskArgument (d : List ℕ) (i : ℕ) (u : Used) : Type 0 where
   pub there : i < argumentsIn d
   pub before : Before i u
 
+-- the same, and so few bytes of values before it that no sum overflows
+pub record AskRecord (d : List ℕ) (i : ℕ) (l : Laying) : Type 0 where
+  pub argument : AskArgument d i (l .used)
+  pub sum : l .values .0 ≤ 4096 * i
+
 -- arguments i to n, those before them having so many bytes
 pub record AskArguments (d : List ℕ) (i n : ℕ) (u : Used) (bytes : ℕ) : Type 0 where
   pub right : usesRefusal d ≡ 0

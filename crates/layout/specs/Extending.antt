@@ -40,6 +40,8 @@ pub record Unmoved (d e : List ℕ) : Type 0 where
   pub places : (i : ℕ) → i < argumentsIn d → placementAt e i .place ≡ placementAt d i .place
   pub sizes : (i : ℕ) → i < argumentsIn d → placementAt e i .size ≡ placementAt d i .size
   pub aligns : (i : ℕ) → i < argumentsIn d → placementAt e i .align ≡ placementAt d i .align
+  pub values : (i : ℕ) → i < argumentsIn d → placementAt e i .at ≡ placementAt d i .at
+  pub marks : (i : ℕ) → i < argumentsIn d → placementAt e i .named ≡ placementAt d i .named
   pub address : hidden e ≡ hidden d
   pub general : layoutOf d .used .general .0 ≤ layoutOf e .used .general .0
   pub vector : layoutOf d .used .vector .0 ≤ layoutOf e .used .vector .0

@@ -9,9 +9,8 @@ use Rattle.description.specs.Description.{argumentsIn}
 use Rattle.form.specs.Order.{Rule, rule, first}
 use Rattle.types.specs.Wrong.{refusalFor}
 unfoldable pub use Rattle.types.specs.Table.{filled}
-use Rattle.places.specs.declared.Used.{Used}
-use Rattle.places.specs.Places.{fresh}
-use Rattle.layout.specs.Arguments.{usedAt}
+use Rattle.layout.specs.Placements.{layingFresh, layingAt}
+use Rattle.layout.specs.declared.placements.Laying.{Laying}
 use Rattle.layout.specs.Verdict.{checkOrder}
 use Rattle.layout.specs.Layout.{layoutOf, tableAfter}
 use Rattle.layout.specs.declared.LayoutAnswer.{LayoutAnswer}
@@ -37,14 +36,14 @@ listAnswer d room = cond (eqb (listRefusal d room) 0) (Laid (layoutOf d)) (Refus
 unfoldable pub listCount : List ℕ → ℕ → ℕ
 listCount d room = cond (eqb (listRefusal d room) 0) (argumentsIn d) 0
 
--- what is used before record i is written
-unfoldable pub listUsed : List ℕ → ℕ → ℕ → Used
-listUsed d room i = cond (eqb (listRefusal d room) 0) (usedAt d i) (fresh false)
+-- what is laid out before record i is written
+unfoldable pub listLaying : List ℕ → ℕ → ℕ → Laying
+listLaying d room i = cond (eqb (listRefusal d room) 0) (layingAt d i) (layingFresh false)
 
 -- what is decided before the first record
 unfoldable pub begunOf : List ℕ → ℕ → Begun
-begunOf d room = record { answer = listAnswer d room; count = listCount d room; used = listUsed d room 0 }
+begunOf d room = record { answer = listAnswer d room; count = listCount d room; before = listLaying d room 0 }
 
 -- the same, and the table that the records are made by
 unfoldable pub openedOf : List ℕ → ℕ → Opened
-openedOf d room = record { answer = listAnswer d room; count = listCount d room; used = listUsed d room 0; table = tableAfter d (replicate 64 0) }
+openedOf d room = record { answer = listAnswer d room; count = listCount d room; before = listLaying d room 0; table = tableAfter d (replicate 64 0) }

@@ -2,8 +2,9 @@
 use mathlib.Core.Path.{_≡_}
 use mathlib.Core.List.{List, [], _++_}
 use Prim.Native.Nat.{ℕ, zero, suc, _+_, _*_, _%_, _≤_, _<_}
+use lib.Dec.{ltb}
 use lib.ListN.{length}
-use Rattle.description.specs.Description.{typesIn, argumentsIn, modelIn}
+use Rattle.description.specs.Description.{typesIn, namedIn, argumentsIn, modelIn}
 use Rattle.types.specs.Size.{sizeTy, alignTy}
 use Rattle.types.specs.Decode.{tyAt}
 use Rattle.types.specs.Alignments.{Alignment}
@@ -32,3 +33,11 @@ pub record Bounded (d : List ℕ) : Type 0 where
 unfoldable pub recordAddresses : List ℕ → ℕ → ℕ → List ℕ
 recordAddresses d i zero = []
 recordAddresses d i (suc n) = bytesOf stackAt (placeOf (placementAt d i .place)) (placementAt d i .size .0) ++ recordAddresses d (i + 1) n
+
+-- request 2026-07, of the records of any description: "The records' offsets start at 0, each is the one before plus its size, and the last ends at the total";
+-- "whether it is named": the first N are
+pub record ValuesPacked (d : List ℕ) : Type 0 where
+  pub first : placementAt d 0 .at .0 ≡ 0
+  pub next : (i : ℕ) → placementAt d (i + 1) .at .0 ≡ placementAt d i .at .0 + placementAt d i .size .0
+  pub last : (i : ℕ) → i + 1 ≡ argumentsIn d → placementAt d i .at .0 + placementAt d i .size .0 ≡ valuesOf d
+  pub marks : (i : ℕ) → placementAt d i .named ≡ ltb i (namedIn d)

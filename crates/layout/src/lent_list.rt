@@ -2,31 +2,31 @@
 use crate::LayoutAnswer;
 use crate::deciding;
 use crate::placements;
+use crate::placements::Laying;
 use crate::placements::Placement;
 use crate::placements::Step;
-use places::Used;
 ghost use mathlib.Core.Path.{_≡_};
 ghost use Prim.Native.Nat.{_≤_};
 ghost use Rattle.classify.specs.Table.{Tabled};
 ghost use Rattle.layout.specs.Verdict.{verdict};
 ghost use Rattle.layout.specs.Layout.{tableAfter};
 ghost use Rattle.layout.specs.Placements.{stepAt, placementAt};
-ghost use Rattle.layout.specs.Asks.{AskArgument};
+ghost use Rattle.layout.specs.Asks.{AskRecord};
 ghost use Rattle.layout.specs.Lists.{begunOf, openedOf, listAnswer, listCount, filled};
 ghost use lib.ListN.{length};
 
-// Before the first record: the answer, how many records there are, none for a refusal, and what is used.
+// Before the first record: the answer, how many records there are, none for a refusal, and what is laid out already.
 pub struct Begun {
     pub answer: LayoutAnswer,
     pub count: usize,
-    pub used: Used,
+    pub before: Laying,
 }
 
 // The same, and the table that the records are made by.
 pub struct Opened {
     pub answer: LayoutAnswer,
     pub count: usize,
-    pub used: Used,
+    pub before: Laying,
     pub table: [u32; 64],
 }
 
@@ -44,7 +44,7 @@ pub fn begin_with(d: &[u8], room: usize, table: &mut [u32; 64]) -> Begun
         return Begun {
             answer: answer,
             count: 0,
-            used: places::fresh(false),
+            before: placements::laying_fresh(false),
         };
     };
     let arguments = description::byte_at(d, 8);
@@ -52,13 +52,13 @@ pub fn begin_with(d: &[u8], room: usize, table: &mut [u32; 64]) -> Begun
         return Begun {
             answer: LayoutAnswer::Refused(form::refusal_of(11)),
             count: 0,
-            used: places::fresh(false),
+            before: placements::laying_fresh(false),
         };
     }
     Begun {
         answer: answer,
         count: arguments,
-        used: places::fresh(layout.hidden),
+        before: placements::laying_fresh(layout.hidden),
     }
 }
 
@@ -70,22 +70,22 @@ fn open_list(d: &[u8], room: usize) -> Opened
     let mut table = [0u32; 64];
     let head = begin_with(d, room, &mut table);
     let answer = head.answer;
-    let used = head.used;
+    let before = head.before;
     Opened {
         answer: answer,
         count: head.count,
-        used: used,
+        before: before,
         table: table,
     }
 }
 
-// The record of argument i, and what is used after it, by a table by value.
-fn place_by(d: &[u8], used: Used, i: usize, opened: Opened) -> Step
-    requires { ⌜ AskArgument (now d) i used × Tabled (now d) (opened .table) ⌝ }
-    ensures { λ r. ⌜ r ≡ stepAt (now (d .entry)) used i ⌝ }
+// The record of argument i, and what is laid out after it, by a table by value.
+fn place_by(d: &[u8], before: Laying, i: usize, opened: Opened) -> Step
+    requires { ⌜ AskRecord (now d) i before × Tabled (now d) (opened .table) ⌝ }
+    ensures { λ r. ⌜ r ≡ stepAt (now (d .entry)) before i ⌝ }
 {
     let table = opened.table;
-    placements::place_argument(d, used, i, &table)
+    placements::place_argument(d, before, i, &table)
 }
 
 // ---- the list
@@ -98,12 +98,12 @@ pub fn lay_out(d: &[u8], list: &mut [Placement]) -> LayoutAnswer
 {
     let opened = open_list(d, list.len());
     let n = opened.count;
-    let mut used = opened.used;
+    let mut before = opened.before;
     let mut i = 0;
     while i < n {
-        let step = place_by(d, used, i, opened);
+        let step = place_by(d, before, i, opened);
         list[i] = step.placement;
-        used = step.used;
+        before = step.after;
         i += 1;
     }
     opened.answer

@@ -10,9 +10,12 @@ pub use lent_list::lay_out;
 pub use needing::StackAnswer;
 pub use needing::StackNeed;
 pub use needing::needs_stack;
+pub use placements::Laying;
 pub use placements::Placement;
 pub use placements::Step;
+pub use placements::laying_fresh;
 pub use placements::place_argument;
+pub use placements::step_of;
 
 mod placements; // the record of one argument, and what is used after some of them
 mod deciding; // the verdict 1 to 10, and the layout of any bytes

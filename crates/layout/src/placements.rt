@@ -2,39 +2,42 @@
 use places::Place;
 use places::ReturnPlace;
 use places::Used;
+use types::Extent;
 use units::Bytes;
 ghost use mathlib.Core.Path.{_≡_};
-ghost use Prim.Native.Nat.{_-_};
+ghost use Prim.Native.Nat.{_+_, _-_, _^_, _≤_, _<_};
 ghost use Rattle.classify.specs.Table.{Tabled};
 ghost use Rattle.uses.specs.Uses.{usesRefusal};
 ghost use Rattle.layout.specs.Arguments.{isNamed, shapesFrom, returnPlace, returnedSize, hidden};
-ghost use Rattle.layout.specs.Placements.{stepAt, turnAt};
-ghost use Rattle.layout.specs.Asks.{AskArgument, AskArguments, Alike, IsLaid};
+ghost use Rattle.layout.specs.Placements.{layingFresh, stepOf, stepAt, turnAt};
+ghost use Rattle.layout.specs.Asks.{AskArgument, AskRecord, AskArguments, Alike, IsLaid};
 
-// One argument: its type's number, size and alignment, and its place.
+// One argument: its type's number, size and alignment, and its place; where its value begins in the packed values, and whether it is named (request 2026-07).
 pub struct Placement {
     pub ty: u8,
     pub size: Bytes,
     pub align: Bytes,
     pub place: Place,
-}
-
-// The record of one argument, and what is used after it.
-pub struct Step {
-    pub placement: Placement,
-    pub used: Used,
-}
-
-// The bytes of one argument, and what is used after it.
-pub struct Turn {
-    pub size: Bytes,
-    pub used: Used,
+    pub at: Bytes,
+    pub named: bool,
 }
 
 // What is used, and how many bytes the values have, after some arguments.
 pub struct Laying {
     pub used: Used,
     pub values: Bytes,
+}
+
+// The record of one argument, and what is used, and how many bytes the values have, after it.
+pub struct Step {
+    pub placement: Placement,
+    pub after: Laying,
+}
+
+// The bytes of one argument, and what is used after it.
+pub struct Turn {
+    pub size: Bytes,
+    pub used: Used,
 }
 
 // Where the value is returned.
@@ -78,28 +81,59 @@ pub fn hidden_of(d: &[u8], table: &[u32; 64]) -> bool
     places::hidden_for(first)
 }
 
-// The record of argument i, and what is used after it.
-pub fn place_argument(d: &[u8], used: Used, i: usize, table: &[u32; 64]) -> Step
-    requires { ⌜ AskArgument (now d) i used × Tabled (now d) (now table) ⌝ }
-    ensures { λ r. ⌜ r ≡ stepAt (now (d .entry)) used i ⌝ }
+// Where no argument is laid out yet: the hidden address may be, and there is no value.
+pub fn laying_fresh(hidden: bool) -> Laying
+    ensures { λ r. ⌜ r ≡ layingFresh hidden ⌝ }
 {
-    let k = description::argument_at(d, i);
-    let named = i < description::byte_at(d, 7);
-    let shape = places::shape_in(table, k, named);
-    let size = shape.size;
-    let align = shape.align;
-    let placed = places::place_shape(used, shape);
-    let place = placed.place;
-    let after = placed.used;
+    Laying {
+        used: places::fresh(hidden),
+        values: Bytes(0),
+    }
+}
+
+// The record of an argument of type k, where `before` is laid out before it, and what is laid out after it, `used` being used then.
+pub fn step_of(
+    before: Laying,
+    k: usize,
+    extent: Extent,
+    place: Place,
+    named: bool,
+    used: Used,
+) -> Step
+    requires { ⌜ (k < 64) × (before .values .0 + extent .size .0 ≤ 2 ^ 63) ⌝ }
+    ensures { λ r. ⌜ r ≡ stepOf before k extent place named used ⌝ }
+{
+    let size = extent.size;
+    let align = extent.align;
+    let at = before.values;
+    let values = units::plus(at, size);
     Step {
         placement: Placement {
             ty: k as u8,
             size: size,
             align: align,
             place: place,
+            at: at,
+            named: named,
         },
-        used: after,
+        after: Laying {
+            used: used,
+            values: values,
+        },
     }
+}
+
+// The record of argument i, and what is used, and how many bytes the values have, after it.
+pub fn place_argument(d: &[u8], before: Laying, i: usize, table: &[u32; 64]) -> Step
+    requires { ⌜ AskRecord (now d) i before × Tabled (now d) (now table) ⌝ }
+    ensures { λ r. ⌜ r ≡ stepAt (now (d .entry)) before i ⌝ }
+{
+    let k = description::argument_at(d, i);
+    let named = i < description::byte_at(d, 7);
+    let extent = types::extent_in(table, k);
+    let used = places::use_type(before.used, table, k, named);
+    let place = places::place_between(before.used, used, table, k, extent, named);
+    step_of(before, k, extent, place, named, used)
 }
 
 // The bytes of argument i, and what is used after it, as its record says, without the record; the caller knows whether it is named.

@@ -98,12 +98,18 @@ fn print_record(i: usize, placement: Placement) {
     let size = placement.size;
     let align = placement.align;
     let place = placement.place;
+    let at = placement.at;
     print_number(b"", i as u64);
     print_number(b" type ", placement.ty as u64);
     print_number(b" size ", size.0 as u64);
     print_number(b" align ", align.0 as u64);
     print_place(place);
-    print(b"\n");
+    print_number(b" at ", at.0 as u64);
+    if placement.named {
+        print(b" named\n");
+    } else {
+        print(b" unnamed\n");
+    }
 }
 
 fn print_returned(d: &[u8], returns: ReturnPlace) {
@@ -182,13 +188,13 @@ fn print_records(d: &[u8], room: usize, begun: Begun, table: &[u32; 64])
     requires { ⌜ (begun ≡ begunOf (now d) room) × (verdict (now d) ≡ 0 → Tabled (now d) (now table)) ⌝ }
 {
     let count = begun.count;
-    let mut used = begun.used;
+    let mut before = begun.before;
     let mut i = 0;
     while i < count {
-        let step = layout::place_argument(d, used, i, table);
+        let step = layout::place_argument(d, before, i, table);
         let placement = step.placement;
         print_record(i, placement);
-        used = step.used;
+        before = step.after;
         i += 1;
     }
 }

@@ -10,7 +10,7 @@ use telling::refuse_usage;
 fn list(fd: i32, name: &[u8]) {
     // No description has more than 586 bytes: with one more, what stands behind one is seen, and is refused.
     let mut space = [0u8; 587];
-    let mut text = [0u8; 4096];
+    let mut text = [0u8; 8192];
     let got = input::read_input(fd, &mut space);
     if got < 0 {
         telling::cannot_read(name);
@@ -42,7 +42,7 @@ fn answer(argument: &[u8]) {
     } else if same(argument, b"--help") {
         telling::print_help();
     } else if same(argument, b"--version") {
-        print(b"kcb-list 4.0.0\n");
+        print(b"kcb-list 5.0.0\n");
     } else if is_option(argument) {
         refuse_usage();
     } else {

@@ -97,8 +97,8 @@ module _ (n : ℕ) {a : List ℕ} {at : ℕ} where
   wrote-five h w = wrote-more w (decimal-short 4 n h)
 
 -- the room that the last digit takes
-pub room-small : (n at : ℕ) → n < 10 → at + length (decimal n) ≤ 4096 → at < 4096
+pub room-small : (n at : ℕ) → n < 10 → at + length (decimal n) ≤ 8192 → at < 8192
 room-small n at h r = omega (arith, ap length (decimal-small n h))
 
-pub room-large : (n at : ℕ) → 10 ≤ n → at + length (decimal n) ≤ 4096 → at + length (decimal (n / 10)) < 4096
+pub room-large : (n at : ℕ) → 10 ≤ n → at + length (decimal n) ≤ 8192 → at + length (decimal (n / 10)) < 8192
 room-large n at h r = omega (arith, ap length (decimal-large n h), length-append (decimal (n / 10)) (digit (n % 10) ∷ []))

@@ -9,19 +9,17 @@ use borrow.Author.Tests.{ne-eqb}
 use lib.ListN.{length, drop}
 use Rattle.description.specs.Description.{variadicIn, namedIn, argumentsIn, returnIn}
 use Rattle.places.specs.declared.Used.{Used}
-use Rattle.places.specs.Places.{fresh, next}
 use Rattle.layout.specs.declared.Layout.{Layout}
+use Rattle.layout.specs.declared.placements.Laying.{Laying}
 use Rattle.layout.specs.declared.placements.Step.{Step}
 use Rattle.layout.specs.declared.LayoutAnswer.{LayoutAnswer}
 use Rattle.layout.specs.declared.LayoutAnswer.the-variants.{Laid}
-use Rattle.layout.specs.Arguments.{usedAt}
-use Rattle.layout.specs.Asks.{AskArgument}
+use Rattle.layout.specs.Asks.{AskRecord}
 use Rattle.layout.specs.Layout.{layoutOf, layoutAnswer}
-use Rattle.layout.specs.Placements.{placementAt, stepAt}
+use Rattle.layout.specs.Placements.{layingFresh, layingAt, placementAt, stepAt}
 use Rattle.layout.specs.Verdict.{verdict}
-use Rattle.layout.proofs.Arguments.{used-none, used-next}
 use Rattle.layout.proofs.Verdict.{accepted-uses}
-use Rattle.layout.proofs.Layouts.{asks-at, laid-accepted}
+use Rattle.layout.proofs.Layouts.{record-asks, laying-none, laying-next, laid-accepted}
 use Rattle.listing.specs.Written.{Wrote}
 use Rattle.listing.proofs.Written.{wrote-none, wrote-join, wrote-more, wrote-same, written-is}
 use Rattle.listing.specs.Words.{numbered, walk, gp, fp, over, newline}
@@ -43,47 +41,44 @@ records-next d i =
     ∙ sym (records-last d i 0)
     ∙ ap (recordLines d 0) (sym (add-one i))
 
--- i records are stored, and what they use is known
-pub record Going (d before : List ℕ) (at : ℕ) (after : List ℕ) (next : ℕ) (used : Used) (i : ℕ) : Type 0 where
+-- i records are stored, and what is laid out before the next is known
+pub record Going (d before : List ℕ) (at : ℕ) (after : List ℕ) (next : ℕ) (laid : Laying) (i : ℕ) : Type 0 where
   pub right : verdict d ≡ 0
   pub most : i ≤ argumentsIn d
-  pub used-is : used ≡ usedAt d i
-  pub wrote : Wrote (52 * i) before at (recordLines d 0 i) after next
+  pub laid-is : laid ≡ layingAt d i
+  pub wrote : Wrote (69 * i) before at (recordLines d 0 i) after next
 
-pub going-first : (d out : List ℕ) (at : ℕ) (l : Layout) (u : Used) → Accepted d l → u ≡ fresh (l .hidden) → Going d out at out at u 0
+pub going-first : (d out : List ℕ) (at : ℕ) (l : Layout) (x : Laying) → Accepted d l → x ≡ layingFresh (l .hidden) → Going d out at out at x 0
 unfolding recordLines layoutOf
-going-first d out at l u a e = record {
+going-first d out at l x a e = record {
   right = a .right;
   most = omega arith;
-  used-is = e ∙ ap (λ (k : Layout). fresh (k .hidden)) (a .laid) ∙ sym (used-none d);
+  laid-is = e ∙ ap (λ (k : Layout). layingFresh (k .hidden)) (a .laid) ∙ sym (laying-none d);
   wrote = wrote-none out at;
 }
 
-module _ {d a : List ℕ} {at : ℕ} {b : List ℕ} {p : ℕ} {u : Used} {i : ℕ} (g : Going d a at b p u i) where
-  pub going-asks : i < argumentsIn d → AskArgument d i u
-  going-asks h =
-      let k = asks-at d (accepted-uses d (g .right)) i (argumentsIn d) (g .most) (omega arith) in
-      rw (g .used-is) (record { right = k .right; there = h; before = k .before })
+module _ {d a : List ℕ} {at : ℕ} {b : List ℕ} {p : ℕ} {x : Laying} {i : ℕ} (g : Going d a at b p x i) where
+  pub going-asks : i < argumentsIn d → AskRecord d i x
+  going-asks h = rw (g .laid-is) (record-asks d (accepted-uses d (g .right)) i h)
 
-  pub going-record : (s : Step) → s ≡ stepAt d u i → s .placement ≡ placementAt d i
+  pub going-record : (s : Step) → s ≡ stepAt d x i → s .placement ≡ placementAt d i
   unfolding stepAt placementAt
-  going-record s e = ap (λ (t : Step). t .placement) (e ∙ ap (λ (w : Used). stepAt d w i) (g .used-is))
+  going-record s e = ap (λ (t : Step). t .placement) (e ∙ ap (λ (w : Laying). stepAt d w i) (g .laid-is))
 
-  going-used : (s : Step) → s ≡ stepAt d u i → s .used ≡ usedAt d (i + 1)
-  unfolding stepAt
-  going-used s e = ap (λ (t : Step). t .used) (e ∙ ap (λ (w : Used). stepAt d w i) (g .used-is)) ∙ sym (used-next d i)
+  going-after : (s : Step) → s ≡ stepAt d x i → s .after ≡ layingAt d (i + 1)
+  going-after s e = ap (λ (t : Step). t .after) (e ∙ ap (λ (w : Laying). stepAt d w i) (g .laid-is)) ∙ laying-next d i
 
-  pub going-next : {c : List ℕ} {q : ℕ} (s : Step) → s ≡ stepAt d u i → i < argumentsIn d → Wrote 52 b p (recordLine i (s .placement)) c q → Going d a at c q (s .used) (i + 1)
+  pub going-next : {c : List ℕ} {q : ℕ} (s : Step) → s ≡ stepAt d x i → i < argumentsIn d → Wrote 69 b p (recordLine i (s .placement)) c q → Going d a at c q (s .after) (i + 1)
   going-next s e h w = record {
     right = g .right;
     most = omega arith;
-    used-is = going-used s e;
+    laid-is = going-after s e;
     wrote =
         wrote-same (wrote-more (wrote-join (g .wrote) (wrote-same w (ap (recordLine i) (going-record s e)))) (omega arith))
         (records-next d i);
   }
 
-  pub going-last : argumentsIn d ≤ i → argumentsIn d ≤ 64 → Wrote 3328 a at (recordLines d 0 (argumentsIn d)) b p
+  pub going-last : argumentsIn d ≤ i → argumentsIn d ≤ 64 → Wrote 4416 a at (recordLines d 0 (argumentsIn d)) b p
   going-last h m =
       let n : i ≡ argumentsIn d = omega (arith, g .most) in
       wrote-same (wrote-more (g .wrote) (omega arith)) (ap (recordLines d 0) n)
@@ -101,8 +96,8 @@ walk-is variadic u general vector z g v w x y n =
 -- the lines of an accepted description
 pub laid-is : {a : List ℕ} {at : ℕ} {b : List ℕ} {p : ℕ} {c : List ℕ} {q : ℕ} {e : List ℕ} {r : ℕ} {f : List ℕ} {s : ℕ} (d : List ℕ) (l : Layout) {all first k variadic : ℕ}
     → all ≡ argumentsIn d → first ≡ namedIn d → k ≡ returnIn d → variadic ≡ variadicIn d
-    → Wrote 60 a at (headLine all first l) b p → Wrote 3328 b p (recordLines d 0 (argumentsIn d)) c q → Wrote 30 c q (returnLine k (l .returns)) e r → Wrote 34 e r (walkLine variadic (l .named)) f s
-    → Wrote 3452 a at (laidText d l) f s
+    → Wrote 60 a at (headLine all first l) b p → Wrote 4416 b p (recordLines d 0 (argumentsIn d)) c q → Wrote 30 c q (returnLine k (l .returns)) e r → Wrote 34 e r (walkLine variadic (l .named)) f s
+    → Wrote 4540 a at (laidText d l) f s
 unfolding laidText
 laid-is d l all first k variadic v w x y =
     wrote-join
@@ -113,18 +108,18 @@ pub accepted-laid : (d : List ℕ) (l : Layout) → layoutAnswer d ≡ Laid l �
 accepted-laid d l e = let k = laid-accepted d l e in record { right = k .0; laid = k .1 }
 
 -- the whole text at the start of the buffer
-module _ (d out : List ℕ) (answer : LayoutAnswer) (e : answer ≡ layoutAnswer d) (room : 4096 ≡ length out) {after : List ℕ} {end : ℕ} (w : Wrote 3452 out 0 (textOf d answer) after end) where
+module _ (d out : List ℕ) (answer : LayoutAnswer) (e : answer ≡ layoutAnswer d) (room : 8192 ≡ length out) {after : List ℕ} {end : ℕ} (w : Wrote 4540 out 0 (textOf d answer) after end) where
   text-is : textOf d answer ≡ listing d
   unfolding listing
   text-is = ap (textOf d) e
 
-  wrote-listing : Wrote 3452 out 0 (listing d) after end
+  wrote-listing : Wrote 4540 out 0 (listing d) after end
   wrote-listing = wrote-same w text-is
 
   pub listing-length : end ≡ length (listing d)
   listing-length = omega (arith, wrote-listing .behind)
 
-  pub listing-short : end ≤ 3452
+  pub listing-short : end ≤ 4540
   listing-short = omega (arith, wrote-listing .behind, wrote-listing .short)
 
   pub listing-bytes : after ≡ listing d ++ drop (length (listing d)) out

@@ -18,11 +18,12 @@ use Rattle.places.proofs.Offsets.{area-rounded}
 use Rattle.layout.specs.declared.Layout.{Layout}
 use Rattle.layout.specs.Arguments.{shapeAt, shapesFrom, shapes, usedFirst, usedAt, areaOf}
 use Rattle.layout.specs.Layout.{layoutOf}
-use Rattle.layout.specs.Placements.{placementAt}
+use Rattle.layout.specs.Placements.{layingAt, placementAt}
 use Rattle.layout.specs.Verdict.{verdict}
 use Rattle.layout.proofs.Arguments.{used-next, used-split}
 use Rattle.layout.proofs.Bounds.{arguments-few, argument-small}
 use Rattle.layout.proofs.Layouts.{asks-at}
+use Rattle.layout.proofs.Packing.{start-packed}
 use Rattle.layout.proofs.Verdict.{accepted-uses, accepted-area}
 use Rattle.listing.specs.PlaceWords.{offsetOf}
 use Rattle.listing.specs.Asks.{SmallRecord, SmallUsed, SmallLayout, Accepted}
@@ -63,7 +64,7 @@ module _ (d : List ℕ) (right : verdict d ≡ 0) where
       }
 
   pub record-small : (i : ℕ) → i < argumentsIn d → SmallRecord (placementAt d i)
-  unfolding placementAt
+  unfolding placementAt layingAt
   record-small i h =
       let s = argument-small d (accepted-uses d right) i h in
       record {
@@ -76,6 +77,9 @@ module _ (d : List ℕ) (right : verdict d ≡ 0) where
               ap (λ (u : Used). u .stack .0) (used-next d i),
               used-small (i + 1) (omega arith) .stack,
             );
+        value =
+            let u = used-small i (omega arith) in
+            omega (arith, start-packed d (accepted-uses d right) i (omega arith), u .general, u .vector, u .stack);
       }
 
   pub few-records : argumentsIn d ≤ 64

@@ -13,6 +13,7 @@ pub record SmallRecord (p : Placement) : Type 0 where
   pub size : p .size .0 ≤ 4096
   pub align : p .align .0 ≤ 32
   pub offset : offsetOf (p .place) ≤ 16384
+  pub value : p .at .0 ≤ 16688
 
 pub record SmallUsed (u : Used) : Type 0 where
   pub general : u .general .0 ≤ 6

@@ -1,4 +1,4 @@
--- The lister's text: document 01, "The lister". Assumes nothing: these are definitions.
+-- The lister's text: document 01, "The lister"; document 02, request 2026-07. Assumes nothing: these are definitions.
 use mathlib.Core.Bool.{Bool, true, false, _||_}
 use mathlib.Core.List.{List, [], _++_}
 use Prim.Native.Nat.{ℕ, zero, suc, _+_, _*_}
@@ -14,7 +14,7 @@ use Rattle.layout.specs.declared.LayoutAnswer.the-variants.{Laid, Refused}
 use Rattle.layout.specs.Layout.{layoutAnswer}
 use Rattle.layout.specs.Placements.{placementAt}
 use Rattle.listing.specs.Decimal.{decimal}
-use Rattle.listing.specs.Words.{numbered, args, named, gp, vec, stack, type, size, align, returned, walk, none, fp, over, refused, newline}
+use Rattle.listing.specs.Words.{numbered, args, named, gp, vec, stack, type, size, align, at, marked, unmarked, returned, walk, none, fp, over, refused, newline}
 use Rattle.listing.specs.PlaceWords.{placeWords, returnWords}
 
 -- ---- lines
@@ -24,9 +24,15 @@ unfoldable pub headLine : ℕ → ℕ → Layout → List ℕ
 headLine all first l =
     numbered args all ++ numbered named first ++ numbered gp (l .used .general .0) ++ numbered vec (l .used .vector .0) ++ numbered stack (l .area .0) ++ newline
 
--- "Then per argument: position, type, size, alignment, place"
+-- "`named` or `unnamed`"
+abbrev pub markWord : Bool → List ℕ
+markWord true = marked
+markWord false = unmarked
+
+-- "Then per argument: position, type, size, alignment, place"; "The lister appends `at 12 named` or `at 12 unnamed`"
 unfoldable pub recordLine : ℕ → Placement → List ℕ
-recordLine i p = decimal i ++ numbered type (p .ty) ++ numbered size (p .size .0) ++ numbered align (p .align .0) ++ placeWords (p .place) ++ newline
+recordLine i p =
+    decimal i ++ numbered type (p .ty) ++ numbered size (p .size .0) ++ numbered align (p .align .0) ++ placeWords (p .place) ++ numbered at (p .at .0) ++ markWord (p .named) ++ newline
 
 -- of n arguments from the i-th on
 unfoldable pub recordLines : List ℕ → ℕ → ℕ → List ℕ

@@ -1,4 +1,4 @@
--- The lister's words (document 01, "The lister"): a word has the blank that stands before it, and before a number the one behind it.
+-- The lister's words (document 01, "The lister"; document 02, request 2026-07): a word has the blank that stands before it, and before a number the one behind it.
 -- Assumes nothing: these are definitions.
 use mathlib.Core.List.{List, _++_}
 use Prim.Native.Nat.{ℕ}
@@ -32,6 +32,16 @@ size = bytes " size "
 
 abbrev pub align : List ℕ
 align = bytes " align "
+
+-- where the value begins, and whether the argument is named
+abbrev pub at : List ℕ
+at = bytes " at "
+
+abbrev pub marked : List ℕ
+marked = bytes " named"
+
+abbrev pub unmarked : List ℕ
+unmarked = bytes " unnamed"
 
 abbrev pub rdi : List ℕ
 rdi = bytes " rdi"

@@ -1,5 +1,5 @@
-// The lister's text (document 01, "The lister"), written into a lent buffer. A record's line has at most 52 bytes and the three other lines together
-// 124, so that with 64 records no listing is over 3,452.
+// The lister's text (document 01, "The lister"; document 02, request 2026-07), written into a lent buffer. A record's line has at most 69 bytes and the three
+// other lines together 124, so that with 64 records no listing is over 4,540.
 
 mod text; // text written into a lent buffer, word after word
 mod place_writing; // the words of a register and of a place, written
@@ -20,32 +20,32 @@ ghost use Rattle.listing.specs.Asks.{Accepted};
 // A line for each argument.
 fn put_records(
     d: &[u8],
-    out: &mut [u8; 4096],
+    out: &mut [u8; 8192],
     at: usize,
     layout: Layout,
     table: &[u32; 64],
 ) -> usize
-    requires { ⌜ (at + 3328 ≤ 4096) × Accepted (now d) layout × Tabled (now d) (now table) ⌝ }
-    ensures { λ r. ⌜ Wrote 3328 (now (out .entry)) at (recordLines (now (d .entry)) 0 (argumentsIn (now (d .entry)))) (now (out .exit)) r ⌝ }
+    requires { ⌜ (at + 4416 ≤ 8192) × Accepted (now d) layout × Tabled (now d) (now table) ⌝ }
+    ensures { λ r. ⌜ Wrote 4416 (now (out .entry)) at (recordLines (now (d .entry)) 0 (argumentsIn (now (d .entry)))) (now (out .exit)) r ⌝ }
 {
     let count = description::byte_at(d, 8);
-    let mut used = places::fresh(layout.hidden);
+    let mut before = layout::laying_fresh(layout.hidden);
     let mut next = at;
     let mut i = 0;
     while i < count {
-        let step = layout::place_argument(d, used, i, table);
+        let step = layout::place_argument(d, before, i, table);
         let placement = step.placement;
         next = line_writing::put_record(out, next, i, placement);
-        used = step.used;
+        before = step.after;
         i += 1;
     }
     next
 }
 
 // The lines of an accepted description.
-fn put_laid(d: &[u8], out: &mut [u8; 4096], layout: Layout, table: &[u32; 64]) -> usize
+fn put_laid(d: &[u8], out: &mut [u8; 8192], layout: Layout, table: &[u32; 64]) -> usize
     requires { ⌜ Accepted (now d) layout × Tabled (now d) (now table) ⌝ }
-    ensures { λ r. ⌜ Wrote 3452 (now (out .entry)) 0 (laidText (now (d .entry)) layout) (now (out .exit)) r ⌝ }
+    ensures { λ r. ⌜ Wrote 4540 (now (out .entry)) 0 (laidText (now (d .entry)) layout) (now (out .exit)) r ⌝ }
 {
     let variadic = description::variadic_in(d);
     let first = description::byte_at(d, 7);
@@ -60,8 +60,8 @@ fn put_laid(d: &[u8], out: &mut [u8; 4096], layout: Layout, table: &[u32; 64]) -
 }
 
 // The listing of any bytes, at the start of `out`: all behind it stays. The answer is its length.
-pub fn write_listing(d: &[u8], out: &mut [u8; 4096]) -> usize
-    ensures { λ r. ⌜ (r ≡ length (listing (now (d .entry)))) × (r ≤ 3452)
+pub fn write_listing(d: &[u8], out: &mut [u8; 8192]) -> usize
+    ensures { λ r. ⌜ (r ≡ length (listing (now (d .entry)))) × (r ≤ 4540)
         × (now (out .exit) ≡ listing (now (d .entry)) ++ drop (length (listing (now (d .entry)))) (now (out .entry))) ⌝ }
 {
     text::room(out);

@@ -8,8 +8,8 @@ ghost use Rattle.listing.specs.Written.{Wrote};
 ghost use Rattle.listing.specs.PlaceWords.{generalWord, vectorWord, registerWord, placeWords, returnWords, offsetOf};
 
 // The n-th general register, of a returned value or of an argument.
-fn put_general(out: &mut [u8; 4096], at: usize, back: bool, n: usize) -> usize
-    requires { ⌜ at + 4 ≤ 4096 ⌝ }
+fn put_general(out: &mut [u8; 8192], at: usize, back: bool, n: usize) -> usize
+    requires { ⌜ at + 4 ≤ 8192 ⌝ }
     ensures { λ r. ⌜ Wrote 4 (now (out .entry)) at (generalWord back n) (now (out .exit)) r ⌝ }
 {
     if back {
@@ -31,8 +31,8 @@ fn put_general(out: &mut [u8; 4096], at: usize, back: bool, n: usize) -> usize
 }
 
 // xmm0 to xmm7.
-fn put_vector(out: &mut [u8; 4096], at: usize, n: usize) -> usize
-    requires { ⌜ at + 5 ≤ 4096 ⌝ }
+fn put_vector(out: &mut [u8; 8192], at: usize, n: usize) -> usize
+    requires { ⌜ at + 5 ≤ 8192 ⌝ }
     ensures { λ r. ⌜ Wrote 5 (now (out .entry)) at (vectorWord n) (now (out .exit)) r ⌝ }
 {
     if 8 <= n {
@@ -43,8 +43,8 @@ fn put_vector(out: &mut [u8; 4096], at: usize, n: usize) -> usize
 }
 
 // A register of a returned value, or of an argument.
-fn put_register(out: &mut [u8; 4096], at: usize, back: bool, register: Register) -> usize
-    requires { ⌜ at + 6 ≤ 4096 ⌝ }
+fn put_register(out: &mut [u8; 8192], at: usize, back: bool, register: Register) -> usize
+    requires { ⌜ at + 6 ≤ 8192 ⌝ }
     ensures { λ r. ⌜ Wrote 6 (now (out .entry)) at (registerWord back register) (now (out .exit)) r ⌝ }
 {
     match register {
@@ -64,8 +64,8 @@ fn put_register(out: &mut [u8; 4096], at: usize, back: bool, register: Register)
 // ---- places
 
 // Registers in eightbyte order, or a stack offset.
-pub fn put_place(out: &mut [u8; 4096], at: usize, place: Place) -> usize
-    requires { ⌜ (at + 12 ≤ 4096) × (offsetOf place ≤ 16384) ⌝ }
+pub fn put_place(out: &mut [u8; 8192], at: usize, place: Place) -> usize
+    requires { ⌜ (at + 12 ≤ 8192) × (offsetOf place ≤ 16384) ⌝ }
     ensures { λ r. ⌜ Wrote 12 (now (out .entry)) at (placeWords place) (now (out .exit)) r ⌝ }
 {
     match place {
@@ -79,8 +79,8 @@ pub fn put_place(out: &mut [u8; 4096], at: usize, place: Place) -> usize
 }
 
 // Where a value is returned.
-pub fn put_return_place(out: &mut [u8; 4096], at: usize, place: ReturnPlace) -> usize
-    requires { ⌜ at + 12 ≤ 4096 ⌝ }
+pub fn put_return_place(out: &mut [u8; 8192], at: usize, place: ReturnPlace) -> usize
+    requires { ⌜ at + 12 ≤ 8192 ⌝ }
     ensures { λ r. ⌜ Wrote 12 (now (out .entry)) at (returnWords place) (now (out .exit)) r ⌝ }
 {
     match place {

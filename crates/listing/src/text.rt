@@ -7,16 +7,16 @@ ghost use Rattle.listing.specs.Decimal.{digit, decimal};
 ghost use Rattle.listing.specs.Written.{Wrote};
 
 // The length of the buffer, which its type says: as a slice it has it as a fact.
-pub fn room(out: &[u8; 4096]) -> usize
-    ensures { λ r. ⌜ (r ≡ 4096) × (r ≡ length (now (out .entry))) ⌝ }
+pub fn room(out: &[u8; 8192]) -> usize
+    ensures { λ r. ⌜ (r ≡ 8192) × (r ≡ length (now (out .entry))) ⌝ }
 {
     let whole: &[u8] = out;
     whole.len()
 }
 
 // A word.
-pub fn put(out: &mut [u8; 4096], at: usize, word: &[u8]) -> usize
-    requires { ⌜ at + length (now word) ≤ 4096 ⌝ }
+pub fn put(out: &mut [u8; 8192], at: usize, word: &[u8]) -> usize
+    requires { ⌜ at + length (now word) ≤ 8192 ⌝ }
     ensures { λ r. ⌜ Wrote (length (now (word .entry))) (now (out .entry)) at (now (word .entry)) (now (out .exit)) r ⌝ }
 {
     addresses::copy(out, at, word, 0, word.len());
@@ -24,8 +24,8 @@ pub fn put(out: &mut [u8; 4096], at: usize, word: &[u8]) -> usize
 }
 
 // One digit.
-pub fn put_digit(out: &mut [u8; 4096], at: usize, n: usize) -> usize
-    requires { ⌜ (at < 4096) × (n < 10) ⌝ }
+pub fn put_digit(out: &mut [u8; 8192], at: usize, n: usize) -> usize
+    requires { ⌜ (at < 8192) × (n < 10) ⌝ }
     ensures { λ r. ⌜ Wrote 1 (now (out .entry)) at (digit n ∷ []) (now (out .exit)) r ⌝ }
 {
     out[at] = 48 + n as u8;
@@ -33,8 +33,8 @@ pub fn put_digit(out: &mut [u8; 4096], at: usize, n: usize) -> usize
 }
 
 // A number in decimal digits.
-fn put_decimal(out: &mut [u8; 4096], at: usize, n: usize) -> usize
-    requires { ⌜ at + length (decimal n) ≤ 4096 ⌝ }
+fn put_decimal(out: &mut [u8; 8192], at: usize, n: usize) -> usize
+    requires { ⌜ at + length (decimal n) ≤ 8192 ⌝ }
     ensures { λ r. ⌜ Wrote (length (decimal n)) (now (out .entry)) at (decimal n) (now (out .exit)) r ⌝ }
 {
     if n < 10 {
@@ -45,8 +45,8 @@ fn put_decimal(out: &mut [u8; 4096], at: usize, n: usize) -> usize
 }
 
 // A word, and behind it a number of at most five digits.
-pub fn put_number(out: &mut [u8; 4096], at: usize, word: &[u8], n: usize) -> usize
-    requires { ⌜ (at + length (now word) + 5 ≤ 4096) × (n < 100000) ⌝ }
+pub fn put_number(out: &mut [u8; 8192], at: usize, word: &[u8], n: usize) -> usize
+    requires { ⌜ (at + length (now word) + 5 ≤ 8192) × (n < 100000) ⌝ }
     ensures { λ r. ⌜ Wrote (length (now (word .entry)) + 5) (now (out .entry)) at (now (word .entry) ++ decimal n) (now (out .exit)) r ⌝ }
 {
     let next = put(out, at, word);

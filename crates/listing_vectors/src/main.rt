@@ -40,7 +40,7 @@ fn read_part(space: &mut [u8], n: usize) -> bool
 }
 
 fn print_listing(d: &[u8]) {
-    let mut text = [0u8; 4096];
+    let mut text = [0u8; 8192];
     let end = listing::write_listing(d, &mut text);
     io::write_all(STDOUT_FILENO, &text[..end]);
 }

@@ -15,11 +15,11 @@ use Rattle.form.specs.Order.{first}
 use Rattle.form.specs.Reading.{refusalOf}
 use Rattle.types.specs.Wrong.{refusalFor}
 use Rattle.types.proofs.Wrong.{no-type}
-use Rattle.places.specs.Places.{fresh}
-use Rattle.places.specs.declared.Used.{Used}
 use Rattle.layout.specs.declared.Layout.{Layout}
 use Rattle.layout.specs.declared.LayoutAnswer.the-variants.{Laid, Refused}
-use Rattle.layout.specs.Arguments.{hidden, usedFirst}
+use Rattle.layout.specs.declared.placements.Laying.{Laying}
+use Rattle.layout.specs.Arguments.{hidden}
+use Rattle.layout.specs.Placements.{layingFresh}
 use Rattle.layout.specs.Layout.{layoutOf, layoutAnswer}
 use Rattle.layout.specs.Verdict.{verdict}
 use Rattle.layout.proofs.Layouts.{laid-accepted, refused-verdict, refused-nonzero}
@@ -153,9 +153,9 @@ module _ (d r y s v : List ℕ) where
       pub gather-lengths : Lent d (length v) (length r) (length y) (length s)
       gather-lengths = right-lent d (length v) (length r) (length y) (length s) (laid-accepted d l laid .0) (same-lengths-2 false w)
 
-      pub gather-first : (b : Bool) (u : Used) → b ≡ l .hidden → u ≡ fresh b → u ≡ usedFirst d
+      pub gather-first : (b : Bool) (t : Laying) → b ≡ l .hidden → t ≡ layingFresh b → t ≡ layingFresh (hidden d)
       unfolding layoutOf
-      gather-first b u e f = f ∙ ap fresh (e ∙ ap (λ (x : Layout). x .hidden) (laid-accepted d l laid .1))
+      gather-first b t e f = f ∙ ap layingFresh (e ∙ ap (λ (x : Layout). x .hidden) (laid-accepted d l laid .1))
 
       gather-done : (x : ℕ) (v′ : List ℕ) → x ≡ ownAddress (frameOf d) (r ++ (y ++ s)) → v′ ≡ gatheredIn (frameOf d) (r ++ (y ++ s)) → GatherEnd (Gathered x) v′
       unfolding gatherAnswer valuesAfter

@@ -16,16 +16,17 @@ use Rattle.places.specs.Places.{eights, Place, place, next}
 use Rattle.places.specs.Images.{stackAt, bytesOf, addresses, total}
 use Rattle.places.specs.Recorded.{placeOf}
 use Rattle.places.proofs.Apart.{length-bytes, length-addresses}
-use Rattle.layout.specs.Arguments.{shapeAt, shapesFrom, shapes, usedFirst}
+use Rattle.layout.specs.Arguments.{shapeAt, shapesFrom, shapes, hidden, usedFirst}
 use Rattle.layout.specs.Layout.{valuesOf}
-use Rattle.layout.specs.Placements.{stepAt}
+use Rattle.layout.specs.Placements.{layingFresh, stepAt}
+use Rattle.layout.specs.declared.placements.Laying.{Laying}
 use Rattle.layout.specs.declared.placements.Step.{Step}
 use Rattle.layout.proofs.Arguments.{shapes-cons, shapes-end}
 use Rattle.layout.proofs.Bounds.{argument-shaped, all-shaped}
 use Rattle.moving.specs.Images.{addressesOf, frameOf}
 use Rattle.moving.specs.Frames.{gatheredIn}
 use Rattle.moving.specs.Asks.{Lent}
-use Rattle.moving.proofs.Turns.{right, Turn, turn-first, turn-next, step-size, step-used, step-place, value-inside}
+use Rattle.moving.proofs.Turns.{right, Turn, turn-first, turn-start, turn-next, step-size, step-at, step-used, step-values, step-place, value-inside}
 
 -- ---- one argument, and the rest
 
@@ -57,18 +58,18 @@ rest-all d = ap (shapesFrom d 0) (sub-zero (argumentsIn d))
 -- ---- the loop that places
 
 module _ (d vals r₀ y₀ s₀ : List ℕ) where
-  pub record Placing (r y s : List ℕ) (u : Used) (k i : ℕ) : Type 0 where
-    pub turn : Turn d u k i
+  pub record Placing (r y s : List ℕ) (t : Laying) (i : ℕ) : Type 0 where
+    pub turn : Turn d t i
     pub lent : Lent d (length vals) (length r) (length y) (length s)
     pub registers : length r ≡ length r₀
     pub upper : length y ≡ length y₀
     pub stack : length s ≡ length s₀
-    pub same : scatter (r ++ (y ++ s)) (addresses stackAt eights u (rest d i)) (drop k vals) ≡ scatter (r₀ ++ (y₀ ++ s₀)) (addressesOf d) vals
+    pub same : scatter (r ++ (y ++ s)) (addresses stackAt eights (t .used) (rest d i)) (drop (t .values .0) vals) ≡ scatter (r₀ ++ (y₀ ++ s₀)) (addressesOf d) vals
 
-  pub placing-first : (u : Used) → Lent d (length vals) (length r₀) (length y₀) (length s₀) → u ≡ usedFirst d → Placing r₀ y₀ s₀ u 0 0
-  unfolding addressesOf
-  placing-first u h e = record {
-    turn = turn-first d u e;
+  pub placing-first : (t : Laying) → Lent d (length vals) (length r₀) (length y₀) (length s₀) → t ≡ layingFresh (hidden d) → Placing r₀ y₀ s₀ t 0
+  unfolding addressesOf layingFresh
+  placing-first t h e = record {
+    turn = turn-first d t e;
     lent = h;
     registers = refl;
     upper = refl;
@@ -76,86 +77,90 @@ module _ (d vals r₀ y₀ s₀ : List ℕ) where
     same = rw (e, rest-all d);
   }
 
-  pub placing-next : (r y s : List ℕ) (u : Used) (k i : ℕ) → i < argumentsIn d → Placing r y s u k i
-      → (z : Step) → z ≡ stepAt d u i → (j : ℕ) → j ≡ k + z .placement .size .0
+  pub placing-next : (r y s : List ℕ) (t : Laying) (i : ℕ) → i < argumentsIn d → Placing r y s t i → (z : Step) → z ≡ stepAt d t i
       → (r′ y′ s′ : List ℕ) → length r′ ≡ length r → length y′ ≡ length y → length s′ ≡ length s
-      → r′ ++ (y′ ++ s′) ≡ scatter (r ++ (y ++ s)) (bytesOf stackAt (placeOf (z .placement .place)) (z .placement .size .0)) (gather vals (run k (z .placement .size .0)))
-      → Placing r′ y′ s′ (z .used) j (i + 1)
-  placing-next r y s u k i l h z e j q r′ y′ s′ a c b m =
+      → r′ ++ (y′ ++ s′) ≡ scatter (r ++ (y ++ s)) (bytesOf stackAt (placeOf (z .placement .place)) (z .placement .size .0)) (gather vals (run (z .placement .at .0) (z .placement .size .0)))
+      → Placing r′ y′ s′ (z .after) (i + 1)
+  placing-next r y s t i l h z e r′ y′ s′ a c b m =
+      let u = t .used in
+      let k = t .values .0 in
       let x = shapeAt d i in
       let xs = rest d (i + 1) in
       let ok = h .lent .accepted in
-      let size = step-size d u k i l (h .turn) z e in
-      let start : j ≡ k + x .size = q ∙ ap (λ (n : ℕ). k + n) size in
+      let size = step-size d t i l (h .turn) z e in
       record {
-        turn = turn-next d u k i l (h .turn) z e j q;
+        turn = turn-next d t i l (h .turn) z e;
         lent = rw (a, c, b) (h .lent);
         registers = a ∙ h .registers;
         upper = c ∙ h .upper;
         stack = b ∙ h .stack;
         same =
-            ap₂ (λ (img : List ℕ) (w : Used). scatter img (addresses stackAt eights w xs) (drop j vals))
-            (m ∙ ap₂ (λ (p : Place) (n : ℕ). scatter (r ++ (y ++ s)) (bytesOf stackAt p n) (gather vals (run k n))) (step-place d u k i l (h .turn) z e ok) size)
-            (step-used d u k i l (h .turn) z e)
-            ∙ ap (λ (n : ℕ). scatter (scatter (r ++ (y ++ s)) (bytesOf stackAt (place eights u x) (x .size)) (gather vals (run k (x .size)))) (addresses stackAt eights (next eights u x) xs) (drop n vals)) start
-            ∙ sym (scatter-argument u x xs (r ++ (y ++ s)) vals k (argument-shaped d (right d ok) i l) (omega (arith, h .turn .start, h .lent .values, value-inside d ok i l)))
+            ap₂ (λ (img : List ℕ) (w : Used). scatter img (addresses stackAt eights w xs) (drop (z .after .values .0) vals))
+            (m
+            ∙ ap (λ (n : ℕ). scatter (r ++ (y ++ s)) (bytesOf stackAt (placeOf (z .placement .place)) (z .placement .size .0)) (gather vals (run n (z .placement .size .0)))) (step-at d t i l (h .turn) z e)
+            ∙ ap₂ (λ (p : Place) (n : ℕ). scatter (r ++ (y ++ s)) (bytesOf stackAt p n) (gather vals (run k n))) (step-place d t i l (h .turn) z e ok) size)
+            (step-used d t i l (h .turn) z e)
+            ∙ ap (λ (n : ℕ). scatter (scatter (r ++ (y ++ s)) (bytesOf stackAt (place eights u x) (x .size)) (gather vals (run k (x .size)))) (addresses stackAt eights (next eights u x) xs) (drop n vals)) (step-values d t i l (h .turn) z e)
+            ∙ sym (scatter-argument u x xs (r ++ (y ++ s)) vals k (argument-shaped d (right d ok) i l) (omega (arith, turn-start d t i (h .turn), h .lent .values, value-inside d ok i l)))
             ∙ ap (λ (ss : List Shape). scatter (r ++ (y ++ s)) (addresses stackAt eights u ss) (drop k vals)) (sym (shapes-cons d i (argumentsIn d) l))
             ∙ h .same;
       }
 
-  pub placing-last : (r y s : List ℕ) (u : Used) (k i : ℕ) → argumentsIn d ≤ i → Placing r y s u k i → r ++ (y ++ s) ≡ scatter (r₀ ++ (y₀ ++ s₀)) (addressesOf d) vals
-  placing-last r y s u k i l h =
-      ap (λ (ss : List Shape). scatter (r ++ (y ++ s)) (addresses stackAt eights u ss) (drop k vals)) (sym (shapes-end d i (argumentsIn d) l)) ∙ h .same
+  pub placing-last : (r y s : List ℕ) (t : Laying) (i : ℕ) → argumentsIn d ≤ i → Placing r y s t i → r ++ (y ++ s) ≡ scatter (r₀ ++ (y₀ ++ s₀)) (addressesOf d) vals
+  placing-last r y s t i l h =
+      ap (λ (ss : List Shape). scatter (r ++ (y ++ s)) (addresses stackAt eights (t .used) ss) (drop (t .values .0) vals)) (sym (shapes-end d i (argumentsIn d) l)) ∙ h .same
 
 -- ---- the loop that gathers
 
 module _ (d r y s v₀ : List ℕ) where
-  pub record Gathering (v : List ℕ) (u : Used) (k i : ℕ) : Type 0 where
-    pub turn : Turn d u k i
+  pub record Gathering (v : List ℕ) (t : Laying) (i : ℕ) : Type 0 where
+    pub turn : Turn d t i
     pub lent : Lent d (length v) (length r) (length y) (length s)
     pub values : length v ≡ length v₀
-    pub same : scatter v (run k (total (rest d i))) (gather (r ++ (y ++ s)) (addresses stackAt eights u (rest d i))) ≡ gatheredIn (frameOf d) (r ++ (y ++ s))
+    pub same : scatter v (run (t .values .0) (total (rest d i))) (gather (r ++ (y ++ s)) (addresses stackAt eights (t .used) (rest d i))) ≡ gatheredIn (frameOf d) (r ++ (y ++ s))
 
-  pub gathering-first : (u : Used) → Lent d (length v₀) (length r) (length y) (length s) → u ≡ usedFirst d → Gathering v₀ u 0 0
-  unfolding gatheredIn addressesOf valuesOf
-  gathering-first u h e =
+  pub gathering-first : (t : Laying) → Lent d (length v₀) (length r) (length y) (length s) → t ≡ layingFresh (hidden d) → Gathering v₀ t 0
+  unfolding gatheredIn addressesOf valuesOf layingFresh
+  gathering-first t h e =
       let long : length (gather (r ++ (y ++ s)) (addresses stackAt eights (usedFirst d) (shapes d))) ≡ total (shapes d) =
       length-map (addresses stackAt eights (usedFirst d) (shapes d)) (λ p. getD (r ++ (y ++ s)) p 0) ∙ length-addresses stackAt eights (shapes d) (usedFirst d) (all-shaped d (right d (h .accepted))) in
       record {
-        turn = turn-first d u e;
+        turn = turn-first d t e;
         lent = h;
         values = refl;
         same =
-            ap₂ (λ (w : Used) (ss : List Shape). scatter v₀ (run 0 (total ss)) (gather (r ++ (y ++ s)) (addresses stackAt eights w ss))) e (rest-all d)
+            ap₂ (λ (w : Laying) (ss : List Shape). scatter v₀ (run (w .values .0) (total ss)) (gather (r ++ (y ++ s)) (addresses stackAt eights (w .used) ss))) e (rest-all d)
             ∙ ap (λ (n : ℕ). scatter v₀ (run 0 n) (gather (r ++ (y ++ s)) (addresses stackAt eights (usedFirst d) (shapes d)))) (sym long)
             ∙ scatter-whole (gather (r ++ (y ++ s)) (addresses stackAt eights (usedFirst d) (shapes d))) v₀ (h .values ∙ sym long);
       }
 
-  pub gathering-next : (v : List ℕ) (u : Used) (k i : ℕ) → i < argumentsIn d → Gathering v u k i
-      → (z : Step) → z ≡ stepAt d u i → (j : ℕ) → j ≡ k + z .placement .size .0
+  pub gathering-next : (v : List ℕ) (t : Laying) (i : ℕ) → i < argumentsIn d → Gathering v t i → (z : Step) → z ≡ stepAt d t i
       → (v′ : List ℕ) → length v′ ≡ length v
-      → v′ ≡ scatter v (run k (z .placement .size .0)) (gather (r ++ (y ++ s)) (bytesOf stackAt (placeOf (z .placement .place)) (z .placement .size .0)))
-      → Gathering v′ (z .used) j (i + 1)
-  gathering-next v u k i l h z e j q v′ a m =
+      → v′ ≡ scatter v (run (z .placement .at .0) (z .placement .size .0)) (gather (r ++ (y ++ s)) (bytesOf stackAt (placeOf (z .placement .place)) (z .placement .size .0)))
+      → Gathering v′ (z .after) (i + 1)
+  gathering-next v t i l h z e v′ a m =
+      let u = t .used in
+      let k = t .values .0 in
       let x = shapeAt d i in
       let xs = rest d (i + 1) in
       let ok = h .lent .accepted in
-      let size = step-size d u k i l (h .turn) z e in
-      let start : j ≡ k + x .size = q ∙ ap (λ (n : ℕ). k + n) size in
+      let size = step-size d t i l (h .turn) z e in
       record {
-        turn = turn-next d u k i l (h .turn) z e j q;
+        turn = turn-next d t i l (h .turn) z e;
         lent = rw a (h .lent);
         values = a ∙ h .values;
         same =
-            ap₂ (λ (w : List ℕ) (x′ : Used). scatter w (run j (total xs)) (gather (r ++ (y ++ s)) (addresses stackAt eights x′ xs)))
-            (m ∙ ap₂ (λ (p : Place) (n : ℕ). scatter v (run k n) (gather (r ++ (y ++ s)) (bytesOf stackAt p n))) (step-place d u k i l (h .turn) z e ok) size)
-            (step-used d u k i l (h .turn) z e)
-            ∙ ap (λ (n : ℕ). scatter (scatter v (run k (x .size)) (gather (r ++ (y ++ s)) (bytesOf stackAt (place eights u x) (x .size)))) (run n (total xs)) (gather (r ++ (y ++ s)) (addresses stackAt eights (next eights u x) xs))) start
+            ap₂ (λ (w : List ℕ) (x′ : Used). scatter w (run (z .after .values .0) (total xs)) (gather (r ++ (y ++ s)) (addresses stackAt eights x′ xs)))
+            (m
+            ∙ ap (λ (n : ℕ). scatter v (run n (z .placement .size .0)) (gather (r ++ (y ++ s)) (bytesOf stackAt (placeOf (z .placement .place)) (z .placement .size .0)))) (step-at d t i l (h .turn) z e)
+            ∙ ap₂ (λ (p : Place) (n : ℕ). scatter v (run k n) (gather (r ++ (y ++ s)) (bytesOf stackAt p n))) (step-place d t i l (h .turn) z e ok) size)
+            (step-used d t i l (h .turn) z e)
+            ∙ ap (λ (n : ℕ). scatter (scatter v (run k (x .size)) (gather (r ++ (y ++ s)) (bytesOf stackAt (place eights u x) (x .size)))) (run n (total xs)) (gather (r ++ (y ++ s)) (addresses stackAt eights (next eights u x) xs))) (step-values d t i l (h .turn) z e)
             ∙ sym (gather-argument u x xs (r ++ (y ++ s)) v k (argument-shaped d (right d ok) i l))
             ∙ ap (λ (ss : List Shape). scatter v (run k (total ss)) (gather (r ++ (y ++ s)) (addresses stackAt eights u ss))) (sym (shapes-cons d i (argumentsIn d) l))
             ∙ h .same;
       }
 
-  pub gathering-last : (v : List ℕ) (u : Used) (k i : ℕ) → argumentsIn d ≤ i → Gathering v u k i → v ≡ gatheredIn (frameOf d) (r ++ (y ++ s))
-  gathering-last v u k i l h =
-      ap (λ (ss : List Shape). scatter v (run k (total ss)) (gather (r ++ (y ++ s)) (addresses stackAt eights u ss))) (sym (shapes-end d i (argumentsIn d) l)) ∙ h .same
+  pub gathering-last : (v : List ℕ) (t : Laying) (i : ℕ) → argumentsIn d ≤ i → Gathering v t i → v ≡ gatheredIn (frameOf d) (r ++ (y ++ s))
+  gathering-last v t i l h =
+      ap (λ (ss : List Shape). scatter v (run (t .values .0) (total ss)) (gather (r ++ (y ++ s)) (addresses stackAt eights (t .used) ss))) (sym (shapes-end d i (argumentsIn d) l)) ∙ h .same

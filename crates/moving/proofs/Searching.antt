@@ -13,12 +13,13 @@ use Rattle.form.specs.Search.{firstFrom}
 use Rattle.form.proofs.Search.{search-stop, search-on, search-end, first-bound, first-holds, first-least}
 use Rattle.types.specs.Size.{sizeTy}
 use Rattle.types.specs.Decode.{tyAt}
-use Rattle.layout.specs.Arguments.{shapeAt}
+use Rattle.layout.specs.Arguments.{shapeAt, valueStart}
 use Rattle.layout.specs.Layout.{valuesOf}
 use Rattle.layout.specs.Verdict.{verdict}
-use Rattle.moving.specs.Images.{valueStart, amd64}
+use Rattle.layout.proofs.Arguments.{start-none, start-next}
+use Rattle.moving.specs.Images.{amd64}
 use Rattle.moving.specs.Orders.{isBool, brokenByte, brokenBool, firstBroken}
-use Rattle.moving.proofs.Turns.{known, start-none, start-next, size-is, value-some, value-inside, values-small}
+use Rattle.moving.proofs.Turns.{known, size-is, value-some, value-inside, values-small}
 
 module _ (d vals : List ℕ) where
   -- what is left to search finds what the whole search finds

@@ -6,9 +6,9 @@ use Prim.Native.Nat.{ℕ}
 use Rattle.description.specs.Description.{argumentsIn, modelIn}
 use Rattle.form.specs.Order.{rule}
 use Rattle.types.specs.Wrong.{refusalFor}
-use Rattle.places.specs.Images.{stackAt, addresses, total}
+use Rattle.places.specs.Images.{stackAt, addresses}
 use Rattle.places.specs.Places.{eights}
-use Rattle.layout.specs.Arguments.{shapesFrom, shapes, hidden, usedFirst, usedAt, areaOf}
+use Rattle.layout.specs.Arguments.{shapes, hidden, usedFirst, usedAt, valueStart, areaOf}
 use Rattle.layout.specs.Verdict.{checkOrder}
 use Rattle.layout.specs.Layout.{layoutOf}
 use Rattle.images.specs.Words.{rdi}
@@ -20,10 +20,6 @@ use Rattle.moving.specs.Orders.{wrongLength}
 -- the address of each value byte, "argument after argument"
 unfoldable pub addressesOf : List ℕ → List ℕ
 addressesOf d = addresses stackAt eights (usedFirst d) (shapes d)
-
--- where the value of argument i begins: "packed, argument after argument, size bytes each, no gaps"
-unfoldable pub valueStart : List ℕ → ℕ → ℕ
-valueStart d i = total (shapesFrom d 0 i)
 
 -- values at these addresses, so many bytes of stack, and "The hidden address .. fills rdi where it is used": by whether it is
 abbrev pub framed : Bool → List ℕ → ℕ → Frame

@@ -91,7 +91,7 @@ pub fn gather_values(
     let passed = layout.hidden;
     filling::gather_all(
         d,
-        places::fresh(passed),
+        layout::laying_fresh(passed),
         registers,
         upper,
         stack,

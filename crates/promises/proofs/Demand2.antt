@@ -30,6 +30,7 @@ use Rattle.layout.specs.declared.placements.Placement.{Placement}
 use Rattle.layout.specs.Arguments.{shapeAt, shapes, returnedSize, usedFirst, usedAt, areaOf}
 use Rattle.layout.specs.Layout.{layoutOf}
 use Rattle.layout.specs.Placements.{placementAt}
+use Rattle.layout.proofs.Records.{values-packed}
 use Rattle.layout.specs.Lists.{listRefusal, listCount}
 use Rattle.layout.proofs.Arguments.{used-none}
 use Rattle.layout.proofs.Layouts.{asks-at}
@@ -183,6 +184,7 @@ b7 = record {
   type = λ d i. refl;
   size = λ d i. refl;
   align = λ d i. refl;
+  packed = values-packed;
 }
 
 -- ---- B8 to B14

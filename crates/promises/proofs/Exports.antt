@@ -12,7 +12,7 @@ use base.Stored.{codedList}
 use denote.Ref.{now}
 use Rattle.tightness.proofs.Laws.{result, bytes, told}
 use Rattle.addresses.specs.Addresses.{gather}
-use Rattle.description.specs.Description.{argumentsIn, kindAt, aAt, countAt, memberStart, IsBytes, modelIn}
+use Rattle.description.specs.Description.{namedIn, argumentsIn, kindAt, aAt, countAt, memberStart, IsBytes, modelIn}
 use Rattle.form.specs.declared.Refusal.{Refusal}
 use Rattle.form.specs.Order.{Rule}
 use Rattle.form.specs.Reading.{refusalAt, refusalBy, refusalOf}
@@ -20,7 +20,7 @@ use Rattle.types.specs.Size.{sizeTy, alignTy}
 use Rattle.types.specs.Decode.{tyAt}
 use Rattle.types.specs.Wrong.{refusalFor}
 use Rattle.types.specs.declared.Extent.{Extent}
-use Rattle.types.proofs.Table.{filled-past}
+use Rattle.types.proofs.Table.{filled-below, filled-past}
 use Rattle.classes.specs.declared.Class.{Class}
 use Rattle.classes.specs.declared.Class.the-variants.{NoClass}
 use Rattle.classify.specs.Classify.{classesOf}
@@ -32,10 +32,11 @@ use Rattle.questions.proofs.Runs.{run-filled}
 use Rattle.layout.specs.declared.Layout.{Layout as Whole}
 use Rattle.layout.specs.Arguments.{hidden, usedAt, returnPlace}
 use Rattle.layout.specs.Verdict.{verdict}
-use Rattle.layout.specs.Layout.{layoutOf, layoutAnswer}
+use Rattle.layout.specs.Layout.{valuesOf, layoutOf, layoutAnswer}
 use Rattle.layout.specs.Placements.{placementAt}
 use Rattle.layout.specs.Lists.{listRefusal, listCount, filled}
-use Rattle.layout.proofs.Lists.{list-accepted}
+use Rattle.layout.proofs.Lists.{list-accepted, list-room}
+use Rattle.layout.proofs.Records.{values-packed}
 use Rattle.moving.specs.declared.GatherAnswer.the-variants.{Gathered as GatheredBack}
 use Rattle.moving.specs.Images.{addressesOf, amd64}
 use Rattle.moving.specs.Frames.{gatheredIn}
@@ -70,7 +71,7 @@ use Rattle.flat.specs.declared.Gathered.{Gathered}
 use Rattle.flat.specs.declared.Station.{Station}
 use Rattle.flat.specs.declared.Walk.{Walk}
 use Rattle.flat.specs.Meanings.{layoutMeant, summaryOf}
-use Rattle.flat.specs.Records.{layoutOf as flatLayout}
+use Rattle.flat.specs.Records.{placementOf, layoutOf as flatLayout}
 use Rattle.flat.specs.Parts.{nowhere, ofDescription}
 use Rattle.flat.specs.Stations.{stationMeant, flatStation, walkMeant, flatWalk}
 use Rattle.flat.proofs.Meant.{class-meant}
@@ -234,6 +235,52 @@ none-filled : {A : Type 0} (f : ℕ → A) (n : ℕ) (list : List A) → n ≡ 0
 unfolding filled
 none-filled f n list e = rw e refl
 
+-- the flat record of argument i, in a list that is filled
+flat-row : (d : List ℕ) (list : List Placement) → listRefusal d (length list) ≡ 0 → (i : ℕ) (x : Placement) → i < argumentsIn d
+    → getD (filled (flatAt d) (listCount d (length list)) list) i x ≡ flatAt d i
+flat-row d list z i x l =
+    ap (λ (n : ℕ). getD (filled (flatAt d) n list) i x) (count-all d (length list) z) ∙ filled-below (flatAt d) (argumentsIn d) list i x (list-room d (length list) z) l
+
+flat-value : (d : List ℕ) (i : ℕ) → flatAt d i .value .0 ≡ placementAt d i .at .0
+unfolding flatAt placementOf
+flat-value d i = refl
+
+flat-size : (d : List ℕ) (i : ℕ) → flatAt d i .size .0 ≡ placementAt d i .size .0
+unfolding flatAt placementOf
+flat-size d i = refl
+
+flat-mark : (d : List ℕ) (i : ℕ) → flatAt d i .named ≡ cond (ltb i (namedIn d)) 1 0
+unfolding flatAt placementOf
+flat-mark d i = ap (λ (b : Bool). cond b 1 0) (values-packed d .marks i)
+
+flat-total : (d : List ℕ) (old : Layout) (room : ℕ) → listRefusal d room ≡ 0 → leftIn (listGiven d room) old .values .0 ≡ valuesOf d
+unfolding flatLayout layoutOf
+flat-total d old room z =
+    ap (λ (l : Layout). l .values .0) (list-told d room .left old ∙ kept (listRefusal d room) (flatLayout (layoutOf d) (argumentsIn d)) old z)
+
+-- request 2026-07, of such a list
+module _ (d : List ℕ) (list : List Placement) (z : listRefusal d (length list) ≡ 0) where
+  abbrev rows : List Placement
+  rows = filled (flatAt d) (listCount d (length list)) list
+
+  row-value : (i : ℕ) (x : Placement) → i < argumentsIn d → getD rows i x .value .0 ≡ placementAt d i .at .0
+  row-value i x l = ap (λ (p : Placement). p .value .0) (flat-row d list z i x l) ∙ flat-value d i
+
+  row-size : (i : ℕ) (x : Placement) → i < argumentsIn d → getD rows i x .size .0 ≡ placementAt d i .size .0
+  row-size i x l = ap (λ (p : Placement). p .size .0) (flat-row d list z i x l) ∙ flat-size d i
+
+  rows-start : 0 < argumentsIn d → (x : Placement) → getD rows 0 x .value .0 ≡ 0
+  rows-start l x = row-value 0 x l ∙ values-packed d .first
+
+  rows-follow : (i : ℕ) → i + 1 < argumentsIn d → (x : Placement) → getD rows (i + 1) x .value .0 ≡ getD rows i x .value .0 + getD rows i x .size .0
+  rows-follow i l x = omega (arith, row-value (i + 1) x l, values-packed d .next i, row-value i x (omega arith), row-size i x (omega arith))
+
+  rows-end : (i : ℕ) → i + 1 ≡ argumentsIn d → (x : Placement) → getD rows i x .value .0 + getD rows i x .size .0 ≡ valuesOf d
+  rows-end i e x = omega (arith, values-packed d .last i e, row-value i x (omega arith), row-size i x (omega arith))
+
+  rows-marked : (i : ℕ) → i < argumentsIn d → (x : Placement) → getD rows i x .named ≡ cond (ltb i (namedIn d)) 1 0
+  rows-marked i l x = ap (λ (p : Placement). p .named) (flat-row d list z i x l) ∙ flat-mark d i
+
 lays-out-flat : (d : List ℕ) (old : Layout) (list : List Placement)
     → LaysOutFlat d old list (refusalIn (listGiven d (length list))) (leftIn (listGiven d (length list)) old) (filled (flatAt d) (listCount d (length list)) list)
 lays-out-flat d old list =
@@ -243,6 +290,10 @@ lays-out-flat d old list =
       refused = λ h. none-filled (flatAt d) (listCount d (length list)) list (count-none d (length list) (λ z. h (told-number t ∙ z)));
       below = λ e i x l. flat-list-means d list i x (sym (told-number t) ∙ e) l;
       past = λ e i x l. ap (λ (n : ℕ). getD (filled (flatAt d) n list) i x) (count-all d (length list) (sym (told-number t) ∙ e)) ∙ filled-past (flatAt d) (argumentsIn d) list i x l;
+      starts = λ e. rows-start d list (sym (told-number t) ∙ e);
+      follows = λ e. rows-follow d list (sym (told-number t) ∙ e);
+      ends = λ e i n x. rows-end d list (sym (told-number t) ∙ e) i n x ∙ sym (flat-total d old (length list) (sym (told-number t) ∙ e));
+      marks = λ e. rows-marked d list (sym (told-number t) ∙ e);
     }
 
 -- ---- moving

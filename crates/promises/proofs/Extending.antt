@@ -39,6 +39,8 @@ module _ (d e : List ℕ) (u : Unmoved d e) where
     place = ap (λ (x : Record). x .place) b ∙ u .places i l ∙ sym (ap (λ (x : Record). x .place) a);
     size = ap (λ (x : Record). x .size) b ∙ u .sizes i l ∙ sym (ap (λ (x : Record). x .size) a);
     align = ap (λ (x : Record). x .align) b ∙ u .aligns i l ∙ sym (ap (λ (x : Record). x .align) a);
+    value = ap (λ (x : Record). x .at) b ∙ u .values i l ∙ sym (ap (λ (x : Record). x .at) a);
+    named = ap (λ (x : Record). x .named) b ∙ u .marks i l ∙ sym (ap (λ (x : Record). x .named) a);
   }
 
   no-smaller : (n m : ℕ) → NoSmaller (flatLayout (layoutOf d) n) (flatLayout (layoutOf e) m)

@@ -26,7 +26,7 @@ use Rattle.places.proofs.Records.{place-written}
 use Rattle.places.proofs.Returning.{hidden-exactly}
 use Rattle.layout.specs.Arguments.{shapeAt, shapesFrom, shapes, isVoid, returnClasses, returnPlace, hidden, usedFirst, usedAt}
 use Rattle.layout.specs.Verdict.{verdict}
-use Rattle.layout.specs.Placements.{placementAt}
+use Rattle.layout.specs.Placements.{layingAt, placementAt}
 use Rattle.layout.proofs.Arguments.{used-none, used-next}
 use Rattle.layout.proofs.Bounds.{argument-shaped}
 use Rattle.layout.proofs.Verdict.{accepted-uses}
@@ -41,7 +41,7 @@ module _ (d : List ℕ) (accepted : verdict d ≡ 0) where
 
   -- the record says the place that the layout gives
   pub place-said : (i : ℕ) → i < argumentsIn d → placeAt d i ≡ place eights (usedAt d i) (shapeAt d i)
-  unfolding placementAt
+  unfolding placementAt layingAt
   place-said i l = place-written (usedAt d i) (shapeAt d i) (argument-shaped d right i l)
 
   places-said : (n i : ℕ) → i + n ≤ argumentsIn d → placesFrom d i n ≡ places eights (usedAt d i) (shapesFrom d i n)
@@ -103,11 +103,11 @@ module _ (d : List ℕ) (accepted : verdict d ≡ 0) where
           (ap (λ (u : Used). u .general) n, ap (λ (u : Used). u .vector) n)
 
       pub lowest : LowestOffset eights (usedAt d i .stack .0) (placementAt d i .align .0) o
-      unfolding placementAt
+      unfolding placementAt layingAt
       lowest = stack-lowest eights (usedAt d i) (shapeAt d i) o (argument-shaped d right i there) said
 
       pub room : RoundedUp 8 (o + placementAt d i .size .0) (usedAt d (i + 1) .stack .0)
-      unfolding placementAt
+      unfolding placementAt layingAt
       room = subst (λ (u : Used). RoundedUp 8 (o + shapeAt d i .size) (u .stack .0)) (sym (used-next d i)) (stack-rounded eights (usedAt d i) (shapeAt d i) o said)
 
     -- ---- the walk beside it

@@ -19,14 +19,14 @@ use Rattle.places.specs.Images.{slots, stackAt, spread, bytesOf, addresses, tot
 use Rattle.places.specs.Statements.{OnePlaceEach}
 use Rattle.places.proofs.Apart.{length-slots, all-seated, addresses-past, apart, address-at}
 use Rattle.places.proofs.Fits.{register-step}
-use Rattle.layout.specs.Arguments.{shapeAt, shapesFrom, shapes, hidden, usedFirst, usedAt, areaOf}
+use Rattle.layout.specs.Arguments.{shapeAt, shapesFrom, shapes, hidden, usedFirst, usedAt, valueStart, areaOf}
 use Rattle.layout.specs.Layout.{valuesOf}
-use Rattle.layout.specs.Placements.{placementAt}
+use Rattle.layout.specs.Placements.{layingAt, placementAt}
 use Rattle.layout.specs.Verdict.{verdict}
 use Rattle.layout.proofs.Arguments.{length-shapes, shapes-split}
 use Rattle.layout.proofs.Bounds.{argument-shaped, all-shaped}
 use Rattle.layout.proofs.Verdict.{accepted-uses}
-use Rattle.moving.specs.Images.{addressesOf, valueStart}
+use Rattle.moving.specs.Images.{addressesOf}
 use Rattle.moving.proofs.Turns.{value-some}
 use Rattle.station.specs.Paper.{kcb, shapeAt as paperShape, usedAt as paperUsed}
 use Rattle.station.proofs.Kcb.{kcb-shape, kcb-used}
@@ -106,16 +106,16 @@ module _ (d : List ℕ) (accepted : verdict d ≡ 0) where
     within : i < length (shapes d)
     within = let l = length-shapes d (argumentsIn d) 0 in omega (arith, l)
 
-    pub recorded : (j : ℕ) → j < placementAt d i .size .0 → lies d (valueStart d i + j) ≡ getD (bytesOf stackAt (placeAt d i) (placementAt d i .size .0)) j 0
-    unfolding addressesOf placementAt
+    pub recorded : (j : ℕ) → j < placementAt d i .size .0 → lies d (placementAt d i .at .0 + j) ≡ getD (bytesOf stackAt (placeAt d i) (placementAt d i .size .0)) j 0
+    unfolding addressesOf placementAt layingAt
     recorded j l =
         ap (λ n. getD (addresses stackAt eights (usedFirst d) (shapes d)) (n + j) 0) (sym start-here)
         ∙ address-at stackAt eights (shapes d) (usedFirst d) (record { kinds = []; size = 0; align = 1 }) shaped i j within (subst (λ (s : Shape). j < s .size) (sym shape-here) l)
         ∙ ap₂ (λ (u : Used) (s : Shape). getD (bytesOf stackAt (place eights u s) (s .size)) j 0) used-here shape-here
         ∙ ap (λ (p : Place). getD (bytesOf stackAt p (shapeAt d i .size)) j 0) (sym (place-said d accepted i there))
 
-    pub registers-there : (j : ℕ) (rs : List Register) → placeAt d i ≡ inRegisters rs → j < placementAt d i .size .0 → lies d (valueStart d i + j) ≡ getD (slots rs) (j / 8) 0 + j % 8
-    unfolding placementAt
+    pub registers-there : (j : ℕ) (rs : List Register) → placeAt d i ≡ inRegisters rs → j < placementAt d i .size .0 → lies d (placementAt d i .at .0 + j) ≡ getD (slots rs) (j / 8) 0 + j % 8
+    unfolding placementAt layingAt
     registers-there j rs e l =
         let u = usedAt d i in
         let s = register-step eights u (shapeAt d i) rs (sym (place-said d accepted i there) ∙ e) in
@@ -127,8 +127,8 @@ module _ (d : List ℕ) (accepted : verdict d ≡ 0) where
     first-run p zero h = absurd (omega arith)
     first-run p (suc n) h = refl
 
-    pub stack-there : (o : ℕ) → placeAt d i ≡ onStack o → lies d (valueStart d i) ≡ stackAt + o
-    unfolding placementAt
+    pub stack-there : (o : ℕ) → placeAt d i ≡ onStack o → lies d (placementAt d i .at .0) ≡ stackAt + o
+    unfolding placementAt layingAt
     stack-there o e =
         let some : 1 ≤ shapeAt d i .size = value-some d accepted i there in
         ap (lies d) (omega arith) ∙ recorded 0 (omega (arith, some)) ∙ ap (λ (p : Place). getD (bytesOf stackAt p (shapeAt d i .size)) 0 0) e ∙ first-run (stackAt + o) (shapeAt d i .size) some

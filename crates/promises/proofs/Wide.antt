@@ -22,7 +22,7 @@ use Rattle.places.proofs.Fits.{fits-false, place-fits, place-not, next-fits, ne
 use Rattle.layout.specs.Arguments.{isNamed, shapeAt, usedAt}
 use Rattle.layout.specs.Verdict.{verdict}
 use Rattle.layout.specs.Layout.{layoutOf}
-use Rattle.layout.specs.Placements.{placementAt}
+use Rattle.layout.specs.Placements.{layingAt, placementAt}
 use Rattle.layout.proofs.Arguments.{used-none, used-next}
 use Rattle.layout.proofs.Bounds.{argument-shaped}
 use Rattle.layout.proofs.Layouts.{asks-at}
@@ -129,7 +129,7 @@ module _ (d : List ℕ) (accepted : verdict d ≡ 0) where
       ∙ or-so (usedAt d i .strict) (leb 32 (shapeAt d i .align)) (le-leb 32 (shapeAt d i .align) a)
 
   pub area-strict : StrictOn d → layoutOf d .align .0 ≡ 32
-  unfolding layoutOf placementAt
+  unfolding layoutOf placementAt layingAt
   area-strict s =
       let i = s .argument in
       let n = argumentsIn d in
@@ -137,7 +137,7 @@ module _ (d : List ℕ) (accepted : verdict d ≡ 0) where
       rw (ap (λ (k : ℕ). usedAt d k .strict) whole ∙ strict-on (n - (i + 1)) (i + 1) (strict-begins i (s .offset) (s .there) (s .on) (omega (arith, s .strict)))) refl
 
   pub area-plain : (StrictOn d → ⊥) → layoutOf d .align .0 ≡ 16
-  unfolding layoutOf placementAt
+  unfolding layoutOf placementAt layingAt
   area-plain h = by (usedAt d (argumentsIn d) .strict) refl
     where
       by : (b : Bool) → usedAt d (argumentsIn d) .strict ≡ b → _≡_ {A = ℕ} (cond b 32 16) 16

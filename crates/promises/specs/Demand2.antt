@@ -45,6 +45,7 @@ use Rattle.layout.specs.Arguments.{shapeAt, isVoid, returnClasses, returnPlace,
 use Rattle.layout.specs.Verdict.{verdict}
 use Rattle.layout.specs.Layout.{layoutOf, layoutAnswer}
 use Rattle.layout.specs.Placements.{placementAt}
+use Rattle.layout.specs.Statements.{ValuesPacked}
 use Rattle.layout.specs.Lists.{listRefusal, listCount, filled}
 use Rattle.cases.specs.Cases.{Case, cases}
 use Rattle.listing.specs.Listing.{listing}
@@ -337,6 +338,8 @@ pub record B7-Records : Type 0 where
   pub type : (d : List ℕ) (i : ℕ) → placementAt d i .ty ≡ argumentAt d i
   pub size : (d : List ℕ) (i : ℕ) → placementAt d i .size .0 ≡ sizeTy (modelIn d) (tyAt d (argumentAt d i))
   pub align : (d : List ℕ) (i : ℕ) → placementAt d i .align .0 ≡ alignTy (modelIn d) (tyAt d (argumentAt d i))
+  -- request 2026-07: the offset of each value, and the mark
+  pub packed : (d : List ℕ) → ValuesPacked d
 
 -- ---- B8 to B12: placing and gathering, which moving/specs/Statements.antt states, of any layout, of what the two calls answer and leave
 

@@ -21,7 +21,7 @@ use Rattle.layout.specs.Verdict.{verdict}
 use Rattle.layout.specs.Layout.{valuesOf}
 use Rattle.layout.specs.Placements.{placementAt}
 use Rattle.images.specs.Words.{littleEndian}
-use Rattle.moving.specs.Images.{addressesOf, valueStart, amd64}
+use Rattle.moving.specs.Images.{addressesOf, amd64}
 use Rattle.moving.specs.Orders.{placeRefusal}
 use Rattle.moving.specs.Answers.{imagesAfter}
 use Rattle.moving.specs.Statements.{NoSharedImage}
@@ -45,11 +45,11 @@ pub record C1-C2-Places : Type 0 where
   pub each : (d : List ℕ) → verdict d ≡ 0 → length (addressesOf d) ≡ valuesOf d
   -- that of byte j of argument i is in the place that its record says
   pub recorded : (d : List ℕ) (i j : ℕ) → verdict d ≡ 0 → i < argumentsIn d → j < placementAt d i .size .0
-      → lies d (valueStart d i + j) ≡ getD (bytesOf stackAt (placeAt d i) (placementAt d i .size .0)) j 0
+      → lies d (placementAt d i .at .0 + j) ≡ getD (bytesOf stackAt (placeAt d i) (placementAt d i .size .0)) j 0
   -- in registers it is byte j % 8 of eightbyte j / 8, which begins where `slots` says. Request 2026-06: "Bytes 16 to 31 stand in a second lent image of 128
   -- bytes, xmm0 first", which begins at 176
   pub in-registers : (d : List ℕ) (i j : ℕ) (rs : List Register) → verdict d ≡ 0 → i < argumentsIn d → placeAt d i ≡ inRegisters rs → j < placementAt d i .size .0
-      → lies d (valueStart d i + j) ≡ getD (slots rs) (j / 8) 0 + j % 8
+      → lies d (placementAt d i .at .0 + j) ≡ getD (slots rs) (j / 8) 0 + j % 8
   -- within the images
   pub inside : (d : List ℕ) (k : ℕ) → verdict d ≡ 0 → k < valuesOf d → lies d k < stackAt + areaOf d
   -- "no two share one"
@@ -63,7 +63,7 @@ pub record C3-Alignment : Type 0 where
   pub aligned : (d : List ℕ) (i o : ℕ) → verdict d ≡ 0 → i < argumentsIn d → placeAt d i ≡ onStack o
       → (o % placementAt d i .align .0 ≡ 0) × (o % 8 ≡ 0)
   -- the first byte of the value lies there in the stack image
-  pub there : (d : List ℕ) (i o : ℕ) → verdict d ≡ 0 → i < argumentsIn d → placeAt d i ≡ onStack o → lies d (valueStart d i) ≡ stackAt + o
+  pub there : (d : List ℕ) (i o : ℕ) → verdict d ≡ 0 → i < argumentsIn d → placeAt d i ≡ onStack o → lies d (placementAt d i .at .0) ≡ stackAt + o
 
 -- ---- C4: "For one description and one hidden address, different lists never give the same register and stack images", the upper image among them: `NoSharedImage`
 

@@ -5,15 +5,15 @@ use mathlib.Core.Path.{_≡_}
 use mathlib.Core.Logic.{_≢_}
 use mathlib.Core.Bool.{true, false, cond}
 use mathlib.Core.List.{List, [], _∷_, _++_}
-use Prim.Native.Nat.{ℕ, suc, _-_, _^_, _≤_, _<_}
-use lib.Dec.{eqb}
+use Prim.Native.Nat.{ℕ, suc, _+_, _-_, _^_, _≤_, _<_}
+use lib.Dec.{ltb, eqb}
 use lib.ListN.{length, getD, take, drop, replicate}
 use denote.Ref.{now}
 use denote.Triple.Entry.{Res}
 use denote.Triple.Clauses.{Ended, Lasts}
 use Rattle.tightness.specs.Tight.{Call as Made, Admits}
 use Rattle.addresses.specs.Addresses.{gather}
-use Rattle.description.specs.Description.{argumentsIn, kindAt, countAt, modelIn}
+use Rattle.description.specs.Description.{namedIn, argumentsIn, kindAt, countAt, modelIn}
 use Rattle.form.specs.declared.Refusal.{Refusal}
 use Rattle.form.specs.Order.{Rule}
 use Rattle.types.specs.Size.{sizeTy, alignTy}
@@ -136,6 +136,11 @@ pub record LaysOutFlat (d : List ℕ) (old : Layout) (list : List Placement) (r 
   pub refused : r .number ≢ 0 → after ≡ list
   pub below : r .number ≡ 0 → (i : ℕ) (x : Placement) → i < argumentsIn d → placementMeant (getD after i x) ≡ placementAt d i
   pub past : r .number ≡ 0 → (i : ℕ) (x : Placement) → argumentsIn d ≤ i → getD after i x ≡ getD list i x
+  -- request 2026-07: "The records' offsets start at 0, each is the one before plus its size, and the last ends at the total", and each says whether it is named
+  pub starts : r .number ≡ 0 → 0 < argumentsIn d → (x : Placement) → getD after 0 x .value .0 ≡ 0
+  pub follows : r .number ≡ 0 → (i : ℕ) → i + 1 < argumentsIn d → (x : Placement) → getD after (i + 1) x .value .0 ≡ getD after i x .value .0 + getD after i x .size .0
+  pub ends : r .number ≡ 0 → (i : ℕ) → i + 1 ≡ argumentsIn d → (x : Placement) → getD after i x .value .0 + getD after i x .size .0 ≡ new .values .0
+  pub marks : r .number ≡ 0 → (i : ℕ) → i < argumentsIn d → (x : Placement) → getD after i x .named ≡ cond (ltb i (namedIn d)) 1 0
 
 -- cb_write_listing: the lister's text, and behind it what stood there
 pub record Lists (d out : List ℕ) (n : ℕ) (after : List ℕ) : Type 0 where
@@ -217,7 +222,7 @@ pub record ShowsFlat (s : Station) (seat : List ℕ) (w : Walk) (a : Ask) (r : R
 -- ---- and that it does
 
 pub record Exports : Type 2 where
-  pub version : Ensures cb_version.ended (λ M. cb_version.clauses {M = M}) (λ c r w. r ≡ 4)
+  pub version : Ensures cb_version.ended (λ M. cb_version.clauses {M = M}) (λ c r w. r ≡ 5)
   pub check : Ensures cb_check.ended (λ M. cb_check.clauses {M = M}) (λ c r w. Checks (now (c .passed .0)) r)
   pub type-extent : Ensures cb_type_extent.ended (λ M. cb_type_extent.clauses {M = M})
       (λ c r w. Fills extentRead (now (c .passed .0)) (questionOrder (now (c .passed .0)) (c .passed .1 .0))

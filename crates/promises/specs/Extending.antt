@@ -27,6 +27,8 @@ pub record SamePlace (p q : Record) : Type 0 where
   pub place : q .place ≡ p .place
   pub size : q .size ≡ p .size
   pub align : q .align ≡ p .align
+  pub value : q .at ≡ p .at
+  pub named : q .named ≡ p .named
 
 -- the counts of the first call, and those of the longer one
 pub record NoSmaller (l m : Layout) : Type 0 where

@@ -14,8 +14,9 @@ use Rattle.types.specs.Decode.{tyAt}
 use Rattle.classify.specs.Classify.{classesOf}
 use Rattle.places.specs.Shapes.{Shape}
 use Rattle.places.specs.Places.{eights, fresh, after, area}
-use Rattle.layout.specs.Arguments.{isNamed, shapeAt, shapesFrom, shapes, isVoid, returnPlace, returnedSize, hidden, usedAt, areaOf}
-use Rattle.layout.specs.Placements.{placementAt}
+use Rattle.places.specs.Images.{total}
+use Rattle.layout.specs.Arguments.{isNamed, shapeAt, shapesFrom, shapes, isVoid, returnPlace, returnedSize, hidden, usedAt, valueStart, areaOf}
+use Rattle.layout.specs.Placements.{layingAt, placementAt}
 use Rattle.layout.proofs.Arguments.{length-shapes, shapes-split}
 use Rattle.layout.specs.Layout.{valuesOf, layoutOf}
 use Rattle.tidying.specs.Call.{Returned, void, returned, Call, treesFrom, returnedBy, callOf}
@@ -84,6 +85,11 @@ module _ (d : List ℕ) where
   used-call i l =
       rw (← shapes-call, ← hidden-call, shapes-split d i (argumentsIn d) l, take-at (shapesFrom d 0 i) (shapesFrom d i (argumentsIn d - i)) i (length-shapes d i 0))
 
+  pub start-call : (i : ℕ) → i ≤ argumentsIn d → valueStart d i ≡ total (take i (shapesIn (modelIn d) (callOf d)))
+  unfolding valueStart
+  start-call i l =
+      rw (← shapes-call, shapes-split d i (argumentsIn d) l, take-at (shapesFrom d 0 i) (shapesFrom d i (argumentsIn d - i)) i (length-shapes d i 0))
+
   pub area-call : areaOf d ≡ area eights (fresh (hiddenIn (modelIn d) (callOf d .returns))) (shapesIn (modelIn d) (callOf d))
   unfolding areaOf
   area-call = rw (← shapes-call, ← hidden-call)
@@ -104,8 +110,8 @@ module _ (d : List ℕ) where
 
   -- the record of an argument, its type number apart
   pub placement-call : (i : ℕ) → i < argumentsIn d → placementAt d i ≡ placementIn (modelIn d) (callOf d) i (argumentAt d i)
-  unfolding placementAt placementIn shapeAt isNamed
-  placement-call i l = rw (← used-call i (omega arith), argument-call i l, named-call)
+  unfolding placementAt layingAt placementIn shapeAt isNamed
+  placement-call i l = rw (← used-call i (omega arith), ← start-call i (omega arith), argument-call i l, named-call)
 
 pub model-call : (d e : List ℕ) → callOf d ≡ callOf e → modelIn d ≡ modelIn e
 model-call d e h = model-flags d e (sym (flags-call d) ∙ ap (λ (x : Call). x .flags) h ∙ flags-call e)

@@ -96,4 +96,6 @@ module _ (d : List ℕ) (t : Tidiable d) where
     sizes = λ i l. ap (λ (p : Placement). p .size) (record-same i l) ∙ sym (ap (λ (p : Placement). p .size) (placement-call d i l));
     aligns = λ i l. ap (λ (p : Placement). p .align) (record-same i l) ∙ sym (ap (λ (p : Placement). p .align) (placement-call d i l));
     places = λ i l. ap (λ (p : Placement). p .place) (record-same i l) ∙ sym (ap (λ (p : Placement). p .place) (placement-call d i l));
+    values = λ i l. ap (λ (p : Placement). p .at) (record-same i l) ∙ sym (ap (λ (p : Placement). p .at) (placement-call d i l));
+    marks = λ i l. ap (λ (p : Placement). p .named) (record-same i l) ∙ sym (ap (λ (p : Placement). p .named) (placement-call d i l));
   }

@@ -67,4 +67,6 @@ module _ (m : Model) where
     size = record { 0 = shapeFor c i .size };
     align = record { 0 = shapeFor c i .align };
     place = recorded (place eights (usedIn c i) (shapeFor c i));
+    at = record { 0 = total (take i (shapesIn c)) };
+    named = ltb i (c .named);
   }

@@ -48,6 +48,8 @@ pub record TidyForm (d : List ℕ) : Type 0 where
   pub sizes : (i : ℕ) → i < argumentsIn d → placementAt (tidied d) i .size ≡ placementAt d i .size
   pub aligns : (i : ℕ) → i < argumentsIn d → placementAt (tidied d) i .align ≡ placementAt d i .align
   pub places : (i : ℕ) → i < argumentsIn d → placementAt (tidied d) i .place ≡ placementAt d i .place
+  pub values : (i : ℕ) → i < argumentsIn d → placementAt (tidied d) i .at ≡ placementAt d i .at
+  pub marks : (i : ℕ) → i < argumentsIn d → placementAt (tidied d) i .named ≡ placementAt d i .named
 
 -- where a run must begin: behind the runs of the types with lower numbers
 unfoldable pub runsBefore : List ℕ → ℕ → ℕ

@@ -28,6 +28,12 @@ use Rattle.layout.proofs.lay_out.Symbol as lay-out-symbol
 use Rattle.layout.proofs.needs_stack
 use Rattle.layout.proofs.needs_stack.Met as needs-stack-met
 use Rattle.layout.proofs.needs_stack.Symbol as needs-stack-symbol
+use Rattle.layout.proofs.laying_fresh
+use Rattle.layout.proofs.laying_fresh.Met as laying-fresh-met
+use Rattle.layout.proofs.laying_fresh.Symbol as laying-fresh-symbol
+use Rattle.layout.proofs.step_of
+use Rattle.layout.proofs.step_of.Met as step-of-met
+use Rattle.layout.proofs.step_of.Symbol as step-of-symbol
 use Rattle.layout.proofs.place_argument
 use Rattle.layout.proofs.place_argument.Met as place-argument-met
 use Rattle.layout.proofs.place_argument.Symbol as place-argument-symbol
@@ -88,6 +94,18 @@ meets-layout-needs-stack M = needs-stack-met.met
 
 pub tight-layout-needs-stack : Tight needs_stack.ended (λ M. needs_stack.clauses {M = M})
 tight-layout-needs-stack c r q w v a b = (equal (result needs_stack.ended c) (a .ensured) (b .ensured), refl)
+
+pub meets-layout-laying-fresh : Meets laying_fresh.ended (λ M. laying_fresh.clauses {M = M}) laying-fresh-symbol.routine
+meets-layout-laying-fresh M = laying-fresh-met.met
+
+pub tight-layout-laying-fresh : Tight laying_fresh.ended (λ M. laying_fresh.clauses {M = M})
+tight-layout-laying-fresh c r q w v a b = (equal (result laying_fresh.ended c) (a .ensured) (b .ensured), refl)
+
+pub meets-layout-step-of : Meets step_of.ended (λ M. step_of.clauses {M = M}) step-of-symbol.routine
+meets-layout-step-of M = step-of-met.met
+
+pub tight-layout-step-of : Tight step_of.ended (λ M. step_of.clauses {M = M})
+tight-layout-step-of c r q w v a b = (equal (result step_of.ended c) (a .ensured) (b .ensured), refl)
 
 pub meets-layout-place-argument : Meets place_argument.ended (λ M. place_argument.clauses {M = M}) place-argument-symbol.routine
 meets-layout-place-argument M = place-argument-met.met

@@ -13,11 +13,11 @@ pub const LISTER: &str = "4B 43 42 01 00 06 01 03 05 01 02 | 00 03 00 00 | 00 07
 /// "it prints"
 pub const LISTER_TEXT: &str = "\
 KCB 1 args 5 named 3 gp 4 vec 2 stack 16
-0 type 0 size 4 align 4 rdi
-1 type 3 size 16 align 8 xmm0 rsi
-2 type 4 size 16 align 16 stack 0
-3 type 1 size 8 align 8 xmm1
-4 type 5 size 16 align 16 rdx rcx
+0 type 0 size 4 align 4 rdi at 0 named
+1 type 3 size 16 align 8 xmm0 rsi at 4 named
+2 type 4 size 16 align 16 stack 0 at 20 named
+3 type 1 size 8 align 8 xmm1 at 36 unnamed
+4 type 5 size 16 align 16 rdx rcx at 44 unnamed
 return type 1 xmm0
 walk gp 16 fp 64 over 16
 ";

@@ -68,15 +68,18 @@ fn head_line(accepted: &Accepted) -> String {
     )
 }
 
-/// "Then per argument: position, type, size, alignment, place."
+/// "Then per argument: position, type, size, alignment, place"; 02: "The lister
+/// appends `at 12 named` or `at 12 unnamed`."
 fn argument_line(position: usize, placement: &Placement) -> String {
     format!(
-        "{} type {} size {} align {} {}\n",
+        "{} type {} size {} align {} {} at {} {}\n",
         position,
         placement.type_number,
         placement.size.0,
         placement.alignment.0,
-        place_text(&placement.place)
+        place_text(&placement.place),
+        placement.value.0,
+        if placement.named { "named" } else { "unnamed" }
     )
 }
 

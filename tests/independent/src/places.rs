@@ -28,13 +28,16 @@ pub enum Place {
     Stack(Bytes),
 }
 
-/// "One placement record for each argument"
+/// "One placement record for each argument"; 02: "Each placement record gains the
+/// offset of the argument in the packed values and a named mark."
 #[derive(Clone, Debug, PartialEq, Eq)]
 pub struct Placement {
     pub type_number: u8,
     pub size: Bytes,
     pub alignment: Bytes,
     pub place: Place,
+    pub value: Bytes,
+    pub named: bool,
 }
 
 #[derive(Clone, Copy, Debug, PartialEq, Eq)]
@@ -255,6 +258,12 @@ fn area_alignment(placements: &[Placement]) -> Bytes {
     alignments.max().unwrap_or(Bytes(0)).max(Bytes(16))
 }
 
+/// "Values come packed, argument after argument, size bytes each, no gaps": where the
+/// next value begins.
+fn value_start(before: &[Placement]) -> Bytes {
+    before.last().map_or(Bytes(0), |last| Bytes(last.value.0 + last.size.0))
+}
+
 /// "Arguments follow left to right."
 pub fn laid_out(types: &Types) -> Layout {
     let description = types.description();
@@ -272,6 +281,8 @@ pub fn laid_out(types: &Types) -> Layout {
             size: measure.size,
             alignment: measure.alignment,
             place,
+            value: value_start(&placements),
+            named,
         });
         taken.push(now);
     }

@@ -239,7 +239,8 @@ fn layouts(random: &mut Random) -> Writer {
 
 fn empty_placement() -> Placement {
     let place = Place::Stack(Bytes(0));
-    Placement { type_number: 0, size: Bytes(0), alignment: Bytes(0), place }
+    let value = Bytes(0);
+    Placement { type_number: 0, size: Bytes(0), alignment: Bytes(0), place, value, named: false }
 }
 
 fn lay_out(writer: &mut Writer, bytes: &[u8], lent: u8) {

@@ -2,6 +2,7 @@
 
 use independent::generator::{random_description, Shape, LARGE, MIDDLE, SMALL};
 use independent::history::{random_address, random_values, FILLING};
+use independent::listing::listing;
 use independent::moving::{gathering, placing, spots, Image, Spot, REGISTER_IMAGE, UPPER_IMAGE};
 use independent::places::{accepted, Place, Placement, Register};
 use independent::random::Random;
@@ -38,6 +39,33 @@ fn every_value_byte_has_one_place_of_its_own() {
             let in_rdi = spot.image == Image::Registers && spot.offset.0 < 8;
             assert!(!(in_rdi && layout.hidden_address));
         }
+    });
+}
+
+#[test]
+fn values_are_packed_from_0_to_the_total_and_the_first_n_are_named() {
+    for_random_descriptions(13, |_, bytes| {
+        let accepted = accepted(bytes).expect("accepted");
+        let mut next = 0;
+        for (position, placement) in accepted.layout.placements.iter().enumerate() {
+            assert_eq!(placement.value.0, next);
+            next += placement.size.0;
+            assert_eq!(placement.named, position < bytes[7] as usize);
+        }
+        assert_eq!(next, accepted.layout.values_length());
+    });
+}
+
+#[test]
+fn each_line_ends_with_the_offset_and_the_mark() {
+    for_random_descriptions(14, |_, bytes| {
+        let layout = accepted(bytes).expect("accepted").layout;
+        let text = listing(bytes);
+        for (line, placement) in text.lines().skip(1).zip(&layout.placements) {
+            let mark = if placement.named { "named" } else { "unnamed" };
+            assert!(line.ends_with(&format!(" at {} {mark}", placement.value.0)), "{line}");
+        }
+        assert!(text.len() <= 4540, "{text}");
     });
 }
 

@@ -224,7 +224,9 @@ fn return_places_are_in_eightbyte_order() {
 fn a_list_under_a_is_refused_and_entries_past_a_stay() {
     let bytes = bytes_of_hex(LISTER);
     let place = Place::Stack(Bytes(77));
-    let stale = Placement { type_number: 9, size: Bytes(9), alignment: Bytes(9), place };
+    let nine = Bytes(9);
+    let stale =
+        Placement { type_number: 9, size: nine, alignment: nine, place, value: nine, named: false };
     let mut short = vec![stale.clone(); 4];
     assert_eq!(layout(&bytes, &mut short), Err(Refusal::WrongLength));
     assert!(short.iter().all(|entry| *entry == stale));
@@ -272,5 +274,5 @@ fn listings_of_refusals_and_of_nothing() {
 fn the_overflow_offset_at_open_is_a_multiple_of_8_only() {
     let text = listing(&description("void: long, long, long, long, long, long, long, ..., int128"));
     assert!(text.ends_with("walk gp 48 fp 48 over 8\n"), "{text}");
-    assert!(text.contains("7 type 1 size 16 align 16 stack 16\n"), "{text}");
+    assert!(text.contains("7 type 1 size 16 align 16 stack 16 at 56 unnamed\n"), "{text}");
 }

@@ -152,10 +152,12 @@ fn flat(placement: &places::Placement) -> Placement {
         size: placement.size.0 as u64,
         align: placement.alignment.0 as u64,
         offset: offset as u64,
+        value: placement.value.0 as u64,
         type_number: placement.type_number,
         first,
         second,
-        reserved: [0; 5],
+        named: placement.named as u8,
+        reserved: [0; 4],
     }
 }
 

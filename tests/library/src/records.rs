@@ -73,10 +73,12 @@ structs! {
         size: u64,
         align: u64,
         offset: u64,
+        value: u64,
         type_number: u8,
         first: u8,
         second: u8,
-        reserved: [u8; 5],
+        named: u8,
+        reserved: [u8; 4],
     }
     Layout {
         general_registers: u64,
@@ -192,4 +194,4 @@ pub const XMM0Y: u8 = 48;
 pub const NONE: u8 = 255;
 
 /// Bytes of the buffer of cb_write_listing.
-pub const LISTING_ROOM: usize = 4096;
+pub const LISTING_ROOM: usize = 8192;

@@ -1,4 +1,4 @@
--- The invariant: i records are stored, and `used` is what they use. The measure is what is left of them. Assumes nothing.
+-- The invariant: i records are stored, and `before` is what is laid out by them. The measure is what is left of them. Assumes nothing.
 -- Assumes nothing.
 use Prim.Native.Nat.{_-_, _<_}
 use native.Mathlib.Omega.{arith}
@@ -7,24 +7,23 @@ use denote.Ref.{now}
 use Rattle.listing.proofs.Lines.{Going, going-first, going-asks, going-record, going-next, going-last}
 use Rattle.listing.proofs.Small.{record-small, few-records, headed}
 use Rattle.description.specs.Description.{argumentsIn}
-use Rattle.places.specs.Places.{next}
 use Rattle.listing.proofs.put_records.Statement.{statement}
 use Rattle.listing.proofs.put_records.Tie as tie
 
 abbrev Inv-loop : tie.InvT-loop
-Inv-loop d out₀ at table count used₀ next₀ i₀ out used next i = Going d out₀ at out next used i
+Inv-loop d out₀ at table count before₀ next₀ i₀ out before next i = Going d out₀ at out next before i
 
 abbrev μ-loop : tie.MeasureT-loop
-μ-loop d out₀ at table count used₀ next₀ i₀ out used next i = count - i
+μ-loop d out₀ at table count before₀ next₀ i₀ out before next i = count - i
 
 byte-at-requires : tie.Need-byte-at-requires Inv-loop μ-loop
 byte-at-requires c κs = omega (arith, headed (now (c .before .args .d)) (c .before .pre .1 .right))
 
-fresh-requires : tie.Need-fresh-requires Inv-loop μ-loop
-fresh-requires c κs = search needs
+laying-fresh-requires : tie.Need-laying-fresh-requires Inv-loop μ-loop
+laying-fresh-requires c κs = search needs
 
 loop-holds : tie.Need-loop-holds Inv-loop μ-loop
-loop-holds c = going-first (now (c .before .before .before .args .d)) (now (c .before .before .before .args .out)) (c .before .before .before .args .at) (c .before .before .before .args .layout) (c .fresh .result) (c .before .before .before .pre .1) (c .fresh .ensures)
+loop-holds c = going-first (now (c .before .before .before .args .d)) (now (c .before .before .before .args .out)) (c .before .before .before .args .at) (c .before .before .before .args .layout) (c .laying-fresh .result) (c .before .before .before .pre .1) (c .laying-fresh .ensures)
 
 place-argument-requires : tie.Need-place-argument-requires Inv-loop μ-loop
 place-argument-requires c κs = (going-asks (c .before .loop .inv) (omega (arith, c .loop-test .taken, c .before .before .before .byte-at .ensures .0)), c .before .before .before .before .before .pre .2)
@@ -54,7 +53,7 @@ put-records-spec =
     Inv-loop
     μ-loop
     byte-at-requires
-    fresh-requires
+    laying-fresh-requires
     loop-holds
     place-argument-requires
     put-record-requires

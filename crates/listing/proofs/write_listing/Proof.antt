@@ -32,16 +32,16 @@ put-refused-requires c κs = search needs
 
 returns : tie.Need-returns
 returns c =
-    let room : 4096 ≡ length (now (c .before .before .before .before .before .before .before .before .before .before .before .args .out)) = omega (arith, c .before .before .before .before .before .before .before .before .room .ensures .0, c .before .before .before .before .before .before .before .before .room .ensures .1) in
+    let room : 8192 ≡ length (now (c .before .before .before .before .before .before .before .before .before .before .before .args .out)) = omega (arith, c .before .before .before .before .before .before .before .before .room .ensures .0, c .before .before .before .before .before .before .before .before .room .ensures .1) in
     let w = c .put-laid .ensures in
     let e = sym (c .before .before .before .before .answer .given .1) ∙ c .before .before .before .before .before .before .layout-with .ensures .0 in
     (listing-length (now (c .before .before .before .before .before .before .before .before .before .before .before .args .d)) (now (c .before .before .before .before .before .before .before .before .before .before .before .args .out)) (Laid (c .before .before .before .before .answer .given .0 .0)) e room w, listing-short (now (c .before .before .before .before .before .before .before .before .before .before .before .args .d)) (now (c .before .before .before .before .before .before .before .before .before .before .before .args .out)) (Laid (c .before .before .before .before .answer .given .0 .0)) e room w, listing-bytes (now (c .before .before .before .before .before .before .before .before .before .before .before .args .d)) (now (c .before .before .before .before .before .before .before .before .before .before .before .args .out)) (Laid (c .before .before .before .before .answer .given .0 .0)) e room w)
 
 returns-2 : tie.Need-returns-2
 returns-2 c =
-    let room : 4096 ≡ length (now (c .before .before .before .before .before .before .before .before .before .before .args .out)) = omega (arith, c .before .before .before .before .before .before .before .room .ensures .0, c .before .before .before .before .before .before .before .room .ensures .1) in
+    let room : 8192 ≡ length (now (c .before .before .before .before .before .before .before .before .before .before .args .out)) = omega (arith, c .before .before .before .before .before .before .before .room .ensures .0, c .before .before .before .before .before .before .before .room .ensures .1) in
     let r = c .before .before .before .answer2 .given .0 .0 in
-    let w = wrote-more {k = 3452} (c .put-refused .ensures) (omega arith) in
+    let w = wrote-more {k = 4540} (c .put-refused .ensures) (omega arith) in
     let e = sym (c .before .before .before .answer2 .given .1) ∙ c .before .before .before .before .before .layout-with .ensures .0 in
     (listing-length (now (c .before .before .before .before .before .before .before .before .before .before .args .d)) (now (c .before .before .before .before .before .before .before .before .before .before .args .out)) (Refused r) e room w, listing-short (now (c .before .before .before .before .before .before .before .before .before .before .args .d)) (now (c .before .before .before .before .before .before .before .before .before .before .args .out)) (Refused r) e room w, listing-bytes (now (c .before .before .before .before .before .before .before .before .before .before .args .d)) (now (c .before .before .before .before .before .before .before .before .before .before .args .out)) (Refused r) e room w)
 

@@ -15,7 +15,7 @@ placement-of-requires : tie.Need-placement-of-requires
 placement-of-requires c κs = search needs
 
 returns : tie.Need-returns
-returns c = step-is (now (c .before .before .before .before .before .before .before .args .d)) (c .before .before .before .before .before .before .before .args .used) (c .before .before .before .before .before .before .before .args .i) _ _ (ap (λ (s : Step). s .placement) (c .before .before .before .place-argument .ensures)) (c .placement-of .ensures) (ap (λ (s : Step). s .used) (c .before .before .before .place-argument .ensures))
+returns c = step-is (now (c .before .before .before .before .before .before .before .args .d)) (c .before .before .before .before .before .before .before .args .before) (c .before .before .before .before .before .before .before .args .i) _ _ (ap (λ (s : Step). s .placement) (c .before .before .before .place-argument .ensures)) (c .placement-of .ensures) (ap (λ (s : Step). s .after) (c .before .before .before .place-argument .ensures))
 
 pub place-flat-spec : {M : Type 1} → statement M
 place-flat-spec = tie.close (tie.spec place-argument-requires placement-of-requires returns)

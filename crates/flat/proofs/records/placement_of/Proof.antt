@@ -10,7 +10,11 @@ slot-of-requires c κs = search needs
 
 returns : tie.Need-returns
 unfolding placementOf
-returns c = rw (c .before .slot-of .ensures)
+returns c = rw (c .if1 .taken, c .before .before .slot-of .ensures)
+
+returns-2 : tie.Need-returns-2
+unfolding placementOf
+returns-2 c = rw (c .if1 .left, c .before .before .slot-of .ensures)
 
 pub placement-of-spec : {M : Type 1} → statement M
-placement-of-spec = tie.close (tie.spec slot-of-requires returns)
+placement-of-spec = tie.close (tie.spec slot-of-requires returns returns-2)

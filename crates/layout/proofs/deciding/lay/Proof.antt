@@ -6,7 +6,8 @@ use native.Mathlib.Omega.{arith}
 use borrow.Author.Needs.{needs}
 use denote.Ref.{now}
 use Rattle.layout.specs.Arguments.{usedAt}
-use Rattle.layout.proofs.Layouts.{valuesAt, named-alike, unnamed-alike, asks-first, laid-used, asks-rest, whole-used, whole-values, whole-small, layout-is}
+use Rattle.layout.specs.Arguments.{valueStart}
+use Rattle.layout.proofs.Layouts.{named-alike, unnamed-alike, asks-first, laid-used, asks-rest, whole-used, whole-values, whole-small, layout-is}
 use Rattle.uses.proofs.Uses.{accepted-typed}
 use Rattle.layout.proofs.deciding.lay.Statement.{statement}
 use Rattle.layout.proofs.deciding.lay.Tie as tie
@@ -50,7 +51,7 @@ returns : tie.Need-returns
 returns c =
     let order : c .before .before .before .before .before .before .before .before .before .before .before .before .byte-at .result ≤ c .before .before .before .before .before .before .before .before .before .before .before .byte-at2 .result = omega (arith, c .before .before .before .before .before .before .before .before .before .before .before .before .byte-at .ensures .0, c .before .before .before .before .before .before .before .before .before .before .before .byte-at2 .ensures .0, accepted-typed (now (c .before .before .before .before .before .before .before .before .before .before .before .before .before .before .args .d)) (c .before .before .before .before .before .before .before .before .before .before .before .before .before .before .pre .0) .named) in
     let used = whole-used (now (c .before .before .before .before .before .before .before .before .before .before .before .before .before .before .args .d)) (c .before .before .before .before .before .before .before .before .before .before .hidden-of .result) (c .before .before .before .before .before .before .before .before .before .fresh .result) (c .before .before .before .before .before .before .before .before .before .before .hidden-of .ensures) (c .before .before .before .before .before .before .before .before .before .fresh .ensures) (c .before .before .before .before .before .before .before .before .lay-more .result) (c .before .before .before .before .before .before .lay-more2 .result) (c .before .before .before .before .before .before .before .before .before .before .before .before .byte-at .result) (c .before .before .before .before .before .before .before .before .before .before .before .byte-at2 .result) order (c .before .before .before .before .before .before .before .before .lay-more .ensures) (c .before .before .before .before .before .before .lay-more2 .ensures) ∙ ap (usedAt (now (c .before .before .before .before .before .before .before .before .before .before .before .before .before .before .args .d))) (c .before .before .before .before .before .before .before .before .before .before .before .byte-at2 .ensures .0) in
-    let values = whole-values (now (c .before .before .before .before .before .before .before .before .before .before .before .before .before .before .args .d)) (c .before .before .before .before .before .before .before .before .before .before .hidden-of .result) (c .before .before .before .before .before .before .before .before .before .fresh .result) (c .before .before .before .before .before .before .before .before .before .before .hidden-of .ensures) (c .before .before .before .before .before .before .before .before .before .fresh .ensures) (c .before .before .before .before .before .before .before .before .lay-more .result) (c .before .before .before .before .before .before .lay-more2 .result) (c .before .before .before .before .before .before .before .before .before .before .before .before .byte-at .result) (c .before .before .before .before .before .before .before .before .before .before .before .byte-at2 .result) order (c .before .before .before .before .before .before .before .before .lay-more .ensures) (c .before .before .before .before .before .before .lay-more2 .ensures) ∙ ap (valuesAt (now (c .before .before .before .before .before .before .before .before .before .before .before .before .before .before .args .d))) (c .before .before .before .before .before .before .before .before .before .before .before .byte-at2 .ensures .0) in
+    let values = whole-values (now (c .before .before .before .before .before .before .before .before .before .before .before .before .before .before .args .d)) (c .before .before .before .before .before .before .before .before .before .before .hidden-of .result) (c .before .before .before .before .before .before .before .before .before .fresh .result) (c .before .before .before .before .before .before .before .before .before .before .hidden-of .ensures) (c .before .before .before .before .before .before .before .before .before .fresh .ensures) (c .before .before .before .before .before .before .before .before .lay-more .result) (c .before .before .before .before .before .before .lay-more2 .result) (c .before .before .before .before .before .before .before .before .before .before .before .before .byte-at .result) (c .before .before .before .before .before .before .before .before .before .before .before .byte-at2 .result) order (c .before .before .before .before .before .before .before .before .lay-more .ensures) (c .before .before .before .before .before .before .lay-more2 .ensures) ∙ ap (valueStart (now (c .before .before .before .before .before .before .before .before .before .before .before .before .before .before .args .d))) (c .before .before .before .before .before .before .before .before .before .before .before .byte-at2 .ensures .0) in
     let named = laid-used (now (c .before .before .before .before .before .before .before .before .before .before .before .before .before .before .args .d)) (c .before .before .before .before .before .before .before .before .before .before .hidden-of .result) (c .before .before .before .before .before .before .before .before .before .fresh .result) (c .before .before .before .before .before .before .before .before .before .before .hidden-of .ensures) (c .before .before .before .before .before .before .before .before .before .fresh .ensures) (c .before .before .before .before .before .before .before .before .before .before .before .before .byte-at .result) (c .before .before .before .before .before .before .before .before .lay-more .result) (c .before .before .before .before .before .before .before .before .lay-more .ensures) ∙ ap (usedAt (now (c .before .before .before .before .before .before .before .before .before .before .before .before .before .before .args .d))) (c .before .before .before .before .before .before .before .before .before .before .before .before .byte-at .ensures .0) in
     layout-is (now (c .before .before .before .before .before .before .before .before .before .before .before .before .before .before .args .d)) _ used (c .before .before .before .area-align .ensures) (c .before .before .area-of .ensures) values (c .before .return-of .ensures) (c .returned-size .ensures) (c .before .before .before .before .before .before .before .before .before .before .hidden-of .ensures) named
 

@@ -1,6 +1,6 @@
 -- `lay_out` meets its contract: a walk of its MIR, by hand, with two calls and a loop. `open_list` decides how many records there are, none for a refusal, and has the table that they are made by. The list's
--- borrow is opened once, before the loop, and closed once, after it. A turn calls `place_by`: its record is stored into the row, and what is used after it is the next turn's.
---     At i         the loop's invariant: the row is filled below i, and the local `used` holds what is used before record i.        Upto, Nearer     its variant: i with i ≤ n, ordered by what is left
+-- borrow is opened once, before the loop, and closed once, after it. A turn calls `place_by`: its record is stored into the row, and what is laid out after it is the next turn's.
+--     At i         the loop's invariant: the row is filled below i, and the local `before` holds what is laid out before record i.        Upto, Nearer     its variant: i with i ≤ n, ordered by what is left
 --     turn-when    a turn, by how its test comes out: it fills one more, or it leaves the loop and the rest of the body runs
 -- All that the proof knows of the callees is that they meet their contracts, and of the definitions their laws.
 -- Assumes nothing.
@@ -55,13 +55,13 @@ use denote.Triple.Table.{entered, cited}
 use denote.Triple.Walked.{says, Stays, stay-slice, stay-none-slice, walkOf, AllGo, goes-slice, goes-none-slice, Walks, ends-at, walked, walk-meets}
 use denote.Exit.{yes}
 use Rattle.classify.specs.Table.{Tabled}
-use Rattle.layout.specs.Asks.{AskArgument}
+use Rattle.layout.specs.Asks.{AskRecord}
 use Rattle.layout.specs.Verdict.{verdict}
 use Rattle.layout.specs.Placements.{placementAt, stepAt}
-use Rattle.layout.specs.Lists.{listCount, listUsed, openedOf, filled}
-use Rattle.layout.proofs.Lists.{opened-answer, opened-count, opened-used, turn-accepted, turn-asks, turn-record, turn-used}
+use Rattle.layout.specs.Lists.{listCount, listLaying, openedOf, filled}
+use Rattle.layout.proofs.Lists.{opened-answer, opened-count, opened-before, turn-accepted, turn-asks, turn-record, turn-after}
 use Rattle.types.proofs.Table.{filled-none, filled-next, length-filled}
-use Rattle.places.specs.declared.Used.{Used}
+use Rattle.layout.specs.declared.placements.Laying.{Laying}
 use Rattle.places.specs.declared.Place.the-variants.{Stack}
 use Rattle.layout.specs.declared.placements.Placement.{Placement}
 use Rattle.layout.specs.declared.LayoutAnswer.{LayoutAnswer}
@@ -69,8 +69,8 @@ use Rattle.layout.specs.declared.lent_list.Opened.{Opened}
 use Rattle.layout.specs.declared.placements.Step.{Step}
 use Rattle.layout.proofs.placements.Placement as T
 use Rattle.layout.proofs.placements.Placement.Laws as T′
-use Rattle.places.proofs.Used as S
-use Rattle.places.proofs.Used.Laws as S′
+use Rattle.layout.proofs.placements.Laying as S
+use Rattle.layout.proofs.placements.Laying.Laws as S′
 use Rattle.layout.proofs.LayoutAnswer as E
 use Rattle.layout.proofs.LayoutAnswer.Laws as E′
 use Rattle.layout.proofs.lent_list.Opened as B
@@ -94,11 +94,11 @@ use Rattle.layout.proofs.lent_list.lay_out.Code.Mir as mir
 abbrev stayed : Stays (f.ended .signature .params) (f.ended .kept)
 stayed = (stay-none-slice (0 ∷ []) tt (plain (λ _. u8)) yes, (stay-slice (1 ∷ []) tt (plain (λ _. T.the-row)), tt))
 
--- the machine values of a record, of what is used, of a decision and of an answer
+-- the machine values of a record, of what is laid out, of a decision and of an answer
 abbrev mach : Placement → List Val
 mach = LL.vals T.the-type T′.the-laws
 
-abbrev machS : Used → List Val
+abbrev machS : Laying → List Val
 machS = LL.vals S.the-type S′.the-laws
 
 abbrev machB : Opened → List Val
@@ -109,7 +109,7 @@ machE = EL.vals E.the-type E′.the-laws
 
 -- what `getD` gives past the end
 abbrev none : Placement
-none = record { ty = 0; size = record { 0 = 0 }; align = record { 0 = 0 }; place = Stack (record { 0 = 0 }) }
+none = record { ty = 0; size = record { 0 = 0 }; align = record { 0 = 0 }; place = Stack (record { 0 = 0 }); at = record { 0 = 0 }; named = false }
 
 -- the types of the locals `list` and `d`
 abbrev listTy : Ty
@@ -131,15 +131,15 @@ module _ {M : Type 1} (𝓤 : URA M) (H : Heap 𝓤) (A : Atoms 𝓤) (W : Given
   abbrev x : List Placement → RefT (List Placement)
   x l = record { ptr = (b, o); name = γ; now = l }
 
-  -- the decision, how many records there are, and what is used before record i
+  -- the decision, how many records there are, and what is laid out before record i
   abbrev dec : Opened
   dec = openedOf (z .now) (length ys)
 
   abbrev n : ℕ
   n = dec .count
 
-  abbrev st : ℕ → Used
-  st i = listUsed (z .now) (length ys) i
+  abbrev st : ℕ → Laying
+  st i = listLaying (z .now) (length ys) i
 
   -- the list with i records filled
   abbrev at : ℕ → List Placement
@@ -216,7 +216,7 @@ module _ {M : Type 1} (𝓤 : URA M) (H : Heap 𝓤) (A : Atoms 𝓤) (W : Given
   abbrev handed-one : ℕ → Fml
   handed-one i = owns (ShrSlice (named 0) κ₁ u8 ∷ S.the-row ∷ usize ∷ B.the-row ∷ []) (z, (st i, (i, (dec, tt)))) (passed-one i)
 
-  asked-one : (i : ℕ) → AskArgument (z .now) i (st i) × Tabled (z .now) (dec .table) → ent 𝓤 (⋆ 𝓤 H A (tok ∷ ‵ (handed-one i) ∷ [])) (One 𝓤 H A mem run .pre (to-one i))
+  asked-one : (i : ℕ) → AskRecord (z .now) i (st i) × Tabled (z .now) (dec .table) → ent 𝓤 (⋆ 𝓤 H A (tok ∷ ‵ (handed-one i) ∷ [])) (One 𝓤 H A mem run .pre (to-one i))
   asked-one i asks = qed W (tok ∷ ‵ (handed-one i) ∷ []) ∵ says ! {P = onEntry 𝓤 H A one.signature (κ₁, tt) (q₁, tt) (z, (st i, (i, (dec, tt)))) (passed-one i)} asks $ frame ! $ done !
 
   abbrev made : ℕ → Step
@@ -259,7 +259,7 @@ module _ {M : Type 1} (𝓤 : URA M) (H : Heap 𝓤) (A : Atoms 𝓤) (W : Given
     turn-when within known goodB i true e =
         let less : i .0 < n = ltb-true (i .0) n e in
         let inside : i .0 < length (at (i .0)) = omega (arith, at-length (i .0)) in
-        let scaled : i .0 * 64 < 2 ^ 64 = omega (arith, room .1) in
+        let scaled : i .0 * 80 < 2 ^ 64 = omega (arith, room .1) in
         let fits : i .0 < 2 ^ 64 = omega (arith, room .0) in
         let more : i .0 + 1 < 2 ^ 64 = omega (arith, room .0) in
         assigns ! (bin ! (load ! (from ! (stop !)) (look ! 17 refl)) (load ! (from ! (stop !)) (look ! 21 refl)) tt) (from ! (stop !)) (init ! 11 refl (tt, tt)) $
@@ -274,24 +274,24 @@ module _ {M : Type 1} (𝓤 : URA M) (H : Heap 𝓤) (A : Atoms 𝓤) (W : Given
         split ! $ rewrite ! 1 (λ (h : Step). ‵ (U.the-row .own h (w ∷ []))) is-r refl $
         move ! (1 ∷ []) $ peeks ! U.the-row (Is U.the-row) (shows 𝓤 H A U.the-row) (made (i .0)) (w ∷ []) (λ is.
         let good : Is T.the-row (made (i .0) .placement) (mach (made (i .0) .placement)) = LL.owed U.the-type U′.the-laws (made (i .0)) (w ∷ []) is .0 in
-        let goodS : Is S.the-row (made (i .0) .used) (machS (made (i .0) .used)) = LL.owed U.the-type U′.the-laws (made (i .0)) (w ∷ []) is .1 .0 in
+        let goodS : Is S.the-row (made (i .0) .after) (machS (made (i .0) .after)) = LL.owed U.the-type U′.the-laws (made (i .0)) (w ∷ []) is .1 .0 in
         land ! (from ! (stop !)) (init ! 15 refl (LL.lawful U.the-type U′.the-laws 𝓤 H A W .typed (made (i .0)) _ is .0)) $
         rewrite ! 15 (λ (u : Val). ‵ (fat fullShare U′.mir l₇ 0 u)) (ap only (LL.tells U.the-type U′.the-laws (made (i .0)) _ is)) refl $
         -- [the step's; the token; d's; the row; the open borrow; obs; auth; _11; …; _10; …; _9; …; _8; …; _7; …; _6; …; _5; …; _4; …; _3; …; _2; …; _1; …; room for _0; …]
         assigns ! (bin ! (load ! (from ! (stop !)) (look ! 17 refl)) (lit ! tt) (record { fits = scaled })) (from ! (stop !)) (init ! 9 refl (tt, record { fits = scaled })) $
         assigns ! (bin ! (load ! (from ! (fld ! refl (stop !))) (look-in ! 25 (sub ! 0 refl (whole !)))) (load ! (from ! (stop !)) (look ! 9 refl)) tt) (from ! (stop !)) (init ! 7 refl (tt, tt)) $
-        rewrite ! 7 (λ (m : ℕ). ‵ (fat fullShare tyPtr l₁₁ 0 (vptr b m))) (sym (place-is 64 o (i .0))) refl $
+        rewrite ! 7 (λ (m : ℕ). ‵ (fat fullShare tyPtr l₁₁ 0 (vptr b m))) (sym (place-is 80 o (i .0))) refl $
         move ! (3 ∷ []) $ elem-out ! T.the-row (Is T.the-row) (shows 𝓤 H A T.the-row) mach (LL.tells T.the-type T′.the-laws) fullShare (at (i .0)) (i .0) none b o inside (λ _.
         assigns ! (of-opd ! (load ! (from ! (fld ! refl (stop !))) (look-in ! 17 (sub ! 0 refl (whole !))))) (from ! (hop ! (look ! 9 refl) (stop !))) (store-raw ! 0 refl (LL.lawful T.the-type T′.the-laws 𝓤 H A W .typed (made (i .0) .placement) _ good .0)) $
         move ! (1 ∷ []) $ drop ! $ owned ! T.the-row (Is T.the-row) (LL.makes T.the-type T′.the-plain 𝓤 H A) (made (i .0) .placement) (mach (made (i .0) .placement)) good $ move ! (1 ∷ 0 ∷ []) $
         elem-put ! T.the-row fullShare (at (i .0)) (i .0) (made (i .0) .placement) (mach (made (i .0) .placement)) b o inside $
         -- [the row; the step's; the token; d's; the open borrow; obs; auth; _11; …]
-        assigns ! (of-opd ! (load ! (from ! (fld ! refl (stop !))) (look-in ! 15 (sub ! 1 refl (whole !))))) (from ! (stop !)) (store ! 19 refl (LL.lawful S.the-type S′.the-laws 𝓤 H A W .typed (made (i .0) .used) _ goodS .0)) $
+        assigns ! (of-opd ! (load ! (from ! (fld ! refl (stop !))) (look-in ! 15 (sub ! 1 refl (whole !))))) (from ! (stop !)) (store ! 19 refl (LL.lawful S.the-type S′.the-laws 𝓤 H A W .typed (made (i .0) .after) _ goodS .0)) $
         assigns-last ! (bin ! (load ! (from ! (stop !)) (look ! 17 refl)) (lit ! tt) (record { fits = more })) (from ! (stop !)) (store ! 17 refl (tt, record { fits = more })) $
         forget ! 7 refl $ forget ! 9 refl $ forget ! 11 refl $ forget ! 15 refl $
         rewrite ! 0 (λ (l : List Placement). ‵ (row T.the-row fullShare l b o)) (at-next (i .0) less) refl $
-        rewrite ! 19 (λ (t : Used). ‵ (fat fullShare S′.mir l₅ 0 (only (machS t)))) (turn-used (z .now) (length ys) (i .0) (counted (i .0) less)) refl $
-        owned ! S.the-row (Is S.the-row) (LL.makes S.the-type S′.the-plain 𝓤 H A) (made (i .0) .used) (machS (made (i .0) .used)) goodS $ rewrite ! 0 (λ (t : Used). ‵ (S.the-row .own t (machS t))) (turn-used (z .now) (length ys) (i .0) (counted (i .0) less)) refl $
+        rewrite ! 19 (λ (t : Laying). ‵ (fat fullShare S′.mir l₅ 0 (only (machS t)))) (turn-after (z .now) (length ys) (i .0) (counted (i .0) less)) refl $
+        owned ! S.the-row (Is S.the-row) (LL.makes S.the-type S′.the-plain 𝓤 H A) (made (i .0) .after) (machS (made (i .0) .after)) goodS $ rewrite ! 0 (λ (t : Laying). ‵ (S.the-row .own t (machS t))) (turn-after (z .now) (length ys) (i .0) (counted (i .0) less)) refl $
         keep ! (1 ∷ 5 ∷ 6 ∷ 7 ∷ 3 ∷ 4 ∷ 0 ∷ 8 ∷ 9 ∷ 10 ∷ 11 ∷ 12 ∷ 13 ∷ 14 ∷ 15 ∷ 16 ∷ 17 ∷ 18 ∷ 19 ∷ 20 ∷ 21 ∷ 22 ∷ 23 ∷ 24 ∷ 25 ∷ 26 ∷ 27 ∷ 28 ∷ 29 ∷ 30 ∷ 31 ∷ []) $
         again ! Nearer At i (i .0 + 1, add-one-le less) (add-one-dec n (i .0) less))))))
     turn-when within known goodB i false e =
@@ -314,14 +314,14 @@ module _ {M : Type 1} (𝓤 : URA M) (H : Heap 𝓤) (A : Atoms 𝓤) (W : Given
     Begun-at = tok ∷ ‵ OwnD ∷ ‵ (row T.the-row fullShare ys b o) ∷ ‵ (fobor κ q (Held T.the-row (length ys) b o γ)) ∷ ‵ (fobs γ (codedHoleys T.the-row .code (heres T.the-row ys))) ∷ ‵ (fauth γ (codedHoleys T.the-row .code (heres T.the-row ys)))
         ∷ ‵ (froom tyPtr l₁₁ 0) ∷ ‵ (fdies tyPtr l₁₁) ∷ ‵ (froom (tyInt w64) l₁₀ 0) ∷ ‵ (fdies (tyInt w64) l₁₀) ∷ ‵ (froom tyBool l₉ 0) ∷ ‵ (fdies tyBool l₉) ∷ ‵ (fat fullShare (tyInt w64) l₈ 0 (vint w64 (length ys))) ∷ ‵ (fdies (tyInt w64) l₈) ∷ ‵ (froom U′.mir l₇ 0) ∷ ‵ (fdies U′.mir l₇) ∷ ‵ (froom (tyInt w64) l₆ 0) ∷ ‵ (fdies (tyInt w64) l₆) ∷ ‵ (froom S′.mir l₅ 0) ∷ ‵ (fdies S′.mir l₅) ∷ ‵ (froom (tyInt w64) l₄ 0) ∷ ‵ (fdies (tyInt w64) l₄) ∷ ‵ (fat fullShare B′.mir l₃ 0 (only (machB dec))) ∷ ‵ (fdies B′.mir l₃) ∷ ‵ (fat fullShare listTy l₂ 0 s) ∷ ‵ (fdies listTy l₂) ∷ ‵ (fat fullShare bytesTy l₁ 0 vz) ∷ ‵ (fdies bytesTy l₁) ∷ ‵ (froom E′.mir l₀ 0) ∷ ‵ (fdies E′.mir l₀) ∷ []
 
-    begun : n ≤ length ys → (verdict (z .now) ≡ 0 → Tabled (z .now) (dec .table)) → Is B.the-row dec (machB dec) → Is S.the-row (dec .used) (machS (dec .used)) → n < 2 ^ 64 → Sq W Begun-at (runs C Λ En mir.t-3 (atRet En Post))
+    begun : n ≤ length ys → (verdict (z .now) ≡ 0 → Tabled (z .now) (dec .table)) → Is B.the-row dec (machB dec) → Is S.the-row (dec .before) (machS (dec .before)) → n < 2 ^ 64 → Sq W Begun-at (runs C Λ En mir.t-3 (atRet En Post))
     begun within known goodB goodS fits =
         assigns ! (of-opd ! (load ! (from ! (fld ! refl (stop !))) (look-in ! 22 (sub ! 1 refl (whole !))))) (from ! (stop !)) (init ! 20 refl (tt, record { fits = fits })) $
-        assigns ! (of-opd ! (load ! (from ! (fld ! refl (stop !))) (look-in ! 22 (sub ! 2 refl (whole !))))) (from ! (stop !)) (init ! 18 refl (LL.lawful S.the-type S′.the-laws 𝓤 H A W .typed (dec .used) _ goodS .0)) $
+        assigns ! (of-opd ! (load ! (from ! (fld ! refl (stop !))) (look-in ! 22 (sub ! 2 refl (whole !))))) (from ! (stop !)) (init ! 18 refl (LL.lawful S.the-type S′.the-laws 𝓤 H A W .typed (dec .before) _ goodS .0)) $
         assigns ! (of-opd ! (lit ! tt)) (from ! (stop !)) (init ! 16 refl (tt, record { fits = lit< tt })) $ forget ! 12 refl $
         rewrite ! 2 (λ (l : List Placement). ‵ (row T.the-row fullShare l b o)) (filled-none (placementAt (z .now)) ys) refl $
-        rewrite ! 18 (λ (t : Used). ‵ (fat fullShare S′.mir l₅ 0 (only (machS t)))) (opened-used (z .now) (length ys)) refl $
-        owned ! S.the-row (Is S.the-row) (LL.makes S.the-type S′.the-plain 𝓤 H A) (dec .used) (machS (dec .used)) goodS $ rewrite ! 0 (λ (t : Used). ‵ (S.the-row .own t (machS t))) (opened-used (z .now) (length ys)) refl $
+        rewrite ! 18 (λ (t : Laying). ‵ (fat fullShare S′.mir l₅ 0 (only (machS t)))) (opened-before (z .now) (length ys)) refl $
+        owned ! S.the-row (Is S.the-row) (LL.makes S.the-type S′.the-plain 𝓤 H A) (dec .before) (machS (dec .before)) goodS $ rewrite ! 0 (λ (t : Laying). ‵ (S.the-row .own t (machS t))) (opened-before (z .now) (length ys)) refl $
         keep ! (3 ∷ 4 ∷ 5 ∷ 6 ∷ 1 ∷ 2 ∷ 0 ∷ 7 ∷ 8 ∷ 9 ∷ 10 ∷ 11 ∷ 12 ∷ 13 ∷ 14 ∷ 15 ∷ 16 ∷ 17 ∷ 18 ∷ 19 ∷ 20 ∷ 21 ∷ 22 ∷ 23 ∷ 24 ∷ 25 ∷ 26 ∷ 27 ∷ 28 ∷ 29 ∷ 30 ∷ []) $ looped within known goodB
 
   -- the MIR up to the loop: the borrow is opened once, before it

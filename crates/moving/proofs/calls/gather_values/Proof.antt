@@ -33,11 +33,11 @@ refusal-of-requires c κs = search needs
 returns-2 : tie.Need-returns-2
 returns-2 c = gather-wrong-length (c .before .before .before .before .before .before .before .before .before .before .before .before .before .args .d .now) (c .before .before .before .before .before .before .before .before .before .before .before .before .before .args .registers .now) (c .before .before .before .before .before .before .before .before .before .before .before .before .before .args .upper .now) (c .before .before .before .before .before .before .before .before .before .before .before .before .before .args .stack .now) (c .before .before .before .before .before .before .before .before .before .before .before .before .before .args .values .now) (c .before .before .before .before .answer .given .0 .0) (sym (c .before .before .before .before .before .before .layout-with .ensures .0) ∙ c .before .before .before .before .answer .given .1) _ (c .refusal-of .ensures) (sym (c .before .before .wrong-length .ensures) ∙ c .before .if1 .taken)
 
-fresh-requires : tie.Need-fresh-requires
-fresh-requires c κs = search needs
+laying-fresh-requires : tie.Need-laying-fresh-requires
+laying-fresh-requires c κs = search needs
 
 gather-all-requires : tie.Need-gather-all-requires
-gather-all-requires c κs = let h = gather-lengths (c .before .before .before .before .before .before .before .before .before .before .before .before .before .before .before .args .d .now) (c .before .before .before .before .before .before .before .before .before .before .before .before .before .before .before .args .registers .now) (c .before .before .before .before .before .before .before .before .before .before .before .before .before .before .before .args .upper .now) (c .before .before .before .before .before .before .before .before .before .before .before .before .before .before .before .args .stack .now) (c .before .before .before .before .before .before .before .before .before .before .before .before .before .before .before .args .values .now) (c .before .before .before .before .before .before .answer .given .0 .0) (sym (c .before .before .before .before .before .before .before .before .layout-with .ensures .0) ∙ c .before .before .before .before .before .before .answer .given .1) (sym (c .before .before .before .before .wrong-length .ensures) ∙ c .before .before .before .if1 .left) in (h, gather-first (c .before .before .before .before .before .before .before .before .before .before .before .before .before .before .before .args .d .now) (c .before .before .before .before .before .before .before .before .before .before .before .before .before .before .before .args .registers .now) (c .before .before .before .before .before .before .before .before .before .before .before .before .before .before .before .args .upper .now) (c .before .before .before .before .before .before .before .before .before .before .before .before .before .before .before .args .stack .now) (c .before .before .before .before .before .before .before .before .before .before .before .before .before .before .before .args .values .now) (c .before .before .before .before .before .before .answer .given .0 .0) (sym (c .before .before .before .before .before .before .before .before .layout-with .ensures .0) ∙ c .before .before .before .before .before .before .answer .given .1) (sym (c .before .before .before .before .wrong-length .ensures) ∙ c .before .before .before .if1 .left) _ _ refl (c .before .before .fresh .ensures), c .before .before .before .before .before .before .before .before .layout-with .ensures .2 (h .accepted))
+gather-all-requires c κs = let h = gather-lengths (c .before .before .before .before .before .before .before .before .before .before .before .before .before .before .before .args .d .now) (c .before .before .before .before .before .before .before .before .before .before .before .before .before .before .before .args .registers .now) (c .before .before .before .before .before .before .before .before .before .before .before .before .before .before .before .args .upper .now) (c .before .before .before .before .before .before .before .before .before .before .before .before .before .before .before .args .stack .now) (c .before .before .before .before .before .before .before .before .before .before .before .before .before .before .before .args .values .now) (c .before .before .before .before .before .before .answer .given .0 .0) (sym (c .before .before .before .before .before .before .before .before .layout-with .ensures .0) ∙ c .before .before .before .before .before .before .answer .given .1) (sym (c .before .before .before .before .wrong-length .ensures) ∙ c .before .before .before .if1 .left) in (h, gather-first (c .before .before .before .before .before .before .before .before .before .before .before .before .before .before .before .args .d .now) (c .before .before .before .before .before .before .before .before .before .before .before .before .before .before .before .args .registers .now) (c .before .before .before .before .before .before .before .before .before .before .before .before .before .before .before .args .upper .now) (c .before .before .before .before .before .before .before .before .before .before .before .before .before .before .before .args .stack .now) (c .before .before .before .before .before .before .before .before .before .before .before .before .before .before .before .args .values .now) (c .before .before .before .before .before .before .answer .given .0 .0) (sym (c .before .before .before .before .before .before .before .before .layout-with .ensures .0) ∙ c .before .before .before .before .before .before .answer .given .1) (sym (c .before .before .before .before .wrong-length .ensures) ∙ c .before .before .before .if1 .left) _ _ refl (c .before .before .laying-fresh .ensures), c .before .before .before .before .before .before .before .before .layout-with .ensures .2 (h .accepted))
 
 same-length : tie.Need-same-length
 same-length c = search needs
@@ -66,7 +66,7 @@ gather-values-spec =
     wrong-length-requires
     refusal-of-requires
     returns-2
-    fresh-requires
+    laying-fresh-requires
     gather-all-requires
     same-length
     returns-3

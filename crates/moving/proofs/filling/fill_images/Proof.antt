@@ -4,18 +4,18 @@ use mathlib.Core.Path.{ap, _∙_}
 use native.Mathlib.Omega.{arith}
 use borrow.Author.Needs.{needs}
 use Rattle.moving.proofs.Blanks.{filled-images}
-use Rattle.places.specs.Places.{fresh}
+use Rattle.layout.specs.Placements.{layingFresh}
 use Rattle.moving.proofs.filling.fill_images.Statement.{statement}
 use Rattle.moving.proofs.filling.fill_images.Tie as tie
 
 blank-images-requires : tie.Need-blank-images-requires
 blank-images-requires c κs = (c .before .before .before .before .before .before .before .before .pre .0 .registers, c .before .before .before .before .before .before .before .before .pre .0 .upper)
 
-fresh-requires : tie.Need-fresh-requires
-fresh-requires c κs = search needs
+laying-fresh-requires : tie.Need-laying-fresh-requires
+laying-fresh-requires c κs = search needs
 
 place-all-requires : tie.Need-place-all-requires
-place-all-requires c κs = (record { accepted = c .before .before .before .before .before .before .before .before .before .before .before .before .before .before .before .before .before .before .before .pre .0 .accepted; values = c .before .before .before .before .before .before .before .before .before .before .before .before .before .before .before .before .before .before .before .pre .0 .values; registers = omega (arith, c .before .before .before .before .before .before .before .before .before .before .before .before .before .before .before .before .before .before .before .pre .0 .registers); upper = omega (arith, c .before .before .before .before .before .before .before .before .before .before .before .before .before .before .before .before .before .before .before .pre .0 .upper); stack = omega (arith, c .before .before .before .before .before .before .before .before .before .before .before .before .before .before .before .before .before .before .before .pre .0 .stack) }, c .before .before .before .fresh .ensures ∙ ap fresh (c .before .before .before .before .before .before .before .before .before .before .before .before .before .before .before .before .before .before .before .pre .1), c .before .before .before .before .before .before .before .before .before .before .before .before .before .before .before .before .before .before .before .pre .2)
+place-all-requires c κs = (record { accepted = c .before .before .before .before .before .before .before .before .before .before .before .before .before .before .before .before .before .before .before .pre .0 .accepted; values = c .before .before .before .before .before .before .before .before .before .before .before .before .before .before .before .before .before .before .before .pre .0 .values; registers = omega (arith, c .before .before .before .before .before .before .before .before .before .before .before .before .before .before .before .before .before .before .before .pre .0 .registers); upper = omega (arith, c .before .before .before .before .before .before .before .before .before .before .before .before .before .before .before .before .before .before .before .pre .0 .upper); stack = omega (arith, c .before .before .before .before .before .before .before .before .before .before .before .before .before .before .before .before .before .before .before .pre .0 .stack) }, c .before .before .before .laying-fresh .ensures ∙ ap layingFresh (c .before .before .before .before .before .before .before .before .before .before .before .before .before .before .before .before .before .before .before .pre .1), c .before .before .before .before .before .before .before .before .before .before .before .before .before .before .before .before .before .before .before .pre .2)
 
 same-length : tie.Need-same-length
 same-length c = search needs
@@ -34,7 +34,7 @@ fill-images-spec =
     tie.close
     (tie.spec
     blank-images-requires
-    fresh-requires
+    laying-fresh-requires
     place-all-requires
     same-length
     same-length-2
