@@ -8,6 +8,8 @@ static uint8_t registers[SHAPES][CB_REGISTER_IMAGE], upper[SHAPES][CB_UPPER_IMAG
 static uint8_t seat[SHAPES][CB_SEAT_LENGTH];
 static cb_station station[SHAPES];
 static cb_walk started[SHAPES];
+static uint8_t unnamed[SHAPES][CB_MAX_ARGUMENTS];
+static size_t unnamed_count[SHAPES], unnamed_length[SHAPES];  /* types, and bytes of their values */
 static uint8_t returned[SHAPES][CB_RETURN_IMAGE], returned_upper[SHAPES][CB_RETURN_UPPER];
 
 static void place(int which)
@@ -31,7 +33,14 @@ static int prepare(int which)
 
 static int prepare_walk(int which)
 {
-    return prepare(which) && shapes[which].named < shapes[which].arguments;
+    prepare(which);
+    unnamed_count[which] = unnamed_length[which] = 0;
+    for (int i = shapes[which].named; i < shapes[which].arguments; i++) {
+        uint8_t type = type_of(which, i);
+        unnamed[which][unnamed_count[which]++] = type;
+        unnamed_length[which] += (size_t)shapes[which].sizes[type];
+    }
+    return unnamed_count[which] > 0;
 }
 
 static void check(int which)
@@ -73,6 +82,14 @@ static void walk_all(int which)
     }
 }
 
+static void finish(int which)
+{
+    cb_walk walk;
+    cb_open_walk(&station[which], seat[which], CB_SEAT_LENGTH, &walk);
+    cb_finish_walk(&station[which], seat[which], CB_SEAT_LENGTH, &walk, registers[which], CB_REGISTER_IMAGE, stack[which], layout[which].area,
+                   unnamed[which], unnamed_count[which], out, unnamed_length[which]);
+}
+
 static void first_step(int which)
 {
     cb_walk walk = started[which];
@@ -106,6 +123,7 @@ const operation bridge_operations[] = {
     { "cb_place_values", prepare, place },
     { "cb_gather_values", prepare, gather },
     { "cb_open_walk and every step", prepare_walk, walk_all },
+    { "cb_open_walk and cb_finish_walk", prepare_walk, finish },
     { "the first cb_step", prepare_walk, first_step },
     { "the first cb_show", prepare_walk, show },
     { "cb_put_returned", prepare, put },

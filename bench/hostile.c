@@ -224,7 +224,7 @@ static void class_tower(void)
 
 static cb_placement list[CB_MAX_ARGUMENTS];
 static uint8_t values[CB_MAX_ARGUMENTS * CB_MAX_TYPE], registers[CB_REGISTER_IMAGE], upper[CB_UPPER_IMAGE], stack[CB_MAX_AREA];
-static uint8_t seat[CB_SEAT_LENGTH], out[CB_MAX_TYPE];
+static uint8_t seat[CB_SEAT_LENGTH], out[CB_MAX_TYPE], rest[CB_MAX_ARGUMENTS * CB_MAX_TYPE];
 static cb_station station;
 static cb_walk walk;
 
@@ -271,6 +271,16 @@ static void step(int which)
     cb_step(&station, seat, CB_SEAT_LENGTH, &copy, registers, CB_REGISTER_IMAGE, stack, h->layout.area, list[0].type, out, list[0].size);
 }
 
+/* All arguments, which are unnamed: their types stand at the description's end. */
+static void finish(int which)
+{
+    hostile *h = &cases[which];
+    cb_walk copy = walk;
+    size_t arguments = h->bytes[8];
+    cb_finish_walk(&station, seat, CB_SEAT_LENGTH, &copy, registers, CB_REGISTER_IMAGE, stack, h->layout.area, h->bytes + h->length - arguments,
+                   arguments, rest, h->layout.values);
+}
+
 /* The description for itself: what is attached is cleared before it is judged. */
 static void change(int which)
 {
@@ -293,6 +303,7 @@ static void count_case(int which)
     count("cb_lay_out", which, 1, lay_out);
     count("cb_place_values", which, 1, place);
     count("cb_step", which, 1, step);
+    count("cb_finish_walk", which, 1, finish);
     count("cb_change", which, 1, change);
     count("cb_tidy", which, 1, tidy);
 }

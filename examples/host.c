@@ -185,6 +185,29 @@ static int walk(const call *c, const cb_station *station, const uint8_t *seat)
     return 0;
 }
 
+/* The same in one call: the types that the host expects, and one buffer for all unnamed arguments, packed. */
+static int read_all(const call *c, const cb_station *station, const uint8_t *seat)
+{
+    static uint8_t out[sizeof c->values];
+    uint8_t types[CB_MAX_ARGUMENTS];
+    size_t count = 0, length = 0;
+    cb_walk at;
+    if (refused("open", cb_open_walk(station, seat, CB_SEAT_LENGTH, &at))) {
+        return 1;
+    }
+    for (size_t i = at.position; i < c->layout.arguments; i++) {
+        types[count++] = c->arguments[i].type;
+        length += c->arguments[i].size;
+    }
+    if (refused("finish", cb_finish_walk(station, seat, CB_SEAT_LENGTH, &at, c->registers, sizeof c->registers, c->stack, c->layout.area,
+                                         types, count, out, length))) {
+        return 1;
+    }
+    printf("all %zu at once, %zu bytes:", count, length);
+    print_bytes(out, length);
+    return 0;
+}
+
 /* The same with a module that comes and goes: attach, walk, change for its next version, detach. */
 static int visit(const call *c)
 {
@@ -197,7 +220,9 @@ static int visit(const call *c)
         return 1;
     }
     printf("attached: number %lu, %zu bytes\n", (unsigned long)station.number, station.length);
-    walk(c, &station, seat);
+    if (walk(c, &station, seat) == 0) {
+        read_all(c, &station, seat);
+    }
     /* A walk stands half-finished while one module leaves and another comes: it is never read under the new one. */
     int open = !refused("open", cb_open_walk(&station, seat, sizeof seat, &half));
     if (refused("change", cb_change(&station, seat, sizeof seat, c->description, c->length))) {

@@ -127,7 +127,8 @@ enum cb_refusal_number {
     CB_WALK_ASTRAY = 18,
     CB_WALK_AT_END = 19,
     CB_OTHER_TYPE = 20,
-    CB_HIDDEN_TOO_WIDE = 27,     /* 21 to 26 and 28 are no refusals of this library */
+    CB_WRONG_TYPE_COUNT = 24,    /* 21 to 23, 25, 26 and 28 are no refusals of this library */
+    CB_HIDDEN_TOO_WIDE = 27,
     CB_TOO_MANY_MEMBERS = 29
 };
 
@@ -302,7 +303,8 @@ typedef struct cb_station {
     uint8_t reserved[3];
 } cb_station;
 
-/* Where a walk over unnamed arguments stands. It comes from cb_open_walk; after that cb_step alone changes it. */
+/* Where a walk over unnamed arguments stands. It comes from cb_open_walk; after that cb_step and
+   cb_finish_walk alone change it. */
 typedef struct cb_walk {
     size_t position;    /* the next argument */
     size_t general;     /* gp_offset, 0 to 48 */
@@ -429,8 +431,19 @@ cb_refusal cb_step(const cb_station *station, const uint8_t *seat, size_t seat_l
                    const uint8_t *registers, size_t registers_length,
                    const uint8_t *stack, size_t stack_length, uint8_t type, uint8_t *out, size_t out_length);
 
-/* Shows where that argument lies, and moves no walk: a part of the register image or of the stack image, or CB_NOWHERE where it lies
-   in two vector registers, or in a general and a vector one, and for a refusal. Refused as cb_step, but for the out buffer. */
+/* All the rest at once: copies every argument from the walk's position on, packed, into `out`, of exactly the bytes that are left, and
+   moves the walk behind the last. `types` are the type numbers of these arguments, in order. Where it is accepted, walk and bytes are those
+   of one cb_step for each of them; every type and every length is looked at before a byte is written. Refused 11 for seat, station and
+   register image, 13, 1 to 10, 17 and 18 as cb_step, then 24 where there are more or fewer types than arguments left, 20 where any of
+   them is another type, then 11 for stack image and out buffer. It is never refused 19: no types with no argument left are accepted. */
+cb_refusal cb_finish_walk(const cb_station *station, const uint8_t *seat, size_t seat_length, cb_walk *walk,
+                          const uint8_t *registers, size_t registers_length,
+                          const uint8_t *stack, size_t stack_length,
+                          const uint8_t *types, size_t types_length, uint8_t *out, size_t out_length);
+
+/* Shows where the argument that the walk stands before lies, and moves no walk: a part of the register image or of the stack image, or
+   CB_NOWHERE where it lies in two vector registers, or in a general and a vector one, and for a refusal. Refused as cb_step, but for the
+   out buffer. */
 cb_refusal cb_show(const cb_station *station, const uint8_t *seat, size_t seat_length, const cb_walk *walk,
                    const uint8_t *registers, size_t registers_length,
                    const uint8_t *stack, size_t stack_length, uint8_t type, cb_part *part);
@@ -506,7 +519,7 @@ static inline const char *cb_refusal_text(cb_refusal refusal)
         "",
         "",
         "",
-        "",
+        "the types asked are not as many as the arguments that are left",
         "",
         "",
         "the hidden address is 2^32 or more, where a pointer has 4 bytes",

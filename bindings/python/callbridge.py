@@ -19,11 +19,12 @@ installed where the loader looks.
 """
 import ctypes
 import enum
+import itertools
 import os
 import threading
-from typing import List, NamedTuple, Optional, Tuple, Union
+from typing import Iterable, List, NamedTuple, Optional, Tuple, Union
 
-__version__ = '5.0.0'
+__version__ = '5.1.0'
 
 INTERFACE = 5  # CB_VERSION of the header that this module is written for
 MAX_ARGUMENTS = 64
@@ -37,7 +38,7 @@ LISTING_ROOM = 8192
 
 Bytes = Union[bytes, bytearray, memoryview]
 
-# What each refusal means, by number, as the header says it; 21 to 26 are no refusals of this library.
+# What each refusal means, by number, as the header says it; 21 to 23, 25, 26 and 28 are no refusals of this library.
 TEXTS = (
     'accepted',
     'the description has under 11 bytes',
@@ -63,7 +64,7 @@ TEXTS = (
     '',
     '',
     '',
-    '',
+    'the types asked are not as many as the arguments that are left',
     '',
     '',
     'the hidden address is 2^32 or more, where a pointer has 4 bytes',
@@ -73,7 +74,7 @@ TEXTS = (
 
 
 class Refused(Exception):
-    """A call was refused, and changed nothing, but for Station.change: its number, 1 to 20, 27 or 29, the header's text for it, and the type that is wrong.
+    """A call was refused, and changed nothing, but for Station.change: its number, 1 to 20, 24, 27 or 29, the header's text for it, and the type that is wrong.
 
     `type` is a number for 6 and 7, the lowest of a type that breaks that rule, and None for every other refusal.
     """
@@ -170,6 +171,21 @@ _FUNCTIONS = {
     'cb_change': (cb_refusal, _pointer(cb_station), _out, _size, _in, _size),
     'cb_open_walk': (cb_refusal, _pointer(cb_station), _out, _size, _pointer(cb_walk)),
     'cb_step': (cb_refusal, _pointer(cb_station), _out, _size, _pointer(cb_walk), _in, _size, _in, _size, _byte, _out, _size),
+    'cb_finish_walk': (
+        cb_refusal,
+        _pointer(cb_station),
+        _out,
+        _size,
+        _pointer(cb_walk),
+        _in,
+        _size,
+        _in,
+        _size,
+        _in,
+        _size,
+        _out,
+        _size,
+    ),
     'cb_show': (cb_refusal, _pointer(cb_station), _out, _size, _pointer(cb_walk), _in, _size, _in, _size, _byte, _pointer(cb_part)),
 }
 
@@ -605,7 +621,7 @@ class Station:
 
 
 class Walk:
-    """Where a walk over the unnamed arguments stands. It comes from Station.open_walk, and `step` alone moves it on."""
+    """Where a walk over the unnamed arguments stands. It comes from Station.open_walk, and `step` and `finish` alone move it on."""
 
     def __init__(self, station: Station, walk):
         self._owner = station
@@ -644,8 +660,27 @@ class Walk:
             _accepted(_library.cb_step(owner._station, owner._seat, SEAT_LENGTH, self._walk, r, len(r), s, len(s), t, out, length))
         return out.raw[:length]
 
+    def finish(self, registers: Bytes, stack: Bytes, types: Iterable[int]) -> List[bytes]:
+        """The bytes of each argument that is left, of the types with these numbers, as `step` for each of them gives them; moves behind the last.
+
+        Every type is looked at before anything moves. Refused 11, 13 and 17 as step, then 24 for more or fewer types than arguments left, 20 where any is
+        another type; never 19: no types with no argument left give the empty list.
+        """
+        r, s, t = _bytes(registers), _bytes(stack), bytes(_number(one, 8, 'a type') for one in types)
+        owner = self._owner
+        with owner._lock:
+            # More types than any call has are refused before the length is looked at.
+            lengths = [self._length(one) for one in t[:MAX_ARGUMENTS]]
+            length = sum(lengths)
+            out = _room(length)
+            _accepted(
+                _library.cb_finish_walk(owner._station, owner._seat, SEAT_LENGTH, self._walk, r, len(r), s, len(s), t, len(t), out, length)
+            )
+        packed, ends = out.raw, itertools.accumulate(lengths)
+        return [packed[end - one : end] for one, end in zip(lengths, ends)]
+
     def show(self, registers: Bytes, stack: Bytes, type_number: int) -> Optional[Part]:
-        """Where that argument lies, and moves no walk; None where it is in two vector registers, or in a general and a vector one. Refused as step."""
+        """Where the next argument lies, and moves no walk; None where it is in two vector registers, or in a general and a vector one. Refused as step."""
         r, s, t = _bytes(registers), _bytes(stack), _number(type_number, 8, 'the type')
         owner, part = self._owner, cb_part()
         with owner._lock:
@@ -653,7 +688,7 @@ class Walk:
         return Part('registers' if part.image == 2 else 'stack', part.offset, part.length) if part.image else None
 
     def _length(self, type_number: int) -> int:
-        """The size of a type of what is attached; 0 where there is none, which cb_step refuses before it looks at the length."""
+        """The size of a type of what is attached; 0 where there is none, which cb_step and cb_finish_walk refuse before they look at the length."""
         out = cb_extent()
         answer = _library.cb_type_extent(self._owner._seat.raw, self._owner._station.length, type_number, out)
         return 0 if answer.number else out.size

@@ -107,10 +107,12 @@ class Header(Case):
 
     def test_every_call_has_its_function(self):
         beside = {'open_walk': Station, 'attach': Station, 'detach': Station, 'change': Station, 'step': callbridge.Walk, 'show': callbridge.Walk}
+        renamed = {'finish_walk': (callbridge.Walk, 'finish')}
         for name in callbridge._FUNCTIONS:
             plain = name[len('cb_') :]
             if plain != 'new_station':
-                self.assertTrue(callable(getattr(beside.get(plain, callbridge), plain)), name)
+                owner, own = renamed.get(plain, (beside.get(plain, callbridge), plain))
+                self.assertTrue(callable(getattr(owner, own)), name)
 
     def test_version(self):
         self.assertEqual(callbridge.version(), callbridge.INTERFACE)
@@ -448,6 +450,35 @@ class Walks(Case):
         self.assertEqual((station.attached, station.number, station.description), (False, 2, b''))
         self.refused(13, walk.step, *images, 5)
         self.assertRaises(TypeError, station.change, None)
+
+    def test_all_the_rest_at_once(self):
+        placed = callbridge.place_values(MIXED, VALUES)
+        images = placed.registers, placed.stack
+        station = Station()
+        station.attach(MIXED)
+        walk, other = station.open_walk(), station.open_walk()
+        for number, types in ((24, []), (24, [1]), (24, [1, 5, 0]), (24, [9] * 100), (20, [1, 1]), (20, [5, 5]), (20, [255, 255])):
+            self.refused(number, walk.finish, *images, types)
+        self.refused(11, walk.finish, images[0], images[1] + b'x', [1, 5])
+        self.refused(11, walk.finish, images[0][1:], images[1], [])
+        self.assertEqual(walk.position, 3)
+        stepped = [other.step(*images, 1), other.step(*images, 5)]
+        self.assertEqual(walk.finish(*images, (1, 5)), stepped)
+        self.assertEqual(bytes(walk._walk), bytes(other._walk))
+        self.refused(19, walk.step, *images, 5)
+        self.assertEqual(walk.finish(*images, b''), [])
+        self.refused(24, walk.finish, *images, [5])
+        self.refused(11, walk.finish, images[0], b'', [])
+        half = station.open_walk()
+        half.step(*images, 1)
+        self.assertEqual(half.finish(*images, iter([5])), stepped[1:])
+        early = station.open_walk()
+        station.change(MIXED)
+        self.refused(17, early.finish, *images, [1, 5])
+        station.detach()
+        self.refused(13, early.finish, *images, [1, 5])
+        self.assertRaises(ValueError, early.finish, *images, [256])
+        self.assertRaises(TypeError, early.finish, *images, None)
 
     def test_parts(self):
         two = described([DOUBLE, bytes([2, 0, 2, 0]), LONG_DOUBLE, INT], [3, 1, 2], members=bytes([0, 0]), named=1)

@@ -19,7 +19,7 @@
 #include <stdlib.h>
 #include <string.h>
 
-/* The same numbers stand in src/batch.rs. The first fourteen are those of tests/vectors/README.md, "histories", with the same fields. */
+/* The same numbers stand in src/batch.rs. The first fourteen, 16 and 17 are those of tests/vectors/README.md, "histories", with the same fields. */
 enum command {
     RESET = 1,
     SEAT_LENGTH = 2,
@@ -37,6 +37,7 @@ enum command {
     FILL_SEAT = 14,
     HOST_BYTES = 15,     /* u8 attached, u8 for each reserved byte of the station and the walks: what a host may have written there */
     CHANGE = 16,
+    FINISH_WALK = 17,
     INTERFACE_VERSION = 32,
     DESCRIBE = 33,       /* part: the description of the commands that follow */
     CHECK = 34,
@@ -57,7 +58,7 @@ enum command {
 };
 
 /* What is lent. Its number is in its canaries. */
-enum thing { DESCRIPTION, VALUES, REGISTERS, UPPER, STACK, IMAGE, TEXT, RECORD, LIST, OUT, SEAT, STATION, WALK };
+enum thing { DESCRIPTION, VALUES, REGISTERS, UPPER, STACK, IMAGE, TEXT, RECORD, LIST, OUT, ASKED, SEAT, STATION, WALK };
 
 #define SLOTS 4              /* walks of a history: WALK, and the numbers behind it */
 #define THINGS (WALK + SLOTS)
@@ -605,6 +606,17 @@ static void step(void)
     answer_buffer(OUT);
 }
 
+static void finish_walk(void)
+{
+    int thing = walk_slot();
+    lend_part(ASKED);
+    lend_filled(OUT, number(2));
+    told(cb_finish_walk(station(), LENT_SEAT, walk(thing), BUFFER(REGISTERS), BUFFER(STACK), BUFFER(ASKED), BUFFER(OUT)));
+    answer_walked(thing);
+    answer_buffer(ASKED);
+    answer_buffer(OUT);
+}
+
 static void show(void)
 {
     int thing = walk_slot();
@@ -632,6 +644,7 @@ static void play(uint8_t command)
     case CHANGE: change(); break;
     case OPEN_WALK: open_walk(); break;
     case STEP: step(); break;
+    case FINISH_WALK: finish_walk(); break;
     case SHOW:
     case SHOW_NUMBER: show(); break;
     case WALK_BY_HAND: walk_by_hand(); break;

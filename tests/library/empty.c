@@ -34,6 +34,10 @@ typedef struct desk {
     uint8_t out[64];
     size_t out_length;
     uint8_t type;
+    uint8_t types[16];
+    size_t types_length;
+    uint8_t rest[64];
+    size_t rest_length;
     uint8_t registers[CB_REGISTER_IMAGE];
     uint8_t upper[CB_UPPER_IMAGE];
     uint8_t returned_upper[CB_RETURN_UPPER];
@@ -180,6 +184,11 @@ static cb_refusal step(desk *d, unsigned empty)
     return cb_step(&d->station, SEAT, &d->walk, IMAGES, d->type, BUFFER(3, d->out, d->out_length));
 }
 
+static cb_refusal finish_walk(desk *d, unsigned empty)
+{
+    return cb_finish_walk(&d->station, SEAT, &d->walk, IMAGES, BUFFER(3, d->types, d->types_length), BUFFER(4, d->rest, d->rest_length));
+}
+
 static cb_refusal show(desk *d, unsigned empty)
 {
     return cb_show(&d->station, SEAT, &d->walk, IMAGES, d->type, &d->part);
@@ -210,6 +219,7 @@ static const struct call {
     {"cb_change", 2, change},
     {"cb_open_walk", 1, open_walk},
     {"cb_step", 4, step},
+    {"cb_finish_walk", 5, finish_walk},
     {"cb_show", 3, show},
 };
 
@@ -254,10 +264,14 @@ static void prepare(desk *d, const uint8_t *bytes, size_t length)
     d->station = cb_new_station();
     cb_attach(&d->station, d->seat, sizeof d->seat, bytes, length);
     d->type = 0;
-    d->out_length = 0;
+    d->out_length = d->types_length = d->rest_length = 0;
     if (cb_open_walk(&d->station, d->seat, sizeof d->seat, &d->walk).number == CB_ACCEPTED && d->walk.position < d->layout.arguments) {
         d->type = d->list[d->walk.position].type;
         d->out_length = d->list[d->walk.position].size;
+        for (size_t i = d->walk.position; i < d->layout.arguments; i++) {
+            d->types[d->types_length++] = d->list[i].type;
+            d->rest_length += d->list[i].size;
+        }
     }
 }
 

@@ -479,6 +479,8 @@ static void refused_description(void)
 static void attached_by(uint8_t number)
 {
     uint8_t seat[CB_SEAT_LENGTH] = {0}, registers[CB_REGISTER_IMAGE] = {0}, stack[16] = {0}, out[16], before[CB_SEAT_LENGTH];
+    static const uint8_t types[3] = {1, 5, 0};
+    uint8_t rest[24];
     cb_station station = cb_new_station(), kept;
     cb_walk walk, opened;
     LENT(cb_part) part;
@@ -533,7 +535,26 @@ static void attached_by(uint8_t number)
     expect("walk.position", walk.position, 4);
     expect("walk.vector", walk.vector, 80);
     RESERVED(walk);
-    SAME("cb_open_walk, cb_step, cb_show", station, kept);
+    FRESH(opened.reserved);
+    FRESH(rest);
+    told("cb_finish_walk", cb_finish_walk(&station, seat, sizeof seat, &opened, registers, sizeof registers, stack, 16, types, 1, rest, 24),
+         CB_WRONG_TYPE_COUNT, 0);
+    told("cb_finish_walk", cb_finish_walk(&station, seat, sizeof seat, &opened, registers, sizeof registers, stack, 16, types + 1, 2, rest, 24),
+         CB_OTHER_TYPE, 0);
+    all_are("cb_finish_walk, refused: rest", rest, sizeof rest, FILLING);
+    all_are("cb_finish_walk, refused: reserved", opened.reserved, sizeof opened.reserved, FILLING);
+    expect("walk.position", opened.position, 3);
+    answered("cb_finish_walk", cb_finish_walk(&station, seat, sizeof seat, &opened, registers, sizeof registers, stack, 16, types, 2, rest, 24));
+    expect("walk.position", opened.position, 5);
+    expect("walk.general", opened.general, 32);
+    expect("walk.vector", opened.vector, 80);
+    expect("walk.overflow", opened.overflow, 16);
+    expect("walk.number", opened.number, 1);
+    RESERVED(opened);
+    all_are("cb_finish_walk: rest", rest, sizeof rest, 0);
+    answered("cb_finish_walk", cb_finish_walk(&station, seat, sizeof seat, &opened, registers, sizeof registers, stack, 16, types, 0, rest, 0));
+    expect("walk.position", opened.position, 5);
+    SAME("cb_open_walk, cb_step, cb_finish_walk, cb_show", station, kept);
 
     answered("cb_detach", cb_detach(&station, seat, sizeof seat));
     expect("station.attached", station.attached, 0);
@@ -644,6 +665,7 @@ static void told_of_seat(const uint8_t *bad, uint8_t number, uint8_t type)
     answered("cb_open_walk", cb_open_walk(&station, seat, sizeof seat, &walk));
     memcpy(seat, bad, INTS);
     told("cb_step", cb_step(&station, seat, sizeof seat, &walk, registers, sizeof registers, stack, 0, 0, out, 4), number, type);
+    told("cb_finish_walk", cb_finish_walk(&station, seat, sizeof seat, &walk, registers, sizeof registers, stack, 0, NULL, 0, out, 0), number, type);
     told("cb_show", cb_show(&station, seat, sizeof seat, &walk, registers, sizeof registers, stack, 0, 0, &part), number, type);
     told("cb_open_walk", cb_open_walk(&station, seat, sizeof seat, &walk), number, type);
 }

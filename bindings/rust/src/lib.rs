@@ -50,6 +50,10 @@
 //! station.step(&mut walk, &images, 1, &mut level)?;
 //! assert_eq!(f64::from_le_bytes(level), 0.5);
 //!
+//! let mut again = early; // or all the rest at once, by the types that are expected
+//! station.finish(&mut again, &images, &[1], &mut level)?;
+//! assert_eq!(again, walk);
+//!
 //! station.change(&description)?; // one module leaves and another comes
 //! let refusal = station.show(&early, &images, 1).unwrap_err();
 //! assert_eq!(refusal.to_string(), "refused 17: the walk is of another attachment");

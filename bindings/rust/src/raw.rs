@@ -287,6 +287,20 @@ extern "C" {
         out: *mut u8,
         out_length: usize,
     ) -> Refusal;
+    pub fn cb_finish_walk(
+        station: *const Station,
+        seat: *const u8,
+        seat_length: usize,
+        walk: *mut Walk,
+        registers: *const u8,
+        registers_length: usize,
+        stack: *const u8,
+        stack_length: usize,
+        types: *const u8,
+        types_length: usize,
+        out: *mut u8,
+        out_length: usize,
+    ) -> Refusal;
     pub fn cb_show(
         station: *const Station,
         seat: *const u8,

@@ -4,15 +4,15 @@ use crate::raw;
 use std::fmt;
 use std::num::NonZeroU8;
 
-/// The number of a refusal, 1 to 20, 27 or 29, and for 6 and 7 the type that is wrong.
+/// The number of a refusal, 1 to 20, 24, 27 or 29, and for 6 and 7 the type that is wrong.
 #[derive(Clone, Copy, PartialEq, Eq, Hash)]
 pub struct Refusal {
     number: NonZeroU8,
     type_number: u8,
 }
 
-/// In the order of their numbers, empty for 21 to 26 and 28, which are no refusals of this library; the
-/// header has the same.
+/// In the order of their numbers, empty for 21 to 23, 25, 26 and 28, which are no refusals of this
+/// library; the header has the same.
 const TEXTS: [&str; 29] = [
     "the description has under 11 bytes",
     "the description does not begin with KCB",
@@ -37,7 +37,7 @@ const TEXTS: [&str; 29] = [
     "",
     "",
     "",
-    "",
+    "the types asked are not as many as the arguments that are left",
     "",
     "",
     "the hidden address is 2^32 or more, where a pointer has 4 bytes",
@@ -46,7 +46,7 @@ const TEXTS: [&str; 29] = [
 ];
 
 impl Refusal {
-    /// What each refusal means, from number 1 on; 21 to 26 and 28 have none.
+    /// What each refusal means, from number 1 on; 21 to 23, 25, 26 and 28 have none.
     pub const TEXTS: [&'static str; 29] = TEXTS;
 
     pub fn number(self) -> u8 {

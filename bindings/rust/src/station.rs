@@ -16,7 +16,7 @@ pub struct Station {
 }
 
 /// Where a walk over the unnamed arguments stands. It comes from [`Station::open`], and
-/// [`Station::step`] alone moves it on. After a detach or a change it is refused.
+/// [`Station::step`] and [`Station::finish`] alone move it on. After a detach or a change it is refused.
 #[derive(Clone, Copy, Debug, PartialEq, Eq)]
 pub struct Walk(raw::Walk);
 
@@ -109,6 +109,36 @@ impl Station {
                 images.stack.as_ptr(),
                 images.stack.len(),
                 type_number,
+                out.as_mut_ptr(),
+                out.len(),
+            )
+        })
+    }
+
+    /// Copies all arguments that are left, packed, into `out`, and moves the walk behind the last: what
+    /// [`Station::step`] does for each of them. `types` are their type numbers, in order; every one is
+    /// looked at before a byte is written. Refused 11 for a length, 13, 17, 18 as there, 24 for more
+    /// or fewer types than arguments left, 20 where any is another type; 19 never.
+    pub fn finish(
+        &self,
+        walk: &mut Walk,
+        images: &Images,
+        types: &[u8],
+        out: &mut [u8],
+    ) -> Result<(), Refusal> {
+        // Safety: as in `step`.
+        Refusal::of(unsafe {
+            raw::cb_finish_walk(
+                &self.station,
+                self.seat.as_ptr(),
+                self.seat.len(),
+                &mut walk.0,
+                images.registers.as_ptr(),
+                images.registers.len(),
+                images.stack.as_ptr(),
+                images.stack.len(),
+                types.as_ptr(),
+                types.len(),
                 out.as_mut_ptr(),
                 out.len(),
             )

@@ -197,6 +197,42 @@ fn a_walk_ends_when_its_module_leaves() {
 }
 
 #[test]
+fn all_the_rest_is_read_at_once() {
+    let layout = callbridge::layout(MIXED).unwrap();
+    let mut images = Images::new(&layout);
+    callbridge::place(MIXED, 0, &values(), &mut images).unwrap();
+    let mut station = Station::new();
+    station.attach(MIXED).unwrap();
+    let mut walk = station.open().unwrap();
+    let opened = walk;
+    let mut out = [0xEE; 24];
+    for (refusal, types) in
+        [(24, &[][..]), (24, &[1]), (24, &[1, 5, 0]), (20, &[1, 1]), (20, &[0, 5])]
+    {
+        let answer = station.finish(&mut walk, &images, types, &mut out);
+        assert_eq!(answer.map_err(number), Err(refusal));
+    }
+    let answer = station.finish(&mut walk, &images, &[1, 5], &mut out[1..]);
+    assert_eq!(answer.map_err(number), Err(11));
+    assert_eq!((walk, out), (opened, [0xEE; 24]));
+
+    station.finish(&mut walk, &images, &[1, 5], &mut out).unwrap();
+    let (mut stepped, mut first, mut second) = (opened, [0; 8], [0; 16]);
+    station.step(&mut stepped, &images, 1, &mut first).unwrap();
+    station.step(&mut stepped, &images, 5, &mut second).unwrap();
+    assert_eq!((walk, &out[..8], &out[8..]), (stepped, &first[..], &second[..]));
+    assert_eq!(out[..], values()[values().len() - 24..]);
+
+    station.finish(&mut walk, &images, &[], &mut []).unwrap();
+    assert_eq!(walk, stepped);
+    assert_eq!(station.finish(&mut walk, &images, &[], &mut [0]).map_err(number), Err(11));
+    station.change(MIXED).unwrap();
+    assert_eq!(station.finish(&mut walk, &images, &[], &mut []).map_err(number), Err(17));
+    station.detach().unwrap();
+    assert_eq!(station.finish(&mut walk, &images, &[], &mut []).map_err(number), Err(13));
+}
+
+#[test]
 fn modules_change_in_one_call() {
     let layout = callbridge::layout(MIXED).unwrap();
     let mut images = Images::new(&layout);

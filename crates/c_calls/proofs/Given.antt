@@ -16,13 +16,14 @@ use Rattle.walk.specs.declared.Walk.{Walk}
 use Rattle.walk.specs.Orders.{Ask, stepRefusal}
 use Rattle.walk.specs.Steps.{stepWalk, stepOut}
 use Rattle.walk.specs.Show.{shownAnswer}
+use Rattle.finishing.specs.Rest.{AskRest, finishRefusal, finishWalk, finishOut}
 use Rattle.flat.specs.declared.Station.{Station as FlatStation}
 use Rattle.flat.specs.declared.Walk.{Walk as FlatWalk}
 use Rattle.flat.specs.Stations.{stationMeant, flatStation, walkMeant, flatWalk}
 use Rattle.flat.proofs.Kept.{station-means}
 use Rattle.c_calls.specs.Outcome.{gives, refuses, refusalIn, leftIn}
 use Rattle.c_calls.specs.StationCalls.{attachGiven, detachGiven, freedStation, changeGiven}
-use Rattle.c_calls.specs.WalkCalls.{stepGiven}
+use Rattle.c_calls.specs.WalkCalls.{stepGiven, finishGiven}
 
 -- ---- any such call, that answers s and has the number n
 
@@ -143,6 +144,33 @@ module _ (before : FlatStation) (s : Station) (seat : List ℕ) (old : FlatWalk)
       told-meant (number-under (described (stationMeant before) seat) _) t (none-under (described (stationMeant before) seat) _)
       (e ∙ ap flatWalk (rw (meant, stood) at f)) in
       (g .0, (g .1, left-meant))
+
+-- ---- all the rest at once
+
+module _ (before : FlatStation) (s : Station) (seat : List ℕ) (old : FlatWalk) (w : Walk) (a : AskRest) (after : List ℕ) (r : Refusal) (meant : s ≡ stationMeant before) (stood : w ≡ walkMeant old)
+    (told : r ≡ refusalUnder kcb (described s seat) (finishRefusal kcb s seat w a)) (left : after ≡ finishOut kcb s seat w a) where
+  rest-told : r ≡ refusalUnder kcb (described (stationMeant before) seat) (finishRefusal kcb (stationMeant before) seat (walkMeant old) a)
+  rest-told = rw (meant, stood) at told
+
+  rest-left : after ≡ finishOut kcb (stationMeant before) seat (walkMeant old) a
+  rest-left = rw (meant, stood) at left
+
+  pub finish-refused : (r .number ≡ 0 → ⊥)
+      → (r ≡ refusalIn (finishGiven before seat old a)) × ((old ≡ leftIn (finishGiven before seat old a) old) × (after ≡ finishOut kcb (stationMeant before) seat (walkMeant old) a))
+  unfolding finishGiven
+  finish-refused t =
+      let g = given-refused (finishRefusal kcb (stationMeant before) seat (walkMeant old) a) (flatWalk (finishWalk kcb (stationMeant before) seat (walkMeant old) a)) old _ r
+      rest-told (number-under (described (stationMeant before) seat) _) t in
+      (g .0, (g .1, rest-left))
+
+  pub finish-accepted : (x : FlatWalk) (y : Walk) → x ≡ flatWalk y → y ≡ finishWalk kcb s seat w a → r .number ≡ 0
+      → (r ≡ refusalIn (finishGiven before seat old a)) × ((x ≡ leftIn (finishGiven before seat old a) old) × (after ≡ finishOut kcb (stationMeant before) seat (walkMeant old) a))
+  unfolding finishGiven
+  finish-accepted x y e f t =
+      let g = given-accepted (finishRefusal kcb (stationMeant before) seat (walkMeant old) a) (flatWalk (finishWalk kcb (stationMeant before) seat (walkMeant old) a)) old x _ r
+      rest-told (number-under (described (stationMeant before) seat) _) t (none-under (described (stationMeant before) seat) _)
+      (e ∙ ap flatWalk (rw (meant, stood) at f)) in
+      (g .0, (g .1, rest-left))
 
 -- ---- showing, by what the two records mean
 

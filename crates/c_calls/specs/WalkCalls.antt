@@ -1,4 +1,4 @@
--- What the calls of the C interface that open a walk, step it and show an argument give: include/callbridge.h. Assumes nothing: these are definitions.
+-- What the calls of the C interface that open a walk, step it, finish it and show an argument give: include/callbridge.h. Assumes nothing: these are definitions.
 use mathlib.Core.Bool.{cond}
 use mathlib.Core.List.{List}
 use Prim.Native.Nat.{ℕ}
@@ -13,6 +13,7 @@ use Rattle.walk.specs.declared.showing.ShownAnswer.{ShownAnswer}
 use Rattle.walk.specs.declared.showing.ShownAnswer.the-variants.{Registers, Stack, Apart, Refused as NotShown}
 use Rattle.walk.specs.Orders.{Ask, stepRefusal}
 use Rattle.walk.specs.Steps.{stepWalk}
+use Rattle.finishing.specs.Rest.{AskRest, finishRefusal, finishWalk}
 use Rattle.flat.specs.declared.Part.{Part}
 use Rattle.flat.specs.declared.Station.{Station}
 use Rattle.flat.specs.declared.Walk.{Walk}
@@ -30,6 +31,12 @@ unfoldable pub stepGiven : Station → List ℕ → Walk → Ask → Outcome Wal
 stepGiven s seat w a =
     cond (eqb (stepRefusal kcb (stationMeant s) seat (walkMeant w) a) 0) (gives (flatWalk (stepWalk kcb (stationMeant s) seat (walkMeant w) a)))
     (refuses (refusalUnder kcb (described (stationMeant s) seat) (stepRefusal kcb (stationMeant s) seat (walkMeant w) a)))
+
+-- cb_finish_walk: the record at its end
+unfoldable pub finishGiven : Station → List ℕ → Walk → AskRest → Outcome Walk
+finishGiven s seat w a =
+    cond (eqb (finishRefusal kcb (stationMeant s) seat (walkMeant w) a) 0) (gives (flatWalk (finishWalk kcb (stationMeant s) seat (walkMeant w) a)))
+    (refuses (refusalUnder kcb (described (stationMeant s) seat) (finishRefusal kcb (stationMeant s) seat (walkMeant w) a)))
 
 -- cb_show: a part is an answer, "and the empty part for a refusal, for two vector registers and for mixed ones"
 abbrev pub shownPart : ShownAnswer → Part

@@ -16,6 +16,7 @@ pub use tidying_calls::tidy_length;
 pub use type_calls::member_run;
 pub use type_calls::type_classes;
 pub use type_calls::type_extent;
+pub use walk_calls::finish_walk;
 pub use walk_calls::open_walk;
 pub use walk_calls::show;
 pub use walk_calls::step;

@@ -1,4 +1,4 @@
-// cb_open_walk, cb_step and cb_show, by value, and the out buffer at exit (document 01, "Station and walk").
+// cb_open_walk, cb_step, cb_finish_walk and cb_show, by value, and the out buffer at exit (document 01, "Station and walk").
 use crate::GivenPart;
 use crate::GivenWalk;
 use flat::Station;
@@ -11,9 +11,10 @@ ghost use Rattle.station.specs.Paper.{kcb};
 ghost use Rattle.walk.specs.Orders.{asking};
 ghost use Rattle.walk.specs.Steps.{openAnswer, stepOut};
 ghost use Rattle.walk.specs.Show.{shownAnswer};
+ghost use Rattle.finishing.specs.Rest.{askingRest, finishOut};
 ghost use Rattle.flat.specs.Stations.{stationMeant, walkMeant};
 ghost use Rattle.c_calls.specs.Outcome.{refusalIn, leftIn};
-ghost use Rattle.c_calls.specs.WalkCalls.{openGiven, stepGiven, shownPart, shownRefusal};
+ghost use Rattle.c_calls.specs.WalkCalls.{openGiven, stepGiven, finishGiven, shownPart, shownRefusal};
 
 // A walk before the first unnamed argument.
 pub fn open_walk(station: Station, seat: &[u8], before: Walk) -> GivenWalk
@@ -66,6 +67,42 @@ pub fn step(
     GivenWalk {
         walk: flat::flat_walk(after.walk),
         refusal: refusal,
+    }
+}
+
+// (askingRest (now (registers .entry)) (now (stack .entry)) (now (asked .entry)) (now (out .entry)))ll remaining arguments' bytes, packed, and the walk at its end.
+pub fn finish_walk(
+    station: Station,
+    seat: &[u8],
+    before: Walk,
+    registers: &[u8],
+    stack: &[u8],
+    asked: &[u8],
+    out: &mut [u8],
+) -> GivenWalk
+    ensures { λ r. ⌜ (r .refusal ≡ refusalIn (finishGiven station (now (seat .entry)) before (askingRest (now (registers .entry)) (now (stack .entry)) (now (asked .entry)) (now (out .entry)))))
+        × ((r .walk ≡ leftIn (finishGiven station (now (seat .entry)) before (askingRest (now (registers .entry)) (now (stack .entry)) (now (asked .entry)) (now (out .entry)))) before)
+        × (now (out .exit) ≡ finishOut kcb (stationMeant station) (now (seat .entry)) (walkMeant before) (askingRest (now (registers .entry)) (now (stack .entry)) (now (asked .entry)) (now (out .entry))))) ⌝ }
+{
+    let after = finishing::finish_by_value(
+        flat::station_of(station),
+        seat,
+        flat::walk_of(before),
+        registers,
+        stack,
+        asked,
+        out,
+    );
+    let told = after.refusal;
+    if told.number != 0 {
+        return GivenWalk {
+            walk: before,
+            refusal: told,
+        };
+    }
+    GivenWalk {
+        walk: flat::flat_walk(after.walk),
+        refusal: told,
     }
 }
 

@@ -32,6 +32,7 @@ use Rattle.station.specs.Outcome.{leaves}
 use Rattle.station.specs.Attachment.{described, attachRefusal, attachStation, detachRefusal, detachStation, detachSeat, changeRefusal, changeStation}
 use Rattle.station.proofs.Kcb.{kcb-refusal}
 use Rattle.walk.specs.Orders.{offsetsOf, openRefusal, stepRefusal, showRefusal}
+use Rattle.finishing.specs.Rest.{finishRefusal, finishWalk}
 use Rattle.walk.specs.Steps.{openedIf, openWalk, openAnswer, stepWalk}
 use Rattle.walk.specs.declared.showing.ShownAnswer.the-variants.{Registers, Apart}
 use Rattle.places.specs.Shapes.{Shape}
@@ -51,8 +52,8 @@ use Rattle.c_calls.specs.MovingCalls.{placedGiven, gatheredGiven}
 use Rattle.c_calls.specs.ReturningCalls.{putGiven, takenGiven}
 use Rattle.c_calls.specs.StationCalls.{attachGiven, detachGiven, freedStation, changeGiven}
 use Rattle.c_calls.proofs.Given.{freed-means}
-use Rattle.c_calls.specs.WalkCalls.{openGiven, stepGiven, shownPart, shownRefusal}
-use Rattle.callbridge.specs.Interface.{Tells, TellsPart, ExtentTold, ClassesTold, runOf, RunTold, LayoutTold, ListTold, PlacedTold, GatheredTold, PutTold, TakenTold, AttachTold, DetachTold, ChangeTold, OpenTold, StepTold, ShownTold, NeedTold, TidiedTold}
+use Rattle.c_calls.specs.WalkCalls.{openGiven, stepGiven, finishGiven, shownPart, shownRefusal}
+use Rattle.callbridge.specs.Interface.{Tells, TellsPart, ExtentTold, ClassesTold, runOf, RunTold, LayoutTold, ListTold, PlacedTold, GatheredTold, PutTold, TakenTold, AttachTold, DetachTold, ChangeTold, OpenTold, StepTold, FinishTold, ShownTold, NeedTold, TidiedTold}
 
 -- an outcome that is told by a number
 abbrev by-number : {A : Type 0} → List ℕ → ℕ → A → Outcome A
@@ -210,3 +211,10 @@ step-told s seat w a =
     let d = described (stationMeant s) seat in
     let n = stepRefusal kcb (stationMeant s) seat (walkMeant w) a in
     told _ d n _ (ap (λ (r : Refusal). cond (eqb n 0) (gives (flatWalk (stepWalk kcb (stationMeant s) seat (walkMeant w) a))) (refuses r)) (kcb-refusal d n))
+
+pub finish-told : FinishTold
+unfolding finishGiven
+finish-told s seat w a =
+    let d = described (stationMeant s) seat in
+    let n = finishRefusal kcb (stationMeant s) seat (walkMeant w) a in
+    told _ d n _ (ap (λ (r : Refusal). cond (eqb n 0) (gives (flatWalk (finishWalk kcb (stationMeant s) seat (walkMeant w) a))) (refuses r)) (kcb-refusal d n))

@@ -39,6 +39,7 @@ use Rattle.walk.specs.declared.Walk.{Walk as Standing}
 use Rattle.walk.specs.Orders.{Ask, openRefusal, stepRefusal, showRefusal}
 use Rattle.walk.specs.Steps.{openWalk, openAnswer, stepWalk}
 use Rattle.walk.specs.Show.{shownIn, shownAnswer}
+use Rattle.finishing.specs.Rest.{AskRest, finishRefusal, finishWalk}
 use Rattle.flat.specs.declared.Part.{Part}
 use Rattle.flat.specs.declared.Placement.{Placement}
 use Rattle.flat.specs.declared.Layout.{Layout}
@@ -57,7 +58,7 @@ use Rattle.c_calls.specs.TidyingCalls.{tidiedGiven}
 use Rattle.c_calls.specs.MovingCalls.{placedGiven, gatheredGiven}
 use Rattle.c_calls.specs.ReturningCalls.{putGiven, takenGiven}
 use Rattle.c_calls.specs.StationCalls.{attachGiven, detachGiven, freedStation, changeGiven}
-use Rattle.c_calls.specs.WalkCalls.{openGiven, stepGiven, shownPart, shownRefusal}
+use Rattle.c_calls.specs.WalkCalls.{openGiven, stepGiven, finishGiven, shownPart, shownRefusal}
 
 -- a call about the description d answers the number n, with the type that it names; it leaves the new record where n is 0, and where it is not the record that was lent
 pub record Tells {A : Type 0} (o : Outcome A) (d : List ℕ) (n : ℕ) (new : A) : Type 0 where
@@ -141,7 +142,7 @@ ChangeTold = (s : Station) (seat d : List ℕ)
     → Tells (changeGiven s seat d) d (changeRefusal kcb (stationMeant s) seat d) (flatStation (changeStation kcb (stationMeant s) seat d))
     × (freedStation s seat ≡ leaves (detachRefusal (stationMeant s) seat) (flatStation (detachStation (stationMeant s) seat)) s)
 
--- cb_open_walk, cb_step, cb_show
+-- cb_open_walk, cb_step, cb_finish_walk, cb_show
 abbrev pub OpenTold : Type 0
 OpenTold = (s : Attached) (seat : List ℕ) → Tells (openGiven (openAnswer kcb s seat)) (described s seat) (openRefusal kcb s seat) (flatWalk (openWalk kcb s seat))
 
@@ -149,6 +150,11 @@ abbrev pub StepTold : Type 0
 StepTold = (s : Station) (seat : List ℕ) (w : Walk) (a : Ask)
     → Tells (stepGiven s seat w a) (described (stationMeant s) seat) (stepRefusal kcb (stationMeant s) seat (walkMeant w) a)
     (flatWalk (stepWalk kcb (stationMeant s) seat (walkMeant w) a))
+
+abbrev pub FinishTold : Type 0
+FinishTold = (s : Station) (seat : List ℕ) (w : Walk) (a : AskRest)
+    → Tells (finishGiven s seat w a) (described (stationMeant s) seat) (finishRefusal kcb (stationMeant s) seat (walkMeant w) a)
+    (flatWalk (finishWalk kcb (stationMeant s) seat (walkMeant w) a))
 
 abbrev pub ShownTold : Type 0
 ShownTold = (s : Attached) (seat : List ℕ) (w : Standing) (a : Ask)

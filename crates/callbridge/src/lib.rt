@@ -33,6 +33,7 @@ ghost use Rattle.station.specs.Paper.{kcb};
 ghost use Rattle.station.specs.Attachment.{newStation, attachSeat, detachSeat, changeSeat};
 ghost use Rattle.walk.specs.Orders.{asking};
 ghost use Rattle.walk.specs.Steps.{openAnswer, stepOut};
+ghost use Rattle.finishing.specs.Rest.{askingRest, finishOut};
 ghost use Rattle.walk.specs.Show.{shownAnswer};
 ghost use Rattle.listing.specs.Listing.{listing};
 ghost use Rattle.flat.specs.Stations.{stationMeant, flatStation, walkMeant};
@@ -44,7 +45,7 @@ ghost use Rattle.c_calls.specs.TidyingCalls.{tidiedGiven};
 ghost use Rattle.c_calls.specs.MovingCalls.{placedGiven, gatheredGiven};
 ghost use Rattle.c_calls.specs.ReturningCalls.{putGiven, takenGiven};
 ghost use Rattle.c_calls.specs.StationCalls.{attachGiven, detachGiven, freedStation, changeGiven};
-ghost use Rattle.c_calls.specs.WalkCalls.{openGiven, stepGiven, shownPart, shownRefusal};
+ghost use Rattle.c_calls.specs.WalkCalls.{openGiven, stepGiven, finishGiven, shownPart, shownRefusal};
 
 // CB_VERSION.
 #[no_mangle]
@@ -321,6 +322,26 @@ pub extern "C" fn cb_step(
         × (now (out .exit) ≡ stepOut kcb (stationMeant (now (station .entry))) (now (seat .entry)) (walkMeant (now (walk .entry))) (asking (now (registers .entry)) (now (stack .entry)) asked (now (out .entry))))) ⌝ }
 {
     let given = c_calls::step(*station, seat, *walk, registers, stack, asked, out);
+    *walk = given.walk;
+    given.refusal
+}
+
+// (askingRest (now (registers .entry)) (now (stack .entry)) (now (asked .entry)) (now (out .entry)))ll remaining arguments' bytes, packed, and the walk at its end.
+#[no_mangle]
+pub extern "C" fn cb_finish_walk(
+    station: &Station,
+    seat: &[u8],
+    walk: &mut Walk,
+    registers: &[u8],
+    stack: &[u8],
+    asked: &[u8],
+    out: &mut [u8],
+) -> Refusal
+    ensures { λ r. ⌜ (r ≡ refusalIn (finishGiven (now (station .entry)) (now (seat .entry)) (now (walk .entry)) (askingRest (now (registers .entry)) (now (stack .entry)) (now (asked .entry)) (now (out .entry)))))
+        × ((now (walk .exit) ≡ leftIn (finishGiven (now (station .entry)) (now (seat .entry)) (now (walk .entry)) (askingRest (now (registers .entry)) (now (stack .entry)) (now (asked .entry)) (now (out .entry)))) (now (walk .entry)))
+        × (now (out .exit) ≡ finishOut kcb (stationMeant (now (station .entry))) (now (seat .entry)) (walkMeant (now (walk .entry))) (askingRest (now (registers .entry)) (now (stack .entry)) (now (asked .entry)) (now (out .entry))))) ⌝ }
+{
+    let given = c_calls::finish_walk(*station, seat, *walk, registers, stack, asked, out);
     *walk = given.walk;
     given.refusal
 }

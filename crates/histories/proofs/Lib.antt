@@ -12,3 +12,4 @@ pub mod Promises
 pub mod Replacing
 pub mod Reconnection
 pub mod Kcb
+pub mod Mixed

@@ -5,3 +5,4 @@ pub mod Outcomes
 pub mod ConditionC
 pub mod Accident
 pub mod Figure
+pub mod Mixed

@@ -429,6 +429,46 @@ fn step(state: State, seat: &[u8], registers: &[u8], stack: &[u8]) -> State {
     step_into(state, seat, registers, stack, slot, asked, &mut out[..n])
 }
 
+fn finish_into(
+    state: State,
+    seat: &[u8],
+    registers: &[u8],
+    stack: &[u8],
+    slot: usize,
+    asked: &[u8],
+    out: &mut [u8],
+) -> State {
+    let station = state.station;
+    let walk = walk_in(state, slot);
+    fill(out, 0xEE);
+    let after = finishing::finish_by_value(station, seat, walk, registers, stack, asked, out);
+    let next = with_walk(state, slot, after.walk);
+    print_refusal(b"finish ", after.refusal);
+    print_bytes(b" out", out);
+    print_slot(next, slot);
+    next
+}
+
+fn finish(state: State, seat: &[u8], registers: &[u8], stack: &[u8]) -> State {
+    let mut space = io::buffer();
+    let mut out = io::buffer();
+    let slot = read_byte() as usize;
+    let count = read_sized(&mut space);
+    let n = read_word() as usize;
+    if 4096 < n {
+        return state;
+    }
+    finish_into(
+        state,
+        seat,
+        registers,
+        stack,
+        slot,
+        &space[..count],
+        &mut out[..n],
+    )
+}
+
 // Where the part begins, and the bytes of the part that is handed out: they are those that stand there only where it begins there.
 fn print_part(text: &[u8], offset: Bytes, part: &[u8]) {
     print_number(text, offset.0 as u64);
@@ -460,7 +500,7 @@ fn show_number(state: State, seat: &[u8], registers: &[u8], stack: &[u8]) {
     print(b"\n");
 }
 
-// Open, step and show: they leave the seat and the images.
+// Open, step, all the rest and show: they leave the seat and the images.
 fn read_only<'a>(
     command: u8,
     state: State,
@@ -471,6 +511,7 @@ fn read_only<'a>(
     match command {
         9 => open(state, seat),
         10 => step(state, seat, registers, stack),
+        17 => finish(state, seat, registers, stack),
         11 => {
             show(state, seat, registers, stack);
             state

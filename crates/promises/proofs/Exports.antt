@@ -509,7 +509,7 @@ shows-flat s seat w a =
 pub along : {A B : Type 0} (P : A → B → Type 0) {a c : A} {b d : B} → a ≡ c → b ≡ d → P c d → P a b
 along P {b = b} e f p = subst (λ x. P x b) (sym e) (subst (P _) (sym f) p)
 
-along-three : {A B C : Type 0} (P : A → B → C → Type 0) {a c : A} {b d : B} {x y : C} → a ≡ c → b ≡ d → x ≡ y → P c d y → P a b x
+pub along-three : {A B C : Type 0} (P : A → B → C → Type 0) {a c : A} {b d : B} {x y : C} → a ≡ c → b ≡ d → x ≡ y → P c d y → P a b x
 along-three P {b = b} {x = x} e f g p = subst (λ z. P z b x) (sym e) (along (P _) f g p)
 
 along-four : {A B C D : Type 0} (P : A → B → C → D → Type 0) {a c : A} {b d : B} {x y : C} {u v : D} → a ≡ c → b ≡ d → x ≡ y → u ≡ v → P c d y v → P a b x u

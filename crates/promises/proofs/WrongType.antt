@@ -29,7 +29,8 @@ use Rattle.station.specs.Attachment.{described, attachRefusal, detachRefusal}
 use Rattle.station.proofs.Changes.{change-order}
 use Rattle.station.proofs.Kcb.{kcb-refusal}
 use Rattle.walk.specs.Orders.{openRefusal, stepRefusal, showRefusal}
-use Rattle.promises.specs.Orders.{formOrder, checkOrder, needOrder, questionOrder, offsetsOrder, layoutOrder, placeOrder, gatherOrder, putOrder, takeOrder, attachOrder, detachOrder, openOrder, stepOrder, showOrder, changeOrder}
+use Rattle.finishing.specs.Rest.{finishRefusal}
+use Rattle.promises.specs.Orders.{formOrder, checkOrder, needOrder, questionOrder, offsetsOrder, layoutOrder, placeOrder, gatherOrder, putOrder, takeOrder, attachOrder, detachOrder, openOrder, stepOrder, showOrder, changeOrder, finishOrder}
 use Rattle.promises.specs.WrongType.{Names, refusalRead, WrongType}
 
 -- whether a condition numbered n holds
@@ -110,7 +111,7 @@ detach-names s seat d = record {
 }
 
 pub wrong-type : WrongType
-unfolding kcb verdict usesRefusal questionRefusal offsetsRefusal listRefusal placeRefusal gatherRefusal putRefusal takeRefusal attachRefusal openRefusal stepRefusal showRefusal
+unfolding kcb verdict usesRefusal questionRefusal offsetsRefusal listRefusal placeRefusal gatherRefusal putRefusal takeRefusal attachRefusal openRefusal stepRefusal showRefusal finishRefusal
 wrong-type = record {
   read-form = read-names;
   check = λ d. names d (checkOrder d) (alone (wrongRecord d)) (alone (tooLarge (modelIn d) d));
@@ -128,4 +129,5 @@ wrong-type = record {
   open-walk = λ s seat. seated (described s seat) _ (names (described s seat) (openOrder s seat) (alone (wrongRecord (described s seat))) (alone (tooLarge (modelIn (described s seat)) (described s seat))));
   step = λ s seat w a. seated (described s seat) _ (names (described s seat) (stepOrder s seat w a) (alone (wrongRecord (described s seat))) (alone (tooLarge (modelIn (described s seat)) (described s seat))));
   show = λ s seat w a. seated (described s seat) _ (names (described s seat) (showOrder s seat w a) (alone (wrongRecord (described s seat))) (alone (tooLarge (modelIn (described s seat)) (described s seat))));
+  finish-walk = λ s seat w a. seated (described s seat) _ (names (described s seat) (finishOrder s seat w a) (alone (wrongRecord (described s seat))) (alone (tooLarge (modelIn (described s seat)) (described s seat))));
 }

@@ -26,7 +26,8 @@ use Rattle.station.specs.declared.Station.{Station}
 use Rattle.station.specs.Paper.{kcb}
 use Rattle.station.specs.Attachment.{wrongSeat, described}
 use Rattle.walk.specs.declared.Walk.{Walk}
-use Rattle.walk.specs.Orders.{Ask, wrongRegisters, otherNumber, astray, atEnd, otherType, wrongStack, wrongOut}
+use Rattle.walk.specs.Orders.{Ask, asking, wrongRegisters, otherNumber, astray, atEnd, otherType, wrongStack, wrongOut}
+use Rattle.finishing.specs.Rest.{AskRest, stepAsk, wrongCount, otherTypes, wrongRoom}
 
 -- what the calls look at that look at less: the form, sizes, uses
 abbrev pub formOrder : List ℕ → List Rule
@@ -115,6 +116,14 @@ walkOrder s seat w a late =
 -- ".. stack image and out buffer"
 abbrev pub stepOrder : Station → List ℕ → Walk → Ask → List Rule
 stepOrder s seat w a = walkOrder s seat w a (wrongStack kcb (described s seat) a || wrongOut kcb (described s seat) w a)
+
+-- request 2026-05: "as for a step, but a number of types other than those remaining is 24, after 18, and 19 never occurs"
+abbrev pub finishOrder : Station → List ℕ → Walk → AskRest → List Rule
+finishOrder s seat w a =
+    rule 11 (wrongSeat s seat || wrongRegisters kcb (stepAsk a 0 [])) ∷ rule 13 (not (s .attached)) ∷ checkOrder (described s seat)
+    ++ rule 17 (otherNumber s w) ∷ rule 18 (astray kcb (described s seat) w) ∷ rule 24 (wrongCount kcb (described s seat) w (a .asked))
+    ∷ rule 20 (otherTypes kcb (described s seat) w (a .asked))
+    ∷ rule 11 (wrongStack kcb (described s seat) (asking [] (a .stack) 0 []) || wrongRoom kcb (described s seat) w (length (a .out))) ∷ []
 
 -- "A second call makes the same checks but for the out buffer .. A third call gives the second's refusal number"
 abbrev pub showOrder : Station → List ℕ → Walk → Ask → List Rule

@@ -28,6 +28,7 @@ use Rattle.station.specs.declared.Station.{Station}
 use Rattle.station.specs.Paper.{kcb, refusalUnder}
 use Rattle.station.specs.Attachment.{described, attachRefusal, detachRefusal, changeRefusal}
 use Rattle.walk.specs.declared.Walk.{Walk}
+use Rattle.finishing.specs.Rest.{AskRest, finishRefusal}
 use Rattle.walk.specs.Orders.{Ask, openRefusal, stepRefusal, showRefusal}
 
 -- k is the lowest of n types that breaks a rule
@@ -71,3 +72,5 @@ pub record WrongType : Type 0 where
       → Names (described s seat) (refusalUnder kcb (described s seat) (stepRefusal kcb s seat w a))
   pub show : (s : Station) (seat : List ℕ) (w : Walk) (a : Ask)
       → Names (described s seat) (refusalUnder kcb (described s seat) (showRefusal kcb s seat w a))
+  pub finish-walk : (s : Station) (seat : List ℕ) (w : Walk) (a : AskRest)
+      → Names (described s seat) (refusalUnder kcb (described s seat) (finishRefusal kcb s seat w a))

@@ -29,6 +29,8 @@ use Rattle.station.proofs.change_by_value
 use Rattle.walk.proofs.open_walk
 use Rattle.walk.proofs.step
 use Rattle.walk.proofs.step_by_value
+use Rattle.finishing.proofs.finish_walk
+use Rattle.finishing.proofs.finish_by_value
 use Rattle.walk.proofs.shown_at
 use Rattle.walk.proofs.show
 use Rattle.walk.proofs.show_number
@@ -55,6 +57,7 @@ use Rattle.callbridge.proofs.cb_detach
 use Rattle.callbridge.proofs.cb_change
 use Rattle.callbridge.proofs.cb_open_walk
 use Rattle.callbridge.proofs.cb_step
+use Rattle.callbridge.proofs.cb_finish_walk
 use Rattle.callbridge.proofs.cb_show
 
 pub total-form-read-form : Total read_form.ended (λ M. read_form.clauses {M = M})
@@ -141,6 +144,12 @@ total-walk-step c g = refl
 pub total-walk-step-by-value : Total step_by_value.ended (λ M. step_by_value.clauses {M = M})
 total-walk-step-by-value c g = refl
 
+pub total-finishing-finish-walk : Total finish_walk.ended (λ M. finish_walk.clauses {M = M})
+total-finishing-finish-walk c g = refl
+
+pub total-finishing-finish-by-value : Total finish_by_value.ended (λ M. finish_by_value.clauses {M = M})
+total-finishing-finish-by-value c g = refl
+
 pub total-walk-shown-at : Total shown_at.ended (λ M. shown_at.clauses {M = M})
 total-walk-shown-at c g = refl
 
@@ -218,6 +227,9 @@ total-callbridge-cb-open-walk c g = refl
 
 pub total-callbridge-cb-step : Total cb_step.ended (λ M. cb_step.clauses {M = M})
 total-callbridge-cb-step c g = refl
+
+pub total-callbridge-cb-finish-walk : Total cb_finish_walk.ended (λ M. cb_finish_walk.clauses {M = M})
+total-callbridge-cb-finish-walk c g = refl
 
 pub total-callbridge-cb-show : Total cb_show.ended (λ M. cb_show.clauses {M = M})
 total-callbridge-cb-show c g = refl

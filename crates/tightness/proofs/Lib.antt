@@ -18,6 +18,7 @@ pub mod OfMoving
 pub mod OfReturning
 pub mod OfStation
 pub mod OfWalk
+pub mod OfFinishing
 pub mod OfListing
 pub mod OfFlat
 pub mod OfCCalls

@@ -53,6 +53,9 @@ use Rattle.c_calls.proofs.open_walk.Symbol as open-walk-symbol
 use Rattle.c_calls.proofs.step
 use Rattle.c_calls.proofs.step.Met as step-met
 use Rattle.c_calls.proofs.step.Symbol as step-symbol
+use Rattle.c_calls.proofs.finish_walk
+use Rattle.c_calls.proofs.finish_walk.Met as finish-walk-met
+use Rattle.c_calls.proofs.finish_walk.Symbol as finish-walk-symbol
 use Rattle.c_calls.proofs.show
 use Rattle.c_calls.proofs.show.Met as show-met
 use Rattle.c_calls.proofs.show.Symbol as show-symbol
@@ -188,6 +191,15 @@ meets-c-calls-step M = step-met.met
 
 pub tight-c-calls-step : Tight step.ended (λ M. step.clauses {M = M})
 tight-c-calls-step c r q w v a b = (settle (result step.ended c) (a .ensured) (b .ensured) (λ e f i. record { walk = (e .1 .0 ∙ sym (f .1 .0)) i; refusal = (e .0 ∙ sym (f .0)) i }), λ i. (tt, (tt, (tt, (tt, (tt, (tt, (same-out i, tt))))))))
+  where
+    same-out : w .1 .1 .1 .1 .1 .1 .0 ≡ v .1 .1 .1 .1 .1 .1 .0
+    same-out = settle bytes (a .ensured) (b .ensured) (λ e f. e .1 .1 ∙ sym (f .1 .1))
+
+pub meets-c-calls-finish-walk : Meets finish_walk.ended (λ M. finish_walk.clauses {M = M}) finish-walk-symbol.routine
+meets-c-calls-finish-walk M = finish-walk-met.met
+
+pub tight-c-calls-finish-walk : Tight finish_walk.ended (λ M. finish_walk.clauses {M = M})
+tight-c-calls-finish-walk c r q w v a b = (settle (result finish_walk.ended c) (a .ensured) (b .ensured) (λ e f i. record { walk = (e .1 .0 ∙ sym (f .1 .0)) i; refusal = (e .0 ∙ sym (f .0)) i }), λ i. (tt, (tt, (tt, (tt, (tt, (tt, (same-out i, tt))))))))
   where
     same-out : w .1 .1 .1 .1 .1 .1 .0 ≡ v .1 .1 .1 .1 .1 .1 .0
     same-out = settle bytes (a .ensured) (b .ensured) (λ e f. e .1 .1 ∙ sym (f .1 .1))

@@ -80,6 +80,9 @@ use Rattle.callbridge.proofs.cb_open_walk.Symbol as cb-open-walk-symbol
 use Rattle.callbridge.proofs.cb_step
 use Rattle.callbridge.proofs.cb_step.Met as cb-step-met
 use Rattle.callbridge.proofs.cb_step.Symbol as cb-step-symbol
+use Rattle.callbridge.proofs.cb_finish_walk
+use Rattle.callbridge.proofs.cb_finish_walk.Met as cb-finish-walk-met
+use Rattle.callbridge.proofs.cb_finish_walk.Symbol as cb-finish-walk-symbol
 use Rattle.callbridge.proofs.cb_show
 use Rattle.callbridge.proofs.cb_show.Met as cb-show-met
 use Rattle.callbridge.proofs.cb_show.Symbol as cb-show-symbol
@@ -299,6 +302,18 @@ meets-callbridge-cb-step M = cb-step-met.met
 
 pub tight-callbridge-cb-step : Tight cb_step.ended (λ M. cb_step.clauses {M = M})
 tight-callbridge-cb-step c r q w v a b = (settle (result cb_step.ended c) (a .ensured) (b .ensured) (λ e f. e .0 ∙ sym (f .0)), λ i. (tt, (tt, (same-walk i, (tt, (tt, (tt, (same-out i, tt))))))))
+  where
+    same-walk : w .1 .1 .0 ≡ v .1 .1 .0
+    same-walk = settle (flat-Walk.the-row .coded) (a .ensured) (b .ensured) (λ e f. e .1 .0 ∙ sym (f .1 .0))
+
+    same-out : w .1 .1 .1 .1 .1 .1 .0 ≡ v .1 .1 .1 .1 .1 .1 .0
+    same-out = settle bytes (a .ensured) (b .ensured) (λ e f. e .1 .1 ∙ sym (f .1 .1))
+
+pub meets-callbridge-cb-finish-walk : Meets cb_finish_walk.ended (λ M. cb_finish_walk.clauses {M = M}) cb-finish-walk-symbol.routine
+meets-callbridge-cb-finish-walk M = cb-finish-walk-met.met
+
+pub tight-callbridge-cb-finish-walk : Tight cb_finish_walk.ended (λ M. cb_finish_walk.clauses {M = M})
+tight-callbridge-cb-finish-walk c r q w v a b = (settle (result cb_finish_walk.ended c) (a .ensured) (b .ensured) (λ e f. e .0 ∙ sym (f .0)), λ i. (tt, (tt, (same-walk i, (tt, (tt, (tt, (same-out i, tt))))))))
   where
     same-walk : w .1 .1 .0 ≡ v .1 .1 .0
     same-walk = settle (flat-Walk.the-row .coded) (a .ensured) (b .ensured) (λ e f. e .1 .0 ∙ sym (f .1 .0))

@@ -202,27 +202,45 @@ standing-reached d w u g l =
       overflow = omega (arith, b .stack, z);
     }
 
--- where show accepts, the walk can be fetched from and stepped on
+-- a record that stands before an argument can be fetched from and stepped on
+pub record Fetchable (d : List ℕ) (w : Walk) : Type 0 where
+  pub reached : InBounds w
+  pub small : Small (shapeAt kcb d (w .position))
+  pub shaped : Shaped (shapeAt kcb d (w .position))
+  pub narrow : Narrow (shapeAt kcb d (w .position))
+  pub fetched : (f : Fetch) → sourceOf f ≡ readAt eights (offsetsOf w) (shapeAt kcb d (w .position)) → Within f (shapeAt kcb d (w .position) .size) 176 (areaOf kcb d)
+
+pub fetchable : (d : List ℕ) (w : Walk) → usesRefusal d ≡ 0 → Genuine kcb d w → w .position < arguments kcb d → Fetchable d w
+fetchable d w u g l =
+    let k : w .position < argumentsIn d = omega (arith, kcb-arguments d) in
+    let h : Shaped (shapeAt kcb d (w .position)) = rw (kcb-shape d (w .position) k) (argument-shaped d u (w .position) k) in
+    let n : Narrow (shapeAt kcb d (w .position)) = kcb-narrow d (w .position) (g .from) k in
+    record {
+      reached = standing-reached d w u g (omega arith);
+      small = rw (kcb-shape d (w .position) k) (argument-small d u (w .position) k);
+      shaped = h;
+      narrow = n;
+      fetched = λ f q. within eights (usedAt kcb d (w .position)) (shapeAt kcb d (w .position)) f (areaOf kcb d) h (narrow-seated _ n) (q ∙ kcb-reads d w g h n)
+          (λ m. kcb-room d (w .position) l m);
+    }
+
+-- where show accepts, it is one
 pub ready : (s : Station) (seat : List ℕ) (w : Walk) (a : Ask) → showRefusal kcb s seat w a ≡ 0 → Ready s seat w a
 ready s seat w a e =
     let d = described s seat in
     let z = show-passes kcb s seat w a e in
     let g = astray-not kcb d w (z .0 .on) in
     let l : w .position < arguments kcb d = omega (arith, g .to, z .0 .before) in
-    let k : w .position < argumentsIn d = omega (arith, kcb-arguments d) in
-    let u = accepted-uses d (sym (kcb-verdict d) ∙ z .0 .accepted) in
-    let h : Shaped (shapeAt kcb d (w .position)) = rw (kcb-shape d (w .position) k) (argument-shaped d u (w .position) k) in
-    let n : Narrow (shapeAt kcb d (w .position)) = kcb-narrow d (w .position) (g .from) k in
+    let x = fetchable d w (accepted-uses d (sym (kcb-verdict d) ∙ z .0 .accepted)) g l in
     record {
       passed = z .0;
       registers = z .0 .registers ∙ kcb-registers;
       genuine = g;
       before = l;
       stack = z .1;
-      reached = standing-reached d w u g (omega arith);
-      small = rw (kcb-shape d (w .position) k) (argument-small d u (w .position) k);
-      shaped = h;
-      narrow = n;
-      fetched = λ f q. within eights (usedAt kcb d (w .position)) (shapeAt kcb d (w .position)) f (length (a .stack)) h (narrow-seated _ n) (q ∙ kcb-reads d w g h n)
-          (λ m. rw (z .1) (kcb-room d (w .position) l m));
+      reached = x .reached;
+      small = x .small;
+      shaped = x .shaped;
+      narrow = x .narrow;
+      fetched = λ f q. rw (z .1) (x .fetched f q);
     }

@@ -16,7 +16,7 @@ ghost use Rattle.walk.specs.Orders.{asking, astray, showRefusal, restRef
 ghost use Rattle.walk.specs.Asks.{IsStanding, refusalIn};
 
 // 18: "position outside N..A, or offsets not those this description gives there". Only here the walk asks the layout.
-fn is_astray(d: &[u8], walk: Walk, table: &[u32; 64]) -> bool
+pub fn is_astray(d: &[u8], walk: Walk, table: &[u32; 64]) -> bool
     requires { ⌜ (usesRefusal (now d) ≡ 0) × Tabled (now d) (now table) ⌝ }
     ensures { λ r. ⌜ r ≡ astray kcb (now (d .entry)) walk ⌝ }
 {

@@ -1,5 +1,8 @@
 // The walk over unnamed arguments (document 01, "Station and walk"; 000, section 3.5.7): opened, checked, stepped, and the next argument shown where it lies.
 pub use checking::checked;
+pub use checking::is_astray;
+pub use fetching::fetch_at;
+pub use fetching::moved_on;
 pub use opening::open_walk;
 pub use showing::Part;
 pub use showing::ShownAnswer;
@@ -7,6 +10,7 @@ pub use showing::show;
 pub use showing::show_number;
 pub use showing::shown_at;
 pub use stepping::Stepped;
+pub use stepping::copy_out;
 pub use stepping::step;
 pub use stepping::step_by_value;
 

@@ -19,7 +19,7 @@ ghost use Rattle.walk.specs.Orders.{asking, stepRefusal};
 ghost use Rattle.walk.specs.Steps.{stepWalk, stepOut};
 
 // Copies the argument's bytes into the out buffer, eightbyte after eightbyte or in one piece.
-fn copy_out(fetch: Fetch, size: Bytes, registers: &[u8], stack: &[u8], out: &mut [u8])
+pub fn copy_out(fetch: Fetch, size: Bytes, registers: &[u8], stack: &[u8], out: &mut [u8])
     requires { ⌜ (length (now registers) ≡ 176) × (length (now out) ≡ size .0) × Within fetch (size .0) 176 (length (now stack)) ⌝ }
     ensures { λ _. ⌜ now (out .exit) ≡ gather (now (registers .entry) ++ now (stack .entry)) (bytesFrom 176 (sourceOf fetch) (size .0)) ⌝ }
 {

@@ -11,7 +11,7 @@ use independent::places::ReturnPlace;
 use independent::refusal::Refusal;
 use independent::returning::{taking, RETURN_IMAGE};
 use independent::station::{attach, Station, SEAT};
-use independent::walk::{open, step, Walk};
+use independent::walk::{finish, open, step, Walk};
 
 /// A difference: what was compared, gcc's answer, the layout's answer.
 pub struct Difference {
@@ -222,13 +222,35 @@ fn record_text(walk: &Walk) -> String {
     format!("gp {} fp {} over {}", walk.gp_offset, walk.fp_offset, walk.overflow)
 }
 
-/// The walk: the offsets that va_start and va_arg leave against open and step,
-/// and the bytes that step hands back.
+/// All the rest at once, from the record that open gives: what the offsets are after
+/// it, and the values that it hands back, packed.
+fn judge_rest(
+    subject: &Subject,
+    station: &Station,
+    seat: &[u8],
+    opened: Walk,
+    judgement: &mut Judgement,
+) -> String {
+    let mut walk = opened;
+    let rest = &subject.accepted.layout.placements[opened.position as usize..];
+    let asked: Vec<u8> = rest.iter().map(|placement| placement.type_number).collect();
+    let mut out = vec![0; rest.iter().map(|placement| placement.size.0).sum()];
+    let (registers, stack) = (&subject.entered_registers, &subject.entered_stack);
+    let finished = finish(station, seat, &mut walk, &asked, registers, stack, &mut out);
+    judgement.equal("all the rest", format!("{finished:?}"), "Ok(())".to_string());
+    let values = &subject.values[subject.values.len() - out.len()..];
+    judgement.equal("bytes of all the rest", hex_of_bytes(&out), hex_of_bytes(values));
+    record_text(&walk)
+}
+
+/// The walk: the offsets that va_start and va_arg leave against open and step, the
+/// last against all the rest at once, and the bytes that they hand back.
 fn judge_walk(subject: &Subject, answer: &Answer, judgement: &mut Judgement) {
     let mut station = Station::default();
     let mut seat = vec![0x11; SEAT];
     attach(&mut station, &mut seat, subject.description).expect("accepted");
     let mut walk = open(&station, &seat).expect("variadic");
+    let finished = judge_rest(subject, &station, &seat, walk, judgement);
     let placements = &subject.accepted.layout.placements;
     let named = walk.position as usize;
     let mut start: usize = placements[..named].iter().map(|placement| placement.size.0).sum();
@@ -255,6 +277,8 @@ fn judge_walk(subject: &Subject, answer: &Answer, judgement: &mut Judgement) {
     let noted: Vec<String> =
         noted.map(|[gp, fp, over]| format!("gp {gp} fp {fp} over {over}")).collect();
     judgement.equal("offsets of the walk", noted.join(", "), records.join(", "));
+    let last = noted.last().cloned().unwrap_or_default();
+    judgement.equal("offsets after all the rest", last, finished);
 }
 
 /// The report of a subject with differences.

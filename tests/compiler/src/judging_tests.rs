@@ -105,7 +105,8 @@ fn vectors_of_32_bytes_are_judged() {
     let bare = "m256: ..., m256";
     assert_eq!(differences(bare, |answer| answer.stack[0] ^= 1), 0);
     assert_eq!(differences(bare, |answer| answer.read[0] ^= 1), 1);
-    assert_eq!(differences(bare, |answer| answer.notes[1][2] += 32), 1);
+    // The walk's last record, and the one after all the rest at once.
+    assert_eq!(differences(bare, |answer| answer.notes[1][2] += 32), 2);
 }
 
 #[test]

@@ -10,13 +10,13 @@ use crate::random::Random;
 use crate::refusal::{told, Told};
 use crate::station::{attach, change, detach, Station, SEAT};
 use crate::types::code;
-use crate::walk::{open, show_number, shown_piece, step, Walk};
+use crate::walk::{finish, open, show_number, shown_piece, step, Walk};
 
 /// Room for the seat, so that too long a seat can be lent as well.
 pub const SEAT_ROOM: usize = 600;
 /// Walk slots.
 pub const SLOTS: usize = 4;
-/// What an out buffer is filled with before each step.
+/// What an out buffer is filled with before each step or finish.
 pub const FILLING: u8 = 0xEE;
 
 #[derive(Clone, Debug, PartialEq, Eq)]
@@ -32,6 +32,7 @@ pub enum Command {
     Change(Vec<u8>),
     Open { slot: u8 },
     Step { slot: u8, asked: u8, out: u16 },
+    Finish { slot: u8, asked: Vec<u8>, out: u16 },
     Show { slot: u8, asked: u8 },
     Number { slot: u8, asked: u8 },
     WalkByHand { slot: u8, walk: Walk },
@@ -84,6 +85,11 @@ impl Command {
             Command::Open { slot } => bytes.extend([9, *slot]),
             Command::Step { slot, asked, out } => {
                 bytes.extend([10, *slot, *asked]);
+                bytes.extend(out.to_le_bytes());
+            }
+            Command::Finish { slot, asked, out } => {
+                bytes.extend([17, *slot]);
+                push_part(bytes, asked);
                 bytes.extend(out.to_le_bytes());
             }
             Command::Show { slot, asked } => bytes.extend([11, *slot, *asked]),
@@ -208,6 +214,7 @@ impl Scene {
             }
             Command::Open { slot } => self.answer_open(*slot),
             Command::Step { slot, asked, out } => self.answer_step(*slot, *asked, *out),
+            Command::Finish { slot, asked, out } => self.answer_finish(*slot, asked, *out),
             Command::Show { slot, asked } => self.answer_show(*slot, *asked),
             Command::Number { slot, asked } => self.answer_number(*slot, *asked),
             Command::WalkByHand { slot, walk } => {
@@ -243,6 +250,21 @@ impl Scene {
         );
         let told = told(&answer);
         format!("step {told} {} {}", word_and_hex("out", &out), self.walk_text(slot))
+    }
+
+    fn answer_finish(&mut self, slot: u8, asked: &[u8], length: u16) -> String {
+        let mut out = vec![FILLING; length as usize];
+        let answer = finish(
+            &self.station,
+            &self.seat[..self.lent],
+            &mut self.walks[slot as usize],
+            asked,
+            &self.registers,
+            &self.stack,
+            &mut out,
+        );
+        let told = told(&answer);
+        format!("finish {told} {} {}", word_and_hex("out", &out), self.walk_text(slot))
     }
 
     fn answer_show(&self, slot: u8, asked: u8) -> String {
@@ -332,6 +354,25 @@ impl Script {
         let position = usize::try_from(self.scene.walks[slot as usize].position).ok()?;
         let placement = accepted.layout.placements.get(position)?;
         Some((placement.type_number, placement.size.0 as u16))
+    }
+
+    /// The types that the walk in a slot should ask to its end, and all their bytes.
+    pub fn rest(&self, slot: u8) -> (Vec<u8>, u16) {
+        let seat = &self.scene.seat[..self.scene.station.length.min(SEAT)];
+        let (Ok(accepted), Ok(position)) =
+            (accepted(seat), usize::try_from(self.scene.walks[slot as usize].position))
+        else {
+            return (vec![], 0);
+        };
+        let rest = accepted.layout.placements.get(position..).unwrap_or_default();
+        let bytes: usize = rest.iter().map(|placement| placement.size.0).sum();
+        (rest.iter().map(|placement| placement.type_number).collect(), bytes as u16)
+    }
+
+    /// All the rest at once, with the right types and bytes.
+    pub fn finish_right(&mut self, slot: u8) {
+        let (asked, out) = self.rest(slot);
+        self.add(Command::Finish { slot, asked, out });
     }
 
     /// Show, its number and a right step.
@@ -435,9 +476,13 @@ pub fn random_history(random: &mut Random, script: &mut Script, length: usize) {
             }
             2 if random.one_in(3) => script.add(Command::Detach),
             2..=6 => script.add(Command::Open { slot: random.below(SLOTS) as u8 }),
-            7..=13 => {
+            7..=12 => {
                 let slot = live_slot(random, script);
                 script.step_right(slot);
+            }
+            13 => {
+                let slot = live_slot(random, script);
+                script.finish_right(slot);
             }
             14..=16 => wrong_question(random, script),
             17 => wrong_record(random, script),
@@ -462,9 +507,13 @@ fn live_slot(random: &mut Random, script: &Script) -> u8 {
     random.choose(&live)
 }
 
-/// A step, show or number with a wrong type or out length.
+/// A step, show, number or finish with a wrong type, number of types or out length.
 fn wrong_question(random: &mut Random, script: &mut Script) {
     let slot = live_slot(random, script);
+    if random.one_in(3) {
+        wrong_rest(random, script, slot);
+        return;
+    }
     let (right, size) = script.next_type(slot).unwrap_or((0, 8));
     let any = random.byte();
     let asked = random.choose(&[right, right.wrapping_add(1), 255, any]);
@@ -472,6 +521,24 @@ fn wrong_question(random: &mut Random, script: &mut Script) {
     script.add(Command::Step { slot, asked, out });
     script.add(Command::Show { slot, asked });
     script.add(Command::Number { slot, asked });
+}
+
+/// All the rest with one wrong type, one type too few or too many, or a wrong out
+/// length, or two of these.
+fn wrong_rest(random: &mut Random, script: &mut Script, slot: u8) {
+    let (mut asked, mut out) = script.rest(slot);
+    for _ in 0..random.between(1, 2) {
+        match random.below(4) {
+            0 if !asked.is_empty() => {
+                let at = random.below(asked.len());
+                asked[at] = random.choose(&[asked[at].wrapping_add(1), 0, 255]);
+            }
+            1 => asked.push(random.choose(&[0, 1, 255])),
+            2 => drop(asked.pop()),
+            _ => out = random.choose(&[out + 1, out.saturating_sub(1), 0, 8]),
+        }
+    }
+    script.add(Command::Finish { slot, asked, out });
 }
 
 /// A walk record with one field changed, asked once.
@@ -487,7 +554,11 @@ fn wrong_record(random: &mut Random, script: &mut Script) {
         _ => walk.overflow = walk.overflow.wrapping_add(change),
     }
     script.add(Command::WalkByHand { slot, walk });
-    script.step_right(slot);
+    if random.one_in(2) {
+        script.finish_right(slot);
+    } else {
+        script.step_right(slot);
+    }
 }
 
 /// A seat, station or image that no call would leave so.

@@ -64,12 +64,14 @@ pub fn spot(placement: &Placement, byte: Bytes) -> Spot {
     }
 }
 
+/// The place of each byte of one argument's value.
+pub fn spots_of(placement: &Placement) -> Vec<Spot> {
+    (0..placement.size.0).map(|byte| spot(placement, Bytes(byte))).collect()
+}
+
 /// The place of each byte of the packed values, in their order.
 pub fn spots(layout: &Layout) -> Vec<Spot> {
-    let of_one = |placement: &Placement| -> Vec<Spot> {
-        (0..placement.size.0).map(|byte| spot(placement, Bytes(byte))).collect()
-    };
-    layout.placements.iter().flat_map(of_one).collect()
+    layout.placements.iter().flat_map(spots_of).collect()
 }
 
 /// 11: values, register image, upper image and stack image of exactly the right

@@ -48,6 +48,8 @@ pub enum Refusal {
     AtEnd,
     /// "type number asked differs from the argument's"
     OtherType,
+    /// "a number of types other than those remaining" (02, 2026-05)
+    WrongTypeCount,
     /// "a hidden address in use of 2^32 or more" (02, 2026-11)
     AddressTooWide,
     /// 02, 2026-03: "the separate runs need over 255 members"
@@ -78,6 +80,7 @@ impl Refusal {
             Refusal::WrongRecord => 18,
             Refusal::AtEnd => 19,
             Refusal::OtherType => 20,
+            Refusal::WrongTypeCount => 24,
             Refusal::AddressTooWide => 27,
             Refusal::TooManyMembers => 29,
         }

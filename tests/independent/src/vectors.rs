@@ -12,7 +12,7 @@ use crate::generator::{
 };
 use crate::history::{
     any_address, random_address, random_history, random_images, random_values, word_and_hex,
-    Command, Script, ADDRESSES,
+    Command, Script, ADDRESSES, SLOTS,
 };
 use crate::listing::listing;
 use crate::moving::{gathering, placing, REGISTER_IMAGE, UPPER_IMAGE};
@@ -579,6 +579,11 @@ fn printed_histories(random: &mut Random, script: &mut Script) {
     last_numbers(random, script);
     changed_modules(random, script);
     last_numbers_changed(random, script);
+    finished_walks(random, script);
+    wrong_rests(random, script);
+    rests_by_hand(random, script);
+    rests_of_a_plain_function(random, script);
+    rests_and_other_modules(random, script);
     spoilt_seats(random, script);
     wrong_lengths_in_order(random, script);
     models_in_the_seat(random, script);
@@ -658,14 +663,10 @@ fn earlier_attachment(random: &mut Random, script: &mut Script) {
     script.walk_whole(1);
 }
 
-/// 17, 18, 19 and 20 in their order, on records made by hand.
-fn records_by_hand(random: &mut Random, script: &mut Script) {
-    script.add(Command::Reset);
-    script.attach(random, &bytes_of_hex(LISTER));
-    script.add(Command::Open { slot: 0 });
-    let right = script.scene.walks[0];
+/// Records made by hand for the lister's case: the walk there is opened as `right`.
+fn lister_records(right: Walk) -> [Walk; 15] {
     let end = Walk { position: 5, gp_offset: 32, fp_offset: 80, ..right };
-    let records = [
+    [
         right,
         end,
         Walk { gp_offset: 16, ..end },
@@ -681,8 +682,15 @@ fn records_by_hand(random: &mut Random, script: &mut Script) {
         Walk { position: 4, fp_offset: 80, ..right },
         Walk { position: 4, ..right },
         Walk { fp_offset: 304, ..right },
-    ];
-    for walk in records {
+    ]
+}
+
+/// 17, 18, 19 and 20 in their order, on records made by hand.
+fn records_by_hand(random: &mut Random, script: &mut Script) {
+    script.add(Command::Reset);
+    script.attach(random, &bytes_of_hex(LISTER));
+    script.add(Command::Open { slot: 0 });
+    for walk in lister_records(script.scene.walks[0]) {
         script.add(Command::WalkByHand { slot: 2, walk });
         for (asked, out) in [(2, 8), (1, 7), (5, 16), (255, 8), (1, 8)] {
             script.add(Command::Show { slot: 2, asked });
@@ -794,6 +802,174 @@ fn last_numbers_changed(random: &mut Random, script: &mut Script) {
     }
 }
 
+/// Request 2026-05, from each position of a walk: some steps, then all the rest; at
+/// the end there is none, and no types are asked.
+fn finished_walks(random: &mut Random, script: &mut Script) {
+    for function in walked_functions() {
+        script.add(Command::Reset);
+        script.attach(random, &function);
+        for steps in 0..=function[8] - function[7] {
+            let slot = steps % SLOTS as u8;
+            script.add(Command::Open { slot });
+            for _ in 0..steps {
+                let (asked, out) = script.next_type(slot).expect("before the end");
+                script.add(Command::Step { slot, asked, out });
+            }
+            script.finish_right(slot);
+        }
+        script.step_right(0);
+        script.finish_right(0);
+        script.add(Command::Finish { slot: 0, asked: vec![0], out: 0 });
+    }
+}
+
+/// One type too few, one too many, each type wrong, wrong lengths of stack image and
+/// out buffer, and two of these at once: 24 before 20, and 20, of whichever type,
+/// before the late 11.
+fn wrong_rests(random: &mut Random, script: &mut Script) {
+    let function = description("void: int, ..., long, long_double, double");
+    let (registers, stack) = random_images(random, &function);
+    script.add(Command::Reset);
+    script.add(Command::Attach(function));
+    script.add(Command::Registers(registers));
+    script.add(Command::Open { slot: 0 });
+    for _ in 0..4 {
+        let (asked, out) = script.rest(0);
+        for area in [stack.len(), stack.len() - 1, stack.len() + 1, 0] {
+            let mut image = stack.clone();
+            image.resize(area, 0xA5);
+            script.add(Command::Stack(image));
+            for out in [out + 1, out.saturating_sub(1), 0] {
+                for asked in wrong_lists(&asked) {
+                    script.add(Command::Finish { slot: 0, asked, out });
+                }
+                script.add(Command::Finish { slot: 0, asked: asked.clone(), out });
+            }
+            script.add(Command::WalkByHand { slot: 1, walk: script.scene.walks[0] });
+            script.finish_right(1);
+        }
+        script.add(Command::Stack(stack.clone()));
+        for asked in wrong_lists(&asked) {
+            script.add(Command::Finish { slot: 0, asked, out });
+        }
+        if let Some((asked, out)) = script.next_type(0) {
+            script.add(Command::Step { slot: 0, asked, out });
+        }
+    }
+    script.finish_right(0);
+}
+
+/// Lists that are not those of the types that remain.
+fn wrong_lists(right: &[u8]) -> Vec<Vec<u8>> {
+    let mut lists = vec![[right, &[0]].concat(), [&[0], right].concat(), vec![255; 65]];
+    for (at, &one) in right.iter().enumerate() {
+        let mut wrong = right.to_vec();
+        wrong[at] = one ^ 1;
+        lists.push(wrong);
+    }
+    if let [_, rest @ ..] = right {
+        lists.extend([rest.to_vec(), right[..rest.len()].to_vec(), vec![255; right.len()]]);
+    }
+    lists
+}
+
+/// 17, 18, 24 and 20 in their order, on records made by hand; 19 never.
+fn rests_by_hand(random: &mut Random, script: &mut Script) {
+    script.add(Command::Reset);
+    script.attach(random, &bytes_of_hex(LISTER));
+    script.add(Command::Open { slot: 0 });
+    let questions: [(&[u8], u16); 8] = [
+        (&[], 0),
+        (&[1], 8),
+        (&[5], 16),
+        (&[5, 1], 24),
+        (&[1, 5, 0], 24),
+        (&[], 1),
+        (&[1, 5], 23),
+        (&[1, 5], 24),
+    ];
+    for walk in lister_records(script.scene.walks[0]) {
+        for (asked, out) in questions {
+            script.add(Command::WalkByHand { slot: 2, walk });
+            script.add(Command::Finish { slot: 2, asked: asked.to_vec(), out });
+        }
+    }
+}
+
+/// A plain function's one record is at A: no types are accepted there, which moves
+/// nothing, where the stack image is right and the out buffer empty.
+fn rests_of_a_plain_function(random: &mut Random, script: &mut Script) {
+    for (text, end) in [
+        (
+            "void: int, double",
+            Walk { number: 1, position: 2, gp_offset: 8, fp_offset: 64, overflow: 0 },
+        ),
+        (
+            "void: long_double",
+            Walk { number: 1, position: 1, gp_offset: 0, fp_offset: 48, overflow: 16 },
+        ),
+        ("void:", Walk { number: 1, position: 0, gp_offset: 0, fp_offset: 48, overflow: 0 }),
+    ] {
+        script.add(Command::Reset);
+        script.attach(random, &description(text));
+        script.add(Command::Open { slot: 0 });
+        let area = script.scene.stack.len();
+        let records = [
+            Walk::default(),
+            end,
+            Walk { overflow: end.overflow + 8, ..end },
+            Walk { gp_offset: end.gp_offset + 8, ..end },
+            Walk { position: end.position + 1, ..end },
+            Walk { position: end.position.wrapping_sub(1), ..end },
+            Walk { number: 0, ..end },
+        ];
+        for stack in [area, area + 1, area + 16, 0] {
+            script.add(Command::Stack(vec![0x5A; stack]));
+            for walk in records {
+                script.add(Command::WalkByHand { slot: 0, walk });
+                for (asked, out) in [(vec![], 0), (vec![], 1), (vec![0], 4)] {
+                    script.add(Command::Finish { slot: 0, asked, out });
+                }
+            }
+        }
+    }
+}
+
+/// All the rest of a walk whose module has left: 13, then 17; and steps and rests of
+/// several walks in turn, of which none knows of the others.
+fn rests_and_other_modules(random: &mut Random, script: &mut Script) {
+    let first = description("void: int, ..., long, double, long");
+    let second = description("void: double, ..., double, long");
+    script.add(Command::Reset);
+    script.finish_right(0);
+    script.attach(random, &first);
+    for slot in 0..3 {
+        script.add(Command::Open { slot });
+    }
+    script.step_right(1);
+    script.finish_right(0);
+    script.step_right(1);
+    script.add(Command::Attach(second.clone()));
+    script.finish_right(1);
+    script.finish_right(0);
+    script.step_right(1);
+    script.add(Command::Detach);
+    script.finish_right(2);
+    script.finish_right(0);
+    script.add(Command::Attach(vec![1, 2, 3]));
+    script.finish_right(2);
+    script.attach(random, &first);
+    script.finish_right(2);
+    script.finish_right(0);
+    script.add(Command::Open { slot: 3 });
+    script.finish_right(3);
+    script.change(random, &second);
+    script.finish_right(3);
+    script.finish_right(2);
+    script.walk_whole(3);
+    script.finish_right(3);
+}
+
 /// Places in the lister's case, 42 bytes long, and what to spoil them with: mark,
 /// version, T, byte 6, A, records, a member, arguments, return, a byte behind.
 const SPOILS: [(u16, u8); 20] = [
@@ -826,10 +1002,13 @@ fn spoilt_seats(random: &mut Random, script: &mut Script) {
         script.add(Command::Reset);
         script.attach(random, &good);
         script.add(Command::Open { slot: 0 });
+        script.add(Command::Open { slot: 2 });
         script.add(Command::Spoil { index, value });
         script.add(Command::Open { slot: 1 });
         script.step_right(0);
         script.add(Command::Step { slot: 0, asked: 1, out: 8 });
+        script.add(Command::Finish { slot: 2, asked: vec![], out: 0 });
+        script.finish_right(2);
         script.add(Command::Detach);
     }
     for length in [0, 10, 11, 41, 42, 43, 586] {
@@ -838,6 +1017,7 @@ fn spoilt_seats(random: &mut Random, script: &mut Script) {
         script.add(Command::Open { slot: 0 });
         script.add(Command::StationByHand(Station { attached: true, length, number: 1 }));
         script.add(Command::Open { slot: 1 });
+        script.add(Command::Finish { slot: 0, asked: vec![], out: 0 });
         script.add(Command::Step { slot: 0, asked: 1, out: 8 });
         script.add(Command::Detach);
     }
@@ -856,6 +1036,7 @@ fn type_grown_in_the_seat(script: &mut Script) {
     script.add(Command::Open { slot: 1 });
     script.add(Command::Registers(vec![0; REGISTER_IMAGE]));
     script.add(Command::Step { slot: 0, asked: 0, out: 8 });
+    script.add(Command::Finish { slot: 0, asked: vec![0], out: 8 });
     script.add(Command::Show { slot: 0, asked: 0 });
     script.add(Command::Number { slot: 0, asked: 0 });
 }
@@ -880,6 +1061,7 @@ fn types_broken_in_the_seat(script: &mut Script, bytes: &[u8]) {
     script.add(Command::Show { slot: 0, asked: 0 });
     script.add(Command::Number { slot: 0, asked: 0 });
     script.add(Command::Step { slot: 0, asked: 0, out: 4 });
+    script.add(Command::Finish { slot: 0, asked: vec![], out: 0 });
     script.add(Command::Attach(bytes.to_vec()));
     script.add(Command::Detach);
 }
@@ -900,11 +1082,15 @@ fn models_in_the_seat(random: &mut Random, script: &mut Script) {
             script.step_right(1);
             script.add(Command::Spoil { index: 6, value: bytes[6] ^ ILP32 });
             script.walk_whole(2);
+            script.add(Command::WalkByHand { slot: 3, walk: script.scene.walks[1] });
+            script.finish_right(3);
             script.step_right(0);
             script.step_right(1);
             script.add(Command::Spoil { index: 6, value: bytes[6] });
             script.step_right(0);
             script.step_right(1);
+            script.finish_right(0);
+            script.finish_right(1);
         }
     }
 }
@@ -925,6 +1111,7 @@ fn area_grown_in_the_seat(script: &mut Script) {
     script.add(Command::Open { slot: 1 });
     script.add(Command::Registers(vec![0; REGISTER_IMAGE]));
     script.add(Command::Step { slot: 0, asked: block, out: 8 });
+    script.add(Command::Finish { slot: 0, asked: vec![], out: 0 });
     script.add(Command::Number { slot: 0, asked: block });
 }
 
@@ -964,6 +1151,16 @@ fn every_call(script: &mut Script, description: &[u8]) {
         script.add(Command::Show { slot, asked });
         script.add(Command::Number { slot, asked });
         script.add(Command::Step { slot, asked, out });
+    }
+    let (types, bytes) = script.rest(0);
+    for (slot, asked, out) in [
+        (0, vec![1, 1], 24),
+        (0, vec![1], 24),
+        (1, vec![], 0),
+        (0, types.clone(), 25),
+        (0, types, bytes),
+    ] {
+        script.add(Command::Finish { slot, asked, out });
     }
     script.add(Command::Open { slot: 2 });
     script.add(Command::Attach(description.to_vec()));

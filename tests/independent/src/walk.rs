@@ -1,7 +1,8 @@
-//! "Station and walk", its second half: open, step, show and show's number.
+//! "Station and walk", its second half: open, step, show and show's number; and of
+//! document 02 request 2026-05, "All the rest at once".
 
 use crate::classes::{classes_of, Class};
-use crate::moving::{Image, REGISTER_IMAGE, VECTOR_START};
+use crate::moving::{spots_of, Image, Spot, REGISTER_IMAGE, VECTOR_START};
 use crate::places::{
     accepted, registers_needed, Accepted, Taken, GENERAL_REGISTERS, VECTOR_REGISTERS,
 };
@@ -144,13 +145,12 @@ pub fn open(station: &Station, seat: &[u8]) -> Result<Walk, Refusal> {
     Ok(record(station.number, named, offsets_after(accepted.layout.taken[named])))
 }
 
-/// 17, 18, 19, 20 in their order; answers the offsets of the walk.
-fn check_walk(
+/// 17, then 18; answers the position and the offsets of the walk.
+fn check_record(
     station: &Station,
     accepted: &Accepted,
     walk: &Walk,
-    type_number: u8,
-) -> Result<Offsets, Refusal> {
+) -> Result<(usize, Offsets), Refusal> {
     if walk.number != station.number {
         return Err(Refusal::OtherAttachment);
     }
@@ -165,7 +165,19 @@ fn check_walk(
     if *walk != record(station.number, position, offsets) {
         return Err(Refusal::WrongRecord);
     }
-    if walk.position == arguments {
+    Ok((position, offsets))
+}
+
+/// 17, 18, 19, 20 in their order; answers the offsets of the walk.
+fn check_walk(
+    station: &Station,
+    accepted: &Accepted,
+    walk: &Walk,
+    type_number: u8,
+) -> Result<Offsets, Refusal> {
+    let (position, offsets) = check_record(station, accepted, walk)?;
+    let description = accepted.types.description();
+    if position == description.arguments() {
         return Err(Refusal::AtEnd);
     }
     if type_number != description.argument(position) {
@@ -223,6 +235,51 @@ pub fn step(
     }
     out.copy_from_slice(&value);
     *walk = record(walk.number, walk.position as usize + 1, fetch.after);
+    Ok(())
+}
+
+/// Request 2026-05: "One call should take the expected type numbers and write all
+/// remaining arguments, packed, to one buffer." "Refusals: as for a step, but a
+/// number of types other than those remaining is 24, after 18, and 19 never occurs;
+/// no types with none remaining is accepted." Each byte is read where the layout has
+/// its place, as gathering does, and the walk ends where the layout does: that this is
+/// what steps do, one by one, is for the tests to say.
+pub fn finish(
+    station: &Station,
+    seat: &[u8],
+    walk: &mut Walk,
+    asked: &[u8],
+    registers: &[u8],
+    stack: &[u8],
+    out: &mut [u8],
+) -> Result<(), Refusal> {
+    check_seat(station, seat)?;
+    if registers.len() != REGISTER_IMAGE {
+        return Err(Refusal::WrongLength);
+    }
+    let accepted = attached(station, seat)?;
+    let (position, _) = check_record(station, &accepted, walk)?;
+    let layout = &accepted.layout;
+    let rest = &layout.placements[position..];
+    if asked.len() != rest.len() {
+        return Err(Refusal::WrongTypeCount);
+    }
+    if rest.iter().zip(asked).any(|(placement, &asked)| placement.type_number != asked) {
+        return Err(Refusal::OtherType);
+    }
+    let value: Vec<Spot> = rest.iter().flat_map(spots_of).collect();
+    if stack.len() != layout.area.0 || out.len() != value.len() {
+        return Err(Refusal::WrongLength);
+    }
+    for (byte, spot) in out.iter_mut().zip(value) {
+        *byte = match spot.image {
+            Image::Registers => registers[spot.offset.0],
+            Image::Stack => stack[spot.offset.0],
+            Image::Upper => unreachable!("an unnamed argument is never there"),
+        };
+    }
+    let end = layout.placements.len();
+    *walk = record(station.number, end, offsets_after(layout.taken[end]));
     Ok(())
 }
 

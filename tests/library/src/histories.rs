@@ -9,7 +9,7 @@ use independent::moving::Image;
 use independent::random::Random;
 use independent::refusal::{told, Told};
 use independent::station::{attach, change, detach};
-use independent::walk::{open, shown_piece, step, Piece};
+use independent::walk::{finish, open, shown_piece, step, Piece};
 
 pub fn ask(random: &mut Random, length: usize, batch: &mut Batch) {
     let mut script = Script::new();
@@ -94,6 +94,10 @@ impl Desk {
                 self.expect_step(*slot, *asked, *out, batch);
                 "cb_step"
             }
+            Command::Finish { slot, asked, out } => {
+                self.expect_finish(*slot, asked, *out, batch);
+                "cb_finish_walk"
+            }
             Command::Show { slot, asked } | Command::Number { slot, asked } => {
                 self.expect_shown(*slot, *asked, batch);
                 "cb_show"
@@ -137,6 +141,25 @@ impl Desk {
         let walk = &mut walks[slot as usize];
         *walk = left(*walk, answer.map(|()| scene.walks[slot as usize].into()));
         self.expect_images(told(&answer), slot, batch);
+        batch.buffer(Thing::Out, &out);
+    }
+
+    fn expect_finish(&mut self, slot: u8, asked: &[u8], length: u16, batch: &mut Batch) {
+        let Desk { scene, walks, .. } = self;
+        let mut out = vec![FILLING; length as usize];
+        let answer = finish(
+            &scene.station,
+            &scene.seat[..scene.lent],
+            &mut scene.walks[slot as usize],
+            asked,
+            &scene.registers,
+            &scene.stack,
+            &mut out,
+        );
+        let walk = &mut walks[slot as usize];
+        *walk = left(*walk, answer.map(|()| scene.walks[slot as usize].into()));
+        self.expect_images(told(&answer), slot, batch);
+        batch.buffer(Thing::Asked, asked);
         batch.buffer(Thing::Out, &out);
     }
 
