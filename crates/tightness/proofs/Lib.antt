@@ -19,6 +19,7 @@ pub mod OfReturning
 pub mod OfStation
 pub mod OfWalk
 pub mod OfListing
+pub mod OfReading
 pub mod OfFlat
 pub mod OfCCalls
 pub mod OfCallbridge
