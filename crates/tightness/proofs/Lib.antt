@@ -20,6 +20,7 @@ pub mod OfStation
 pub mod OfWalk
 pub mod OfListing
 pub mod OfReading
+pub mod OfWriting
 pub mod OfFlat
 pub mod OfCCalls
 pub mod OfCallbridge
