@@ -19,6 +19,8 @@ pub mod OfReturning
 pub mod OfStation
 pub mod OfWalk
 pub mod OfListing
+pub mod OfReading
+pub mod OfWriting
 pub mod OfFlat
 pub mod OfCCalls
 pub mod OfCallbridge
