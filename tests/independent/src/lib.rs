@@ -31,4 +31,5 @@ pub mod mixture;
 pub mod untidy;
 pub mod texts;
 pub mod lister;
+pub mod reader;
 pub mod vectors;

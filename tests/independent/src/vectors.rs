@@ -1391,16 +1391,26 @@ fn texts(random: &mut Random) -> Writer {
     writer
 }
 
-fn add_text(writer: &mut Writer, text: &[u8], start: Start) {
+/// A text's record.
+pub fn text_part(text: &[u8], start: Start) -> Vec<u8> {
     let read_as = match start {
         Start::Prototype => 0,
         Start::Types => 1,
     };
-    writer.part(&[&[read_as], text].concat());
-    writer.pair.output += &match in_grammar(text, start) {
-        _ if text.len() > LONGEST_TEXT => "too long\n".to_string(),
-        Ok(()) => "accepted\n".to_string(),
-        Err(place) => format!("refused at {place}\n"),
-    };
+    [&(text.len() as u16 + 1).to_le_bytes()[..], &[read_as], text].concat()
+}
+
+/// A text's line.
+pub fn text_answer(text: &[u8], start: Start) -> String {
+    match in_grammar(text, start) {
+        _ if text.len() > LONGEST_TEXT => "too long".to_string(),
+        Ok(()) => "accepted".to_string(),
+        Err(place) => format!("refused at {place}"),
+    }
+}
+
+fn add_text(writer: &mut Writer, text: &[u8], start: Start) {
+    writer.pair.input.extend(text_part(text, start));
+    writer.pair.output += &(text_answer(text, start) + "\n");
     writer.pair.records += 1;
 }
