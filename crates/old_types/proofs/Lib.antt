@@ -1,0 +1,4 @@
+pub mod Cases
+pub mod Sizes
+pub mod Accepted
+pub mod Theorems

@@ -1,0 +1,5 @@
+pub mod Basic
+pub mod Size
+pub mod Conditions
+pub mod Cases
+pub mod Statements
