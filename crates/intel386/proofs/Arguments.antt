@@ -17,12 +17,13 @@ use Rattle.places.specs.declared.Used.{Used}
 use Rattle.places.specs.Shapes.{Shape, Shaped}
 use Rattle.places.specs.Places.{Place, onStack, fours, fits, start, placeIf, nextIf, place, next, after, area}
 use Rattle.places.specs.Statements.{Seated}
-use Rattle.places.proofs.Prefix.{after-append}
+use Rattle.places.specs.Images.{total}
+use Rattle.places.proofs.Prefix.{after-append, total-append}
 use Rattle.places.proofs.Offsets.{after-slotted}
 use Rattle.walk.specs.Offsets.{Narrow}
 use Rattle.old_types.specs.Size.{alignTy}
 use Rattle.old_types.proofs.Sizes.{Small, byOne, byTwo, byFour, small-align, small-is, small-high}
-use Rattle.intel386.specs.Arguments.{shapeAt, shapesFrom, shapes, hidden, before, usedFirst, usedAt}
+use Rattle.intel386.specs.Arguments.{shapeAt, shapesFrom, shapes, hidden, before, usedFirst, usedAt, valueStart}
 
 -- what a shape of the 386 kind is
 pub record Plain (s : Shape) : Type 0 where
@@ -91,6 +92,17 @@ module _ (d : List ℕ) where
 
   pub used-next : (i : ℕ) → usedAt d (i + 1) ≡ next fours (usedAt d i) (shapeAt d i)
   used-next i = used-split i (i + 1) (omega arith) ∙ rw (shapes-single i)
+
+  -- where the values begin
+  pub values-none : valueStart d 0 ≡ 0
+  unfolding valueStart
+  values-none = rw (shapes-none 0)
+
+  pub values-next : (i : ℕ) → valueStart d (i + 1) ≡ valueStart d i + shapeAt d i .size
+  unfolding valueStart
+  values-next i =
+      let q : i + 1 - i ≡ 1 = omega arith in
+      rw (shapes-split i (i + 1) (omega arith), shapes-single i, total-append (shapesFrom d 0 i) (shapeAt d i ∷ [])) (omega arith)
 
   pub first-slotted : usedFirst d .stack .0 % 4 ≡ 0
   first-slotted = by (hidden d)

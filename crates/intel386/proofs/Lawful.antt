@@ -20,7 +20,7 @@ use Rattle.histories.specs.Lawful.{Lawful}
 use Rattle.histories.specs.ConditionC.{ConditionC}
 use Rattle.histories.proofs.Reconnection.{condition-c as lawful-c}
 use Rattle.old_types.specs.Conditions.{typesOrder, typesRefusal}
-use Rattle.old_types.proofs.Accepted.{types-positive, form-accepted, counts, short as form-short}
+use Rattle.old_types.proofs.Orders.{types-positive, accepted-kept, accepted-counts, short as kept-short}
 use Rattle.intel386.specs.Arguments.{shapes}
 use Rattle.intel386.specs.Verdict.{wideArea, checkOrder, verdict}
 use Rattle.intel386.specs.Paper.{intel386}
@@ -72,7 +72,7 @@ module _ (d : List ℕ) (e : verdictOf intel386 d ≡ 0) where
 
   within : intel386 .named d ≤ arguments intel386 d
   unfolding intel386
-  within = rw (paper-arguments d) (counts d (form-accepted d right) .named)
+  within = rw (paper-arguments d) (accepted-counts d (accepted-kept d right) .named)
 
   typed : length (intel386 .types d) ≡ arguments intel386 d
   unfolding intel386
@@ -95,7 +95,7 @@ module _ (d : List ℕ) (e : verdictOf intel386 d ≡ 0) where
   starts = first-slotted d
 
 short : (d : List ℕ) → IsBytes d → verdictOf intel386 d ≡ 0 → length d ≤ 586
-short d b e = form-short d (form-accepted d (right d e)) b
+short d b e = kept-short d (accepted-kept d (right d e)) b
 
 before : intel386 .registers ≤ intel386 .stackAt
 unfolding intel386

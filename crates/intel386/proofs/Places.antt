@@ -45,6 +45,10 @@ pub place-plain : (u : Used) (s : Shape) → Plain s → place fours u s ≡ onS
 unfolding place fits start
 place-plain u s p = rw (p .kinds, four-most (p .align))
 
+start-plain : (u : Used) (s : Shape) → Plain s → start fours u s ≡ raise 4 (u .stack .0)
+unfolding start
+start-plain u s p = rw (four-most (p .align))
+
 -- a multiple of 4 is not raised
 raise-same : (n : ℕ) → n % 4 ≡ 0 → raise 4 n ≡ n
 unfolding raise
@@ -54,6 +58,12 @@ module _ (d : List ℕ) where
   -- each argument stands right behind the one before
   pub offset-is : (i : ℕ) → place fours (usedAt d i) (shapeAt d i) ≡ onStack (usedAt d i .stack .0)
   offset-is i = place-plain (usedAt d i) (shapeAt d i) (shape-plain d i) ∙ ap onStack (raise-same _ (used-slotted d i))
+
+  -- and takes its size, rounded up to 4
+  pub stack-next : (i : ℕ) → usedAt d (i + 1) .stack .0 ≡ raise 4 (usedAt d i .stack .0 + shapeAt d i .size)
+  stack-next i =
+      ap (λ (u : Used). u .stack .0) (used-next d i ∙ next-plain (usedAt d i) (shapeAt d i) (shape-plain d i))
+      ∙ ap (λ (o : ℕ). raise 4 (o + shapeAt d i .size)) (start-plain (usedAt d i) (shapeAt d i) (shape-plain d i) ∙ raise-same _ (used-slotted d i))
 
   pub stacked : (i : ℕ) → Stacked d i
   stacked i = record {
@@ -143,6 +153,12 @@ module _ (d : List ℕ) where
       let still = after-still (shapes d) (usedFirst d) (all-plain d (argumentsIn d) 0) in
       let r = area-rounded fours (usedFirst d) (shapes d) in
       rw (still .strict) at r
+
+  pub area-sixteen : areaOf d ≡ raise 16 (usedAt d (argumentsIn d) .stack .0)
+  unfolding usedAt areaOf area
+  area-sixteen =
+      let still = after-still (shapes d) (usedFirst d) (all-plain d (argumentsIn d) 0) in
+      rw (still .strict)
 
   -- "a single offset"
   pub single-offset : (n p : ℕ) → (standing intel386 d n p .general .0 ≡ 0) × (standing intel386 d n p .vector .0 ≡ 48)

@@ -12,9 +12,16 @@ use Rattle.intel386.specs.Arguments.{areaOf}
 unfoldable pub wideArea : List ℕ → Bool
 wideArea d = ltb 16384 (areaOf d)
 
+-- 1 to 6, 28, 7 to 9
+abbrev pub usesOrder : List ℕ → List Rule
+usesOrder d = typesOrder d ++ rule 8 (wrongUse d) ∷ rule 9 (narrowUnnamed d) ∷ []
+
+unfoldable pub usesRefusal : List ℕ → ℕ
+usesRefusal d = first (usesOrder d)
+
 -- 1 to 6, 28, 7 to 10
 abbrev pub checkOrder : List ℕ → List Rule
-checkOrder d = typesOrder d ++ rule 8 (wrongUse d) ∷ rule 9 (narrowUnnamed d) ∷ rule 10 (wideArea d) ∷ []
+checkOrder d = usesOrder d ++ rule 10 (wideArea d) ∷ []
 
 -- which of them refuses the description, or 0
 unfoldable pub verdict : List ℕ → ℕ

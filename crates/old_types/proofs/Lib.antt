@@ -1,4 +1,9 @@
 pub mod Cases
 pub mod Sizes
-pub mod Accepted
+pub mod Orders
+pub mod Trees
+pub mod Runs
+pub mod Table
+pub mod Judged
+pub mod Questions
 pub mod Theorems

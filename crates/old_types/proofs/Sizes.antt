@@ -1,7 +1,9 @@
 -- The rules for aggregates are document 01's, whatever the table; alignments of the 386 kind are 1, 2 and 4. Assumes nothing.
 use mathlib.Core.Path.{_≡_, refl, ap, ap₂}
 use mathlib.Core.Bool.{Bool, true, false}
-use Prim.Native.Nat.{ℕ, _+_, _*_, _≤_, max}
+use mathlib.Core.List.{List, [], _∷_}
+use Prim.Native.Nat.{ℕ, zero, suc, _+_, _*_, _≤_, _<_, max}
+use lib.ListN.{length, getD}
 use native.Mathlib.Omega.{arith}
 use Rattle.description.specs.declared.Model.{Model}
 use Rattle.units.specs.Raise.{raise}
@@ -38,6 +40,12 @@ mutual
   pub same-end : (m : Model) (ts : Tys) (u : Bool) (x : ℕ) → endBy (tables m) ts u x ≡ endOf64 m ts u x
   same-end m none u x = refl
   same-end m (more t ts) u x = rw (same-align m t, same-size m t) (same-end m ts u (endAfter u x (alignTy64 m t) (sizeTy64 m t)))
+
+-- within a list what is said to stand past its end does not matter
+pub within : (l : List ℕ) (k a b : ℕ) → k < length l → getD l k a ≡ getD l k b
+within [] k a b h = absurd (omega arith)
+within (y ∷ l) zero a b h = refl
+within (y ∷ l) (suc k) a b h = within l k a b (omega arith)
 
 -- ---- alignments of the 386 kind
 
@@ -91,3 +99,15 @@ pub small-high : {a : ℕ} → Small a → a ≤ 4
 small-high byOne = omega arith
 small-high byTwo = omega arith
 small-high byFour = omega arith
+
+pub align-low : (t : Ty) → 1 ≤ alignTy t
+align-low t = small-low (small-align t)
+
+pub align-high : (t : Ty) → alignTy t ≤ 4
+align-high t = small-high (small-align t)
+
+pub aligns-low : (ts : Tys) → 1 ≤ alignsBy old ts
+aligns-low ts = small-low (small-aligns ts)
+
+pub aligns-high : (ts : Tys) → alignsBy old ts ≤ 4
+aligns-high ts = small-high (small-aligns ts)

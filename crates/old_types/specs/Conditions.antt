@@ -1,10 +1,11 @@
 -- When a description of the 386 kind is refused, up to 7: document 02, request 2026-12, "4 still refuses bit 1; after 6, 28 a basic code left out, wherever in
 -- the table", and document 01's conditions, 7 by these sizes. Assumes nothing: these are definitions.
+use mathlib.Core.Path.{_≡_}
 use mathlib.Core.Bool.{Bool, _&&_, _||_}
 use mathlib.Core.List.{List, [], _∷_, _++_}
-use Prim.Native.Nat.{ℕ}
+use Prim.Native.Nat.{ℕ, _<_}
 use lib.Dec.{ltb, eqb}
-use Rattle.description.specs.Description.{typesIn, flagsIn, kindAt, aAt}
+use Rattle.description.specs.Description.{typesIn, flagsIn, kindAt, aAt, Whole}
 use Rattle.form.specs.Search.{firstFrom}
 use Rattle.form.specs.Conditions.{tooShort, wrongMark, wrongVersion, wrongCounts, wrongLength, firstBroken, wrongRecord}
 use Rattle.form.specs.Order.{Rule, rule, first}
@@ -48,13 +49,16 @@ formOrder d =
 unfoldable pub formRefusal : List ℕ → ℕ
 formRefusal d = first (formOrder d)
 
--- and, of the types of what has a form, 28 and 7
-abbrev pub typeRules : List ℕ → List Rule
-typeRules d = rule 28 (leftOut d) ∷ rule 7 (tooLarge d) ∷ []
+-- "after 6, 28": 1 to 6, 28
+abbrev pub keptOrder : List ℕ → List Rule
+keptOrder d = formOrder d ++ rule 28 (leftOut d) ∷ []
+
+unfoldable pub keptRefusal : List ℕ → ℕ
+keptRefusal d = first (keptOrder d)
 
 -- 1 to 6, 28, 7
 abbrev pub typesOrder : List ℕ → List Rule
-typesOrder d = formOrder d ++ typeRules d
+typesOrder d = keptOrder d ++ rule 7 (tooLarge d) ∷ []
 
 unfoldable pub typesRefusal : List ℕ → ℕ
 typesRefusal d = first (typesOrder d)
@@ -62,3 +66,9 @@ typesRefusal d = first (typesOrder d)
 -- the refusal under number n: 6 and 7 name a type (request 2026-01)
 unfoldable pub refusalFor : List ℕ → ℕ → Refusal
 refusalFor d n = refusalBy (firstBroken d) (firstLarge d) n
+
+-- n was judged in order: 6 is not given before the records are there, nor 7 before each obeys the rule of its kind and no code is left out
+pub record Judged (d : List ℕ) (n : ℕ) : Type 0 where
+  pub whole : n ≡ 6 → Whole d
+  pub known : n ≡ 6 → firstBroken d < 64
+  pub kept : n ≡ 7 → keptRefusal d ≡ 0

@@ -13,6 +13,10 @@ use Rattle.layout.proofs.check
 use Rattle.layout.proofs.layout_of
 use Rattle.layout.proofs.needs_stack
 use Rattle.layout.proofs.lay_out
+use Rattle.old_types.proofs.old_extent
+use Rattle.old_types.proofs.old_run_at
+use Rattle.old_types.proofs.old_member_run
+use Rattle.old_types.proofs.kept_refusal
 use Rattle.tidying.proofs.tidy_length
 use Rattle.tidying.proofs.tidy
 use Rattle.moving.proofs.place_values
@@ -92,6 +96,18 @@ total-layout-needs-stack c g = refl
 
 pub total-layout-lay-out : Total lay_out.ended (λ M. lay_out.clauses {M = M})
 total-layout-lay-out c g = refl
+
+pub total-old-types-old-extent : Total old_extent.ended (λ M. old_extent.clauses {M = M})
+total-old-types-old-extent c g = refl
+
+pub total-old-types-old-run-at : Total old_run_at.ended (λ M. old_run_at.clauses {M = M})
+total-old-types-old-run-at c g = refl
+
+pub total-old-types-old-member-run : Total old_member_run.ended (λ M. old_member_run.clauses {M = M})
+total-old-types-old-member-run c g = refl
+
+pub total-old-types-kept-refusal : Total kept_refusal.ended (λ M. kept_refusal.clauses {M = M})
+total-old-types-kept-refusal c g = refl
 
 pub total-tidying-tidy-length : Total tidy_length.ended (λ M. tidy_length.clauses {M = M})
 total-tidying-tidy-length c g = refl

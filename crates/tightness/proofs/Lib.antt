@@ -22,3 +22,4 @@ pub mod OfListing
 pub mod OfFlat
 pub mod OfCCalls
 pub mod OfCallbridge
+pub mod OfOldTypes
