@@ -23,3 +23,4 @@ pub mod OfFlat
 pub mod OfCCalls
 pub mod OfCallbridge
 pub mod OfOldTypes
+pub mod OfOldLayout
