@@ -17,6 +17,7 @@ pub mod listing;
 pub mod returning;
 pub mod tidying;
 pub mod needing;
+pub mod old386;
 
 pub mod random;
 pub mod draft;
