@@ -13,6 +13,13 @@ use Rattle.layout.proofs.check
 use Rattle.layout.proofs.layout_of
 use Rattle.layout.proofs.needs_stack
 use Rattle.layout.proofs.lay_out
+use Rattle.old_types.proofs.old_extent
+use Rattle.old_types.proofs.old_run_at
+use Rattle.old_types.proofs.old_member_run
+use Rattle.old_types.proofs.kept_refusal
+use Rattle.old_layout.proofs.old_check
+use Rattle.old_layout.proofs.old_layout_of
+use Rattle.old_layout.proofs.old_layout_with
 use Rattle.tidying.proofs.tidy_length
 use Rattle.tidying.proofs.tidy
 use Rattle.moving.proofs.place_values
@@ -92,6 +99,27 @@ total-layout-needs-stack c g = refl
 
 pub total-layout-lay-out : Total lay_out.ended (λ M. lay_out.clauses {M = M})
 total-layout-lay-out c g = refl
+
+pub total-old-types-old-extent : Total old_extent.ended (λ M. old_extent.clauses {M = M})
+total-old-types-old-extent c g = refl
+
+pub total-old-types-old-run-at : Total old_run_at.ended (λ M. old_run_at.clauses {M = M})
+total-old-types-old-run-at c g = refl
+
+pub total-old-types-old-member-run : Total old_member_run.ended (λ M. old_member_run.clauses {M = M})
+total-old-types-old-member-run c g = refl
+
+pub total-old-types-kept-refusal : Total kept_refusal.ended (λ M. kept_refusal.clauses {M = M})
+total-old-types-kept-refusal c g = refl
+
+pub total-old-layout-old-check : Total old_check.ended (λ M. old_check.clauses {M = M})
+total-old-layout-old-check c g = refl
+
+pub total-old-layout-old-layout-of : Total old_layout_of.ended (λ M. old_layout_of.clauses {M = M})
+total-old-layout-old-layout-of c g = refl
+
+pub total-old-layout-old-layout-with : Total old_layout_with.ended (λ M. old_layout_with.clauses {M = M})
+total-old-layout-old-layout-with c g = refl
 
 pub total-tidying-tidy-length : Total tidy_length.ended (λ M. tidy_length.clauses {M = M})
 total-tidying-tidy-length c g = refl

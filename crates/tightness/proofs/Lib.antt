@@ -24,3 +24,5 @@ pub mod OfWriting
 pub mod OfFlat
 pub mod OfCCalls
 pub mod OfCallbridge
+pub mod OfOldTypes
+pub mod OfOldLayout

@@ -50,6 +50,8 @@ pub enum Refusal {
     OtherType,
     /// "a hidden address in use of 2^32 or more" (02, 2026-11)
     AddressTooWide,
+    /// "a basic code left out, wherever in the table" (02, 2026-12)
+    CodeLeftOut,
     /// 02, 2026-03: "the separate runs need over 255 members"
     TooManyMembers,
 }
@@ -79,6 +81,7 @@ impl Refusal {
             Refusal::AtEnd => 19,
             Refusal::OtherType => 20,
             Refusal::AddressTooWide => 27,
+            Refusal::CodeLeftOut => 28,
             Refusal::TooManyMembers => 29,
         }
     }

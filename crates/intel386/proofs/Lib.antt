@@ -1,0 +1,6 @@
+pub mod Arguments
+pub mod Places
+pub mod Lawful
+pub mod Moved
+pub mod Cases
+pub mod Theorems

@@ -1,0 +1,6 @@
+pub mod Arguments
+pub mod Verdict
+pub mod Paper
+pub mod Images
+pub mod Statements
+pub mod Cases
