@@ -16,6 +16,7 @@ pub mod OfTidying
 pub mod OfImages
 pub mod OfMoving
 pub mod OfReturning
+pub mod OfByPlan
 pub mod OfStation
 pub mod OfWalk
 pub mod OfListing
