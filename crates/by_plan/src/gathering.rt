@@ -52,7 +52,7 @@ fn turn_pairs(
     }
 }
 
-fn turn_parts(plan: &[u16], first: usize, count: usize, image: &[u8], values: &mut [u8])
+pub fn turn_parts(plan: &[u16], first: usize, count: usize, image: &[u8], values: &mut [u8])
     requires { ⌜ (first + 3 * count ≤ length (now plan)) × (allFit (length (now values)) (length (now image)) (triples (now plan) first count) ≡ true) ⌝ }
     ensures { λ _. ⌜ now (values .exit) ≡ moveAll (now (values .entry)) (now (image .entry)) (turnedAll (triples (now (plan .entry)) first count)) ⌝ }
 {

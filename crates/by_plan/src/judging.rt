@@ -35,7 +35,7 @@ fn pairs_fit(
     true
 }
 
-fn parts_fit(plan: &[u16], first: usize, count: usize, values: usize, image: usize) -> bool
+pub fn parts_fit(plan: &[u16], first: usize, count: usize, values: usize, image: usize) -> bool
     requires { ⌜ first + 3 * count ≤ length (now plan) ⌝ }
     ensures { λ r. ⌜ r ≡ allFit values image (triples (now (plan .entry)) first count) ⌝ }
 {

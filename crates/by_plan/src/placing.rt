@@ -92,7 +92,7 @@ fn move_pairs(
     }
 }
 
-fn move_parts(plan: &[u16], first: usize, count: usize, values: &[u8], image: &mut [u8])
+pub fn move_parts(plan: &[u16], first: usize, count: usize, values: &[u8], image: &mut [u8])
     requires { ⌜ (first + 3 * count ≤ length (now plan)) × (allFit (length (now values)) (length (now image)) (triples (now plan) first count) ≡ true) ⌝ }
     ensures { λ _. ⌜ now (image .exit) ≡ moveAll (now (image .entry)) (now (values .entry)) (triples (now (plan .entry)) first count) ⌝ }
 {

@@ -21,6 +21,8 @@ use Rattle.returning.proofs.put_returned
 use Rattle.returning.proofs.take_returned
 use Rattle.by_plan.proofs.place_by_plan
 use Rattle.by_plan.proofs.gather_by_plan
+use Rattle.by_plan.proofs.put_by_plan
+use Rattle.by_plan.proofs.take_by_plan
 use Rattle.station.proofs.new_station
 use Rattle.station.proofs.attach
 use Rattle.station.proofs.attach_by_value
@@ -118,6 +120,12 @@ total-by-plan-place-by-plan c g = refl
 
 pub total-by-plan-gather-by-plan : Total gather_by_plan.ended (λ M. gather_by_plan.clauses {M = M})
 total-by-plan-gather-by-plan c g = refl
+
+pub total-by-plan-put-by-plan : Total put_by_plan.ended (λ M. put_by_plan.clauses {M = M})
+total-by-plan-put-by-plan c g = refl
+
+pub total-by-plan-take-by-plan : Total take_by_plan.ended (λ M. take_by_plan.clauses {M = M})
+total-by-plan-take-by-plan c g = refl
 
 pub total-station-new-station : Total new_station.ended (λ M. new_station.clauses {M = M})
 total-station-new-station c g = refl
