@@ -19,7 +19,8 @@ use Rattle.plans.specs.Moves.{Move, moveAll, turned, turnedAll, allFit}
 use Rattle.plans.specs.Plans.{valuesIn, areaIn, foursAt, partsAt, pairs, triples, movesIn, wellFormed, usedBy, frameBy, gatherRefusalBy, gatheredBy, gatherAnswerBy, valuesAfterBy}
 use Rattle.plans.proofs.Moves.{moveAll-append}
 use Rattle.by_plan.specs.Fitting.{Fitting}
-use Rattle.by_plan.proofs.Loops.{move-on, move-end, move-rest}
+use Rattle.plans.proofs.Steps.{move-rest}
+use Rattle.by_plan.proofs.Loops.{move-on, move-end}
 use Rattle.by_plan.proofs.Ends.{formed}
 
 pub turn-on : (src image x : List ℕ) (l : List Move) (m : Move) (ms : List Move) → l ≡ m ∷ ms → (all : List ℕ) → moveAll image src (turnedAll l) ≡ all

@@ -1,5 +1,6 @@
 pub mod Orders
 pub mod Moves
+pub mod Steps
 pub mod Codes
 pub mod Cuts
 pub mod Rooms

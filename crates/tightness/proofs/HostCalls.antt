@@ -19,6 +19,7 @@ use Rattle.moving.proofs.place_values
 use Rattle.moving.proofs.gather_values
 use Rattle.returning.proofs.put_returned
 use Rattle.returning.proofs.take_returned
+use Rattle.planning.proofs.plan_of
 use Rattle.by_plan.proofs.place_by_plan
 use Rattle.by_plan.proofs.gather_by_plan
 use Rattle.by_plan.proofs.put_by_plan
@@ -114,6 +115,9 @@ total-returning-put-returned c g = refl
 
 pub total-returning-take-returned : Total take_returned.ended (λ M. take_returned.clauses {M = M})
 total-returning-take-returned c g = refl
+
+pub total-planning-plan-of : Total plan_of.ended (λ M. plan_of.clauses {M = M})
+total-planning-plan-of c g = refl
 
 pub total-by-plan-place-by-plan : Total place_by_plan.ended (λ M. place_by_plan.clauses {M = M})
 total-by-plan-place-by-plan c g = refl

@@ -4,7 +4,8 @@ use mathlib.Core.Path.{_≡_, refl}
 use Prim.Native.Nat.{_+_, _*_, _≤_}
 use native.Mathlib.Omega.{arith}
 use lib.ListN.{length}
-use Rattle.by_plan.proofs.Loops.{pairs-step, pairs-none, fit-end, fit-no-source, fit-no-target, fit-on}
+use Rattle.plans.proofs.Steps.{pairs-step, pairs-none}
+use Rattle.by_plan.proofs.Loops.{fit-end, fit-no-source, fit-no-target, fit-on}
 use Rattle.form.specs.Order.{first}
 use Rattle.plans.specs.Moves.{allFit}
 use Rattle.plans.specs.Plans.{pairs}

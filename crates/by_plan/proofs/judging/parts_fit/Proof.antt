@@ -4,7 +4,8 @@ use mathlib.Core.Path.{_≡_, refl}
 use Prim.Native.Nat.{_+_, _*_, _≤_}
 use native.Mathlib.Omega.{arith}
 use lib.ListN.{length}
-use Rattle.by_plan.proofs.Loops.{triples-step, triples-none, fit-end, fit-no-source, fit-no-target, fit-on}
+use Rattle.plans.proofs.Steps.{triples-step, triples-none}
+use Rattle.by_plan.proofs.Loops.{fit-end, fit-no-source, fit-no-target, fit-on}
 use Rattle.form.specs.Order.{first}
 use Rattle.plans.specs.Moves.{allFit}
 use Rattle.plans.specs.Plans.{triples}
