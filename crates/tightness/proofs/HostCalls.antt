@@ -26,6 +26,11 @@ use Rattle.moving.proofs.place_values
 use Rattle.moving.proofs.gather_values
 use Rattle.returning.proofs.put_returned
 use Rattle.returning.proofs.take_returned
+use Rattle.planning.proofs.plan_of
+use Rattle.by_plan.proofs.place_by_plan
+use Rattle.by_plan.proofs.gather_by_plan
+use Rattle.by_plan.proofs.put_by_plan
+use Rattle.by_plan.proofs.take_by_plan
 use Rattle.station.proofs.new_station
 use Rattle.station.proofs.attach
 use Rattle.station.proofs.attach_by_value
@@ -138,6 +143,21 @@ total-returning-put-returned c g = refl
 
 pub total-returning-take-returned : Total take_returned.ended (λ M. take_returned.clauses {M = M})
 total-returning-take-returned c g = refl
+
+pub total-planning-plan-of : Total plan_of.ended (λ M. plan_of.clauses {M = M})
+total-planning-plan-of c g = refl
+
+pub total-by-plan-place-by-plan : Total place_by_plan.ended (λ M. place_by_plan.clauses {M = M})
+total-by-plan-place-by-plan c g = refl
+
+pub total-by-plan-gather-by-plan : Total gather_by_plan.ended (λ M. gather_by_plan.clauses {M = M})
+total-by-plan-gather-by-plan c g = refl
+
+pub total-by-plan-put-by-plan : Total put_by_plan.ended (λ M. put_by_plan.clauses {M = M})
+total-by-plan-put-by-plan c g = refl
+
+pub total-by-plan-take-by-plan : Total take_by_plan.ended (λ M. take_by_plan.clauses {M = M})
+total-by-plan-take-by-plan c g = refl
 
 pub total-station-new-station : Total new_station.ended (λ M. new_station.clauses {M = M})
 total-station-new-station c g = refl

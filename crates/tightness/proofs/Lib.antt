@@ -16,6 +16,8 @@ pub mod OfTidying
 pub mod OfImages
 pub mod OfMoving
 pub mod OfReturning
+pub mod OfByPlan
+pub mod OfPlanning
 pub mod OfStation
 pub mod OfWalk
 pub mod OfListing
