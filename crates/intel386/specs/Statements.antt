@@ -13,12 +13,14 @@ use Rattle.places.specs.Places.{Place, onStack, fours, place}
 use Rattle.places.specs.Statements.{OnePlaceEach, LowestOffset, RoundedUp}
 use Rattle.moving.specs.Orders.{placeRefusal, gatherRefusal}
 use Rattle.moving.specs.Statements.{PlacesAll, AddressUnseen, GathersPlaced, PlacesGathered, UnusedUnseen, TwelveExactly, NoSharedImage}
+use Rattle.moving.specs.Extending.{BytesStay}
 use Rattle.walk.specs.Orders.{standing}
 use Rattle.histories.specs.ConditionC.{ConditionC}
 use Rattle.intel386.specs.Arguments.{shapeAt, shapes, hidden, usedFirst, usedAt, areaOf, addressesOf}
 use Rattle.intel386.specs.Verdict.{checkOrder, verdict}
 use Rattle.intel386.specs.Paper.{intel386}
 use Rattle.intel386.specs.Images.{old386}
+use Rattle.intel386.specs.Extending.{Extends, Unmoved}
 
 -- where argument i goes
 abbrev pub offsetAt : List ℕ → ℕ → ℕ → Type 0
@@ -60,6 +62,9 @@ pub record OldModules : Type 0 where
   pub twelve-exactly : TwelveExactly old386
   pub twenty-seven-exactly : TwentySevenExactly
   pub no-shared-image : NoSharedImage old386
+  -- an added argument moves nothing (request 2026-13)
+  pub unmoved : (d e : List ℕ) → Extends d e → Unmoved d e
+  pub bytes-stay : BytesStay old386
   -- station and walk: condition C, and "a single offset", the other two standing still
   pub condition-c : ConditionC intel386
   pub single-offset : (d : List ℕ) (n p : ℕ) → (standing intel386 d n p .general .0 ≡ 0) × (standing intel386 d n p .vector .0 ≡ 48)
