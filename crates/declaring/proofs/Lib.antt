@@ -10,3 +10,4 @@ pub mod Examples
 pub mod Named
 pub mod Lengths
 pub mod Laid
+pub mod Shorter

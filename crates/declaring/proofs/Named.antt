@@ -71,6 +71,13 @@ no-array d k s h = by (view (kindAt d k))
     by (v1 e) = absurd (eqb-false (kindAt d k) 1 h e)
     by (v2 two) = rw (at-group d k s two) (group-no-array (eqb (kindAt d k) 3) (tysFrom (tyAt d) d _ _))
 
+-- the first of a description's arguments, written out
+pub take-trees : (d : List ℕ) (n m i : ℕ) → n ≤ m → take n (treesFrom d i m) ≡ treesFrom d i n
+unfolding treesFrom
+take-trees d zero m i h = refl
+take-trees d (suc n) zero i h = absurd (omega arith)
+take-trees d (suc n) (suc m) i h = ap (λ (l : List Ty). tyAt d (argumentAt d i) ∷ l) (take-trees d n m (i + 1) (omega arith))
+
 module _ (d : List ℕ) (right : usesRefusal d ≡ 0) where
   passed-number : (k : ℕ) → wrongNumber d k ≡ false → Passed (tyAt d k)
   unfolding wrongNumber
@@ -96,12 +103,6 @@ module _ (d : List ℕ) (right : usesRefusal d ≡ 0) where
   unfolding declarationOf
   declarable = record { back = back-passed; all = all-passed (namedIn d) 0 (omega (arith, accepted-typed d right .named)) }
 
-  take-trees : (n m i : ℕ) → n ≤ m → take n (treesFrom d i m) ≡ treesFrom d i n
-  unfolding treesFrom
-  take-trees zero m i h = refl
-  take-trees (suc n) zero i h = absurd (omega arith)
-  take-trees (suc n) (suc m) i h = ap (λ (l : List Ty). tyAt d (argumentAt d i) ∷ l) (take-trees n m (i + 1) (omega arith))
-
   back-returned : (r : Returned) → returnedOf (resultOf r) ≡ r
   back-returned void = refl
   back-returned (returned t) = refl
@@ -123,7 +124,7 @@ module _ (d : List ℕ) (right : usesRefusal d ≡ 0) where
       let v : s .variadic ≡ eqb (variadicIn d) 1 = ap (λ (x : Declaration). x .variadic) e in
       let a : s .arguments ≡ treesFrom d 0 (namedIn d) = ap (λ (x : Declaration). x .arguments) e in
       let r : s .result ≡ resultOf (returnedBy d) = ap (λ (x : Declaration). x .returns) e in
-      rw (v, a, r, flag-back (accepted-counts d (accepted-form d (accepted-types d right)) .flags), length-trees d 0 (namedIn d), back-returned (returnedBy d), take-trees (namedIn d) (argumentsIn d) 0 (accepted-typed d right .named)) refl
+      rw (v, a, r, flag-back (accepted-counts d (accepted-form d (accepted-types d right)) .flags), length-trees d 0 (namedIn d), back-returned (returnedBy d), take-trees d (namedIn d) (argumentsIn d) 0 (accepted-typed d right .named)) refl
 
   pub gives-back : GivesBack d
   unfolding writtenText

@@ -1,10 +1,10 @@
 -- A description's named part as a declaration, and a declaration as a call: request 2026-08. Assumes nothing: these are definitions.
 use mathlib.Core.Path.{_≡_}
 use mathlib.Core.List.{List}
-use Prim.Native.Nat.{ℕ, _≤_, _<_}
+use Prim.Native.Nat.{ℕ, _+_, _≤_, _<_}
 use lib.Dec.{eqb}
-use lib.ListN.{take}
-use Rattle.description.specs.Description.{variadicIn, modelIn, namedIn, argumentsIn}
+use lib.ListN.{take, set}
+use Rattle.description.specs.Description.{variadicIn, modelIn, namedIn, argumentsIn, argumentStart}
 use Rattle.layout.specs.Arguments.{usedAt, returnPlace}
 use Rattle.layout.specs.Placements.{placementAt}
 use Rattle.grammar.specs.Machine.{accepted, readText}
@@ -24,6 +24,10 @@ resultOf (returned t) = read.gives t
 -- "a description's named part": of the arguments the first N; A = N
 unfoldable pub namedPart : Call → Call
 namedPart c = record { flags = c .flags; named = c .named; returns = c .returns; arguments = take (c .named) (c .arguments) }
+
+-- the same as a description: byte 8 is N, and the arguments behind the named ones are left off
+unfoldable pub namedBytes : List ℕ → List ℕ
+namedBytes d = take (argumentStart d + namedIn d) (set d 8 (namedIn d))
 
 -- as a declaration
 unfoldable pub declarationOf : List ℕ → Declaration
