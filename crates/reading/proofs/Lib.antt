@@ -4,3 +4,4 @@ pub mod Takers
 pub mod Spelling
 pub mod Steps
 pub mod Answers
+pub mod Digits

@@ -77,14 +77,14 @@ module _ (text : List ℕ) (start end : ℕ) (s : List ℕ) (inside : end ≤ le
   pub is-same : (n : ℕ) (b : Bool) → n ≡ length s → n ≡ end - start → b ≡ begins (slice start end text) s → b ≡ same s (slice start end text)
   is-same n b e h q = q ∙ same-begins (slice start end text) s (omega (arith, length-slice start end text inside))
 
-is-digit : (c : Class) → classCode c ≡ 2 → isDigit c ≡ true
+pub is-digit : (c : Class) → classCode c ≡ 2 → isDigit c ≡ true
 is-digit blank h = absurd (omega arith)
 is-digit letter h = absurd (omega arith)
 is-digit digit h = refl
 is-digit dot h = absurd (omega arith)
 is-digit alone h = absurd (omega arith)
 
-no-digit : (c : Class) → (classCode c ≡ 2 → ⊥) → isDigit c ≡ false
+pub no-digit : (c : Class) → (classCode c ≡ 2 → ⊥) → isDigit c ≡ false
 no-digit blank h = refl
 no-digit letter h = refl
 no-digit digit h = absurd (h refl)

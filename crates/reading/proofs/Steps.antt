@@ -53,7 +53,7 @@ pub close-ends : (w ns : List ℕ) (r : ℕ) (b : List ℕ) (x : Bool) → Leads
 close-ends w ns r b x h z q = closed-ends (flush declarations w ns []) r b x h z q
 
 -- one byte more
-slice-snoc : (f t : ℕ) (l : List ℕ) → f ≤ t → t < length l → slice f (t + 1) l ≡ slice f t l ++ (getD l t 0 ∷ [])
+pub slice-snoc : (f t : ℕ) (l : List ℕ) → f ≤ t → t < length l → slice f (t + 1) l ≡ slice f t l ++ (getD l t 0 ∷ [])
 slice-snoc f t l h k =
     let z : t + 1 ≡ suc t = omega arith in
     rw z (ap (λ (x : List ℕ). drop f x) (take-suc l t 0 k) ∙ drop-append-le f (take t l) (getD l t 0 ∷ []) (omega (arith, length-take-le t l (omega arith))))

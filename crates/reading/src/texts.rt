@@ -53,12 +53,12 @@ fn some_fixed(stack: &[u8; 16400], depth: usize, text: &[u8], start: usize, end:
     false
 }
 
-// Whether they are a number, and one may come next.
-fn number_fits(stack: &[u8; 16400], depth: usize, text: &[u8], start: usize, end: usize) -> bool
-    requires { ⌜ (depth ≤ 16400) × (start < end) × (end ≤ length (now text)) ⌝ }
-    ensures { λ r. ⌜ r ≡ (isNumber (slice start end (now (text .entry))) && live (feed declarations (tops (now (stack .entry)) depth) 0)) ⌝ }
+// Whether they are a number, as was found out, and one may come next.
+fn number_fits(stack: &[u8; 16400], depth: usize, number: bool) -> bool
+    requires { ⌜ depth ≤ 16400 ⌝ }
+    ensures { λ r. ⌜ r ≡ (number && live (feed declarations (tops (now (stack .entry)) depth) 0)) ⌝ }
 {
-    if tokens::is_number(text, start, end) {
+    if number {
         return symbols::may_come(stack, depth, 0);
     }
     false
@@ -75,12 +75,19 @@ fn name_fits(stack: &[u8; 16400], depth: usize, text: &[u8], start: usize, end: 
     false
 }
 
-// Whether they begin a token that may come next.
-fn could(stack: &[u8; 16400], depth: usize, text: &[u8], start: usize, end: usize) -> bool
-    requires { ⌜ (depth ≤ 16400) × (start < end) × (end ≤ length (now text)) ⌝ }
+// Whether they begin a token that may come next, where it is told whether they are a number.
+fn could(
+    stack: &[u8; 16400],
+    depth: usize,
+    text: &[u8],
+    start: usize,
+    end: usize,
+    number: bool,
+) -> bool
+    requires { ⌜ (depth ≤ 16400) × (start < end) × (end ≤ length (now text)) × (number ≡ isNumber (slice start end (now text))) ⌝ }
     ensures { λ r. ⌜ r ≡ possible declarations (tops (now (stack .entry)) depth) (slice start end (now (text .entry))) ⌝ }
 {
-    if number_fits(stack, depth, text, start, end) {
+    if number_fits(stack, depth, number) {
         return true;
     }
     if name_fits(stack, depth, text, start, end) {
@@ -101,14 +108,22 @@ fn end_token(stack: &mut [u8; 16400], depth: usize, text: &[u8], start: usize, i
     symbols::lead(stack, depth, k)
 }
 
-// One byte more.
-fn read_byte(stack: &mut [u8; 16400], depth: usize, text: &[u8], start: usize, i: usize) -> Standing
-    requires { ⌜ (depth ≤ 6 + 4 * start) × (start ≤ i) × (i < length (now text)) × (length (now text) ≤ 4096) ⌝ }
+// One byte more, where it is told whether the token before it is a number so far.
+fn read_byte(
+    stack: &mut [u8; 16400],
+    depth: usize,
+    text: &[u8],
+    start: usize,
+    i: usize,
+    number: bool,
+) -> Standing
+    requires { ⌜ (depth ≤ 6 + 4 * start) × (start ≤ i) × (i < length (now text)) × (length (now text) ≤ 4096) × (number ≡ isNumber (slice start i (now text))) ⌝ }
     ensures { λ r. ⌜ Holds (now (text .entry)) (i + 1) (step declarations (at (slice start i (now (text .entry))) (tops (now (stack .entry)) depth) []) (getD (now (text .entry)) i 0)) (r .alive) (r .depth) (r .start) (now (stack .exit)) ⌝ }
 {
     if tokens::joins_on(text, start, i) {
+        let more = tokens::number_on(text, start, i, number);
         return Standing {
-            alive: could(stack, depth, text, start, i + 1),
+            alive: could(stack, depth, text, start, i + 1, more),
             depth,
             start,
         };
@@ -128,8 +143,9 @@ fn read_byte(stack: &mut [u8; 16400], depth: usize, text: &[u8], start: usize, i
             start: i + 1,
         };
     }
+    let digit = tokens::number_on(text, i, i, false);
     Standing {
-        alive: could(stack, d - 1, text, i, i + 1),
+        alive: could(stack, d - 1, text, i, i + 1, digit),
         depth: d - 1,
         start: i,
     }
@@ -154,12 +170,14 @@ fn read_on(text: &[u8], stack: &mut [u8; 16400], height: usize) -> Reading
 {
     let mut depth = height;
     let mut start = 0;
+    let mut number = false;
     let mut i = 0;
     while i < text.len() {
-        let s = read_byte(stack, depth, text, start, i);
+        let s = read_byte(stack, depth, text, start, i, number);
         if !s.alive {
             return Reading::RefusedAt(i);
         }
+        number = tokens::number_by(text, start, i, s.start, number);
         depth = s.depth;
         start = s.start;
         i += 1;

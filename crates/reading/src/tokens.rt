@@ -3,7 +3,7 @@ use crate::tables;
 ghost use mathlib.Core.Path.{_≡_};
 ghost use mathlib.Core.Bool.{_||_};
 ghost use mathlib.Core.List.{[]};
-ghost use Prim.Native.Nat.{_≤_, _<_};
+ghost use Prim.Native.Nat.{_+_, _≤_, _<_};
 ghost use lib.ListN.{length, getD};
 ghost use lib.Seq.{slice};
 ghost use Rattle.grammar.specs.Tokens.{classOf, isLetter, isDigit, joins};
@@ -61,6 +61,37 @@ pub fn is_number(text: &[u8], start: usize, end: usize) -> bool
         return true;
     }
     start + 1 == end
+}
+
+// Whether the token that begins at start is a number with the byte at i too, where it is told whether it is one before that byte: so no token is looked through for each of its bytes.
+pub fn number_on(text: &[u8], start: usize, i: usize, number: bool) -> bool
+    requires { ⌜ (start ≤ i) × (i < length (now text)) × (number ≡ isNumber (slice start i (now text))) ⌝ }
+    ensures { λ r. ⌜ r ≡ isNumber (slice start (i + 1) (now (text .entry))) ⌝ }
+{
+    if tables::class_of(text[i]) != 2 {
+        return false;
+    }
+    if start == i {
+        return true;
+    }
+    if number {
+        return text[start] != 48;
+    }
+    false
+}
+
+// The same where the token begins at `next` behind that byte.
+pub fn number_by(text: &[u8], start: usize, i: usize, next: usize, number: bool) -> bool
+    requires { ⌜ (start ≤ i) × (i < length (now text)) × (number ≡ isNumber (slice start i (now text))) ⌝ }
+    ensures { λ r. ⌜ r ≡ isNumber (slice next (i + 1) (now (text .entry))) ⌝ }
+{
+    if next == start {
+        return number_on(text, start, i, number);
+    }
+    if i < next {
+        return false;
+    }
+    is_number(text, next, i + 1)
 }
 
 // The kind of the token that they are.

@@ -3,8 +3,9 @@
 use mathlib.Core.Path.{refl, sym, _∙_}
 use mathlib.Core.Bool.{true, false}
 use borrow.Author.Needs.{needs}
+use Rattle.reading.proofs.Digits.{told}
 use Rattle.reading.proofs.Spelling.{could-by}
-use Rattle.grammar.specs.Prototype.{declarations, prototype}
+use Rattle.grammar.specs.Prototype.{declarations}
 use Rattle.reading.proofs.texts.could.Statement.{statement}
 use Rattle.reading.proofs.texts.could.Tie as tie
 
@@ -12,19 +13,19 @@ number-fits-requires : tie.Need-number-fits-requires
 number-fits-requires c κs = search needs
 
 returns : tie.Need-returns
-returns c = could-by declarations _ _ true _ _ (sym (c .before .number-fits .ensures) ∙ c .if1 .taken) refl refl
+returns c = could-by declarations _ _ true _ _ (told _ _ _ _ (c .before .before .before .pre .3) (c .before .number-fits .ensures) ∙ c .if1 .taken) refl refl
 
 name-fits-requires : tie.Need-name-fits-requires
 name-fits-requires c κs = search needs
 
 returns-2 : tie.Need-returns-2
-returns-2 c = could-by declarations _ _ false true _ (sym (c .before .before .before .number-fits .ensures) ∙ c .before .before .if1 .left) (sym (c .before .name-fits .ensures) ∙ c .if2 .taken) refl
+returns-2 c = could-by declarations _ _ false true _ (told _ _ _ _ (c .before .before .before .before .before .pre .3) (c .before .before .before .number-fits .ensures) ∙ c .before .before .if1 .left) (sym (c .before .name-fits .ensures) ∙ c .if2 .taken) refl
 
 some-fixed-requires : tie.Need-some-fixed-requires
 some-fixed-requires c κs = search needs
 
 returns-3 : tie.Need-returns-3
-returns-3 c = could-by declarations _ _ false false _ (sym (c .before .before .before .before .number-fits .ensures) ∙ c .before .before .before .if1 .left) (sym (c .before .before .name-fits .ensures) ∙ c .before .if2 .left) (sym (c .some-fixed .ensures))
+returns-3 c = could-by declarations _ _ false false _ (told _ _ _ _ (c .before .before .before .before .before .before .pre .3) (c .before .before .before .before .number-fits .ensures) ∙ c .before .before .before .if1 .left) (sym (c .before .before .name-fits .ensures) ∙ c .before .if2 .left) (sym (c .some-fixed .ensures))
 
 pub could-spec : {M : Type 1} → statement M
 could-spec =
