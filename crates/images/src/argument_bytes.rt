@@ -14,7 +14,7 @@ ghost use Rattle.addresses.specs.Addresses.{run, gather, scatter};
 ghost use Rattle.places.specs.Recorded.{placeOf};
 
 // Where a register's first eightbyte begins in the register image.
-fn address_of(register: Register) -> Bytes
+pub fn address_of(register: Register) -> Bytes
     requires { ⌜ Known register ⌝ }
     ensures { λ r. ⌜ r .0 ≡ addressOf register ⌝ }
 {

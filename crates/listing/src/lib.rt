@@ -1,6 +1,9 @@
 // The lister's text (document 01, "The lister"; document 02, request 2026-07), written into a lent buffer. A record's line has at most 69 bytes and the three
 // other lines together 124, so that with 64 records no listing is over 4,540.
 
+pub use text::put;
+pub use text::put_decimal;
+
 mod text; // text written into a lent buffer, word after word
 mod place_writing; // the words of a register and of a place, written
 mod line_writing; // each line, written

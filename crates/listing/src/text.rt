@@ -33,7 +33,7 @@ pub fn put_digit(out: &mut [u8; 8192], at: usize, n: usize) -> usize
 }
 
 // A number in decimal digits.
-fn put_decimal(out: &mut [u8; 8192], at: usize, n: usize) -> usize
+pub fn put_decimal(out: &mut [u8; 8192], at: usize, n: usize) -> usize
     requires { ⌜ at + length (decimal n) ≤ 8192 ⌝ }
     ensures { λ r. ⌜ Wrote (length (decimal n)) (now (out .entry)) at (decimal n) (now (out .exit)) r ⌝ }
 {

@@ -2,6 +2,8 @@
 // them.
 pub use calls::put_returned;
 pub use calls::take_returned;
+pub use return_image::length_for;
+pub use return_image::parts_of;
 
 mod return_image; // a value into the return images and out again
 mod refusals; // 11 and 12

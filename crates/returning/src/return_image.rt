@@ -124,7 +124,7 @@ fn parts_in(register: Register, size: Bytes) -> Parts
 // ---- putting and taking
 
 // Which bytes of a value of `size` bytes are moved.
-fn parts_of(place: ReturnPlace, size: Bytes) -> Parts
+pub fn parts_of(place: ReturnPlace, size: Bytes) -> Parts
     requires { ⌜ Returnable place (size .0) ⌝ }
     ensures { λ r. ⌜ r ≡ partsOf place (size .0) ⌝ }
 {

@@ -13,12 +13,24 @@ use Rattle.layout.proofs.check
 use Rattle.layout.proofs.layout_of
 use Rattle.layout.proofs.needs_stack
 use Rattle.layout.proofs.lay_out
+use Rattle.old_types.proofs.old_extent
+use Rattle.old_types.proofs.old_run_at
+use Rattle.old_types.proofs.old_member_run
+use Rattle.old_types.proofs.kept_refusal
+use Rattle.old_layout.proofs.old_check
+use Rattle.old_layout.proofs.old_layout_of
+use Rattle.old_layout.proofs.old_layout_with
 use Rattle.tidying.proofs.tidy_length
 use Rattle.tidying.proofs.tidy
 use Rattle.moving.proofs.place_values
 use Rattle.moving.proofs.gather_values
 use Rattle.returning.proofs.put_returned
 use Rattle.returning.proofs.take_returned
+use Rattle.planning.proofs.plan_of
+use Rattle.by_plan.proofs.place_by_plan
+use Rattle.by_plan.proofs.gather_by_plan
+use Rattle.by_plan.proofs.put_by_plan
+use Rattle.by_plan.proofs.take_by_plan
 use Rattle.station.proofs.new_station
 use Rattle.station.proofs.attach
 use Rattle.station.proofs.attach_by_value
@@ -96,6 +108,27 @@ total-layout-needs-stack c g = refl
 pub total-layout-lay-out : Total lay_out.ended (λ M. lay_out.clauses {M = M})
 total-layout-lay-out c g = refl
 
+pub total-old-types-old-extent : Total old_extent.ended (λ M. old_extent.clauses {M = M})
+total-old-types-old-extent c g = refl
+
+pub total-old-types-old-run-at : Total old_run_at.ended (λ M. old_run_at.clauses {M = M})
+total-old-types-old-run-at c g = refl
+
+pub total-old-types-old-member-run : Total old_member_run.ended (λ M. old_member_run.clauses {M = M})
+total-old-types-old-member-run c g = refl
+
+pub total-old-types-kept-refusal : Total kept_refusal.ended (λ M. kept_refusal.clauses {M = M})
+total-old-types-kept-refusal c g = refl
+
+pub total-old-layout-old-check : Total old_check.ended (λ M. old_check.clauses {M = M})
+total-old-layout-old-check c g = refl
+
+pub total-old-layout-old-layout-of : Total old_layout_of.ended (λ M. old_layout_of.clauses {M = M})
+total-old-layout-old-layout-of c g = refl
+
+pub total-old-layout-old-layout-with : Total old_layout_with.ended (λ M. old_layout_with.clauses {M = M})
+total-old-layout-old-layout-with c g = refl
+
 pub total-tidying-tidy-length : Total tidy_length.ended (λ M. tidy_length.clauses {M = M})
 total-tidying-tidy-length c g = refl
 
@@ -113,6 +146,21 @@ total-returning-put-returned c g = refl
 
 pub total-returning-take-returned : Total take_returned.ended (λ M. take_returned.clauses {M = M})
 total-returning-take-returned c g = refl
+
+pub total-planning-plan-of : Total plan_of.ended (λ M. plan_of.clauses {M = M})
+total-planning-plan-of c g = refl
+
+pub total-by-plan-place-by-plan : Total place_by_plan.ended (λ M. place_by_plan.clauses {M = M})
+total-by-plan-place-by-plan c g = refl
+
+pub total-by-plan-gather-by-plan : Total gather_by_plan.ended (λ M. gather_by_plan.clauses {M = M})
+total-by-plan-gather-by-plan c g = refl
+
+pub total-by-plan-put-by-plan : Total put_by_plan.ended (λ M. put_by_plan.clauses {M = M})
+total-by-plan-put-by-plan c g = refl
+
+pub total-by-plan-take-by-plan : Total take_by_plan.ended (λ M. take_by_plan.clauses {M = M})
+total-by-plan-take-by-plan c g = refl
 
 pub total-station-new-station : Total new_station.ended (λ M. new_station.clauses {M = M})
 total-station-new-station c g = refl

@@ -16,10 +16,16 @@ pub mod OfTidying
 pub mod OfImages
 pub mod OfMoving
 pub mod OfReturning
+pub mod OfByPlan
+pub mod OfPlanning
 pub mod OfStation
 pub mod OfWalk
 pub mod OfFinishing
 pub mod OfListing
+pub mod OfReading
+pub mod OfWriting
 pub mod OfFlat
 pub mod OfCCalls
 pub mod OfCallbridge
+pub mod OfOldTypes
+pub mod OfOldLayout

@@ -7,7 +7,10 @@ use denote.Ref.{now}
 use denote.Triple.Entry.{Res}
 use denote.Triple.Clauses.{Lasts}
 use Rattle.tightness.specs.Tight.{Meets, Tight, Admits}
-use Rattle.tightness.proofs.Laws.{bytes, equal, result, settle-parts}
+use Rattle.tightness.proofs.Laws.{bytes, equal, result, settle, settle-parts}
+use Rattle.images.proofs.address_of
+use Rattle.images.proofs.address_of.Met as address-of-met
+use Rattle.images.proofs.address_of.Symbol as address-of-symbol
 use Rattle.images.proofs.place_one
 use Rattle.images.proofs.place_one.Met as place-one-met
 use Rattle.images.proofs.place_one.Symbol as place-one-symbol
@@ -20,6 +23,12 @@ use Rattle.images.proofs.put_address.Symbol as put-address-symbol
 use Rattle.images.proofs.address_in
 use Rattle.images.proofs.address_in.Met as address-in-met
 use Rattle.images.proofs.address_in.Symbol as address-in-symbol
+
+pub meets-images-address-of : Meets address_of.ended (λ M. address_of.clauses {M = M}) address-of-symbol.routine
+meets-images-address-of M = address-of-met.met
+
+pub tight-images-address-of : Tight address_of.ended (λ M. address_of.clauses {M = M})
+tight-images-address-of c r q w v a b = (settle (result address_of.ended c) (a .ensured) (b .ensured) (λ e f i. record { 0 = (e ∙ sym f) i }), refl)
 
 pub meets-images-place-one : Meets place_one.ended (λ M. place_one.clauses {M = M}) place-one-symbol.routine
 meets-images-place-one M = place-one-met.met

@@ -17,6 +17,8 @@ pub mod listing;
 pub mod returning;
 pub mod tidying;
 pub mod needing;
+pub mod declaration;
+pub mod old386;
 
 pub mod random;
 pub mod draft;
@@ -28,5 +30,7 @@ pub mod broken;
 pub mod history;
 pub mod mixture;
 pub mod untidy;
+pub mod texts;
 pub mod lister;
+pub mod reader;
 pub mod vectors;

@@ -3,6 +3,7 @@
 use independent::cases;
 use independent::lister;
 use independent::listing::listing;
+use independent::reader;
 use independent::vectors::all_pairs;
 use std::io::{Read, Write};
 use std::path::Path;
@@ -13,6 +14,8 @@ independent list                    description on standard input, the lister's 
 independent cases                   the lister's case, P1 to P11 and V1 to V3, as the papers print them
 independent lister PROGRAM [--count N] [--seed N]
                                     runs PROGRAM on the cases, on each refusal and on N random inputs
+independent texts PROGRAM [--count N] [--seed N]
+                                    runs PROGRAM, which answers texts as text_vectors does, on N random ones
 independent vectors write DIRECTORY [--seed N]
 independent vectors check DIRECTORY [--seed N]
 ";
@@ -27,6 +30,7 @@ fn main() -> ExitCode {
         ["list"] => print_and_succeed(&listing(&standard_input())),
         ["cases"] => print_cases(),
         ["lister", program, options @ ..] => compare_lister(program, options),
+        ["texts", program, options @ ..] => compare_texts(program, options),
         ["vectors", "write", directory, options @ ..] => write_vectors(directory, options),
         ["vectors", "check", directory, options @ ..] => check_vectors(directory, options),
         ["help"] | ["--help"] => print_and_succeed(HELP),
@@ -77,6 +81,21 @@ fn compare_lister(program: &str, options: &[&str]) -> ExitCode {
     println!(
         "lister: seed {seed}, {} inputs, {} of them refused, {} different",
         outcome.compared, outcome.refused, outcome.different
+    );
+    if outcome.different == 0 {
+        ExitCode::SUCCESS
+    } else {
+        ExitCode::FAILURE
+    }
+}
+
+fn compare_texts(program: &str, options: &[&str]) -> ExitCode {
+    let seed = seed_of(options);
+    let count = number_of(options, "--count", 1000) as usize;
+    let outcome = reader::compare(program, count, seed);
+    println!(
+        "texts: seed {seed}, {} texts, {} of them accepted, {} different",
+        outcome.compared, outcome.accepted, outcome.different
     );
     if outcome.different == 0 {
         ExitCode::SUCCESS

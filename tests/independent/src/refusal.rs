@@ -52,6 +52,8 @@ pub enum Refusal {
     WrongTypeCount,
     /// "a hidden address in use of 2^32 or more" (02, 2026-11)
     AddressTooWide,
+    /// "a basic code left out, wherever in the table" (02, 2026-12)
+    CodeLeftOut,
     /// 02, 2026-03: "the separate runs need over 255 members"
     TooManyMembers,
 }
@@ -82,6 +84,7 @@ impl Refusal {
             Refusal::OtherType => 20,
             Refusal::WrongTypeCount => 24,
             Refusal::AddressTooWide => 27,
+            Refusal::CodeLeftOut => 28,
             Refusal::TooManyMembers => 29,
         }
     }

@@ -5,6 +5,7 @@ use crate::broken::{broken, random_broken, wholly_mended};
 use crate::cases::{bytes_of_hex, CASES, LISTER};
 use crate::classes::classes_of;
 use crate::damage::{damaged, refusals_and_pairs};
+use crate::declaration::{in_grammar, Start, LONGEST_TEXT};
 use crate::description::ILP32;
 use crate::draft::{in_both_models, Draft};
 use crate::generator::{
@@ -23,6 +24,7 @@ use crate::random::Random;
 use crate::refusal::Told;
 use crate::returning::{putting, taking, value_length, RETURN_IMAGE, RETURN_UPPER};
 use crate::station::Station;
+use crate::texts;
 use crate::tidying::{tidy, tidying};
 use crate::types::{asked, run_range};
 use crate::units::Bytes;
@@ -55,9 +57,9 @@ impl Writer {
     }
 }
 
-/// All seven pairs.
+/// All eight pairs.
 pub fn all_pairs(seed: u64) -> Vec<Pair> {
-    let makers = [questions, layouts, moves, histories, listings, returns, tidies];
+    let makers = [questions, layouts, moves, histories, listings, returns, tidies, texts];
     let numbered = makers.iter().enumerate();
     let made = numbered.map(|(index, make)| {
         let mut random = Random::new(seed.wrapping_add(index as u64));
@@ -1513,4 +1515,100 @@ pub fn tidy_text(bytes: &[u8], room: usize) -> String {
         Err(refusal) => format!("refused {}", Told::from(refusal)),
     };
     format!("{first}\n{second}\n{}\n", word_and_hex("out", &out))
+}
+
+// ---- texts
+
+/// Prototypes that need thought.
+const PROTOTYPES: [&str; 44] = [
+    "",
+    " ",
+    "double level(int key, struct { float a; int b; } p, ...);",
+    "extern const char * const name(void)",
+    "int()",
+    "int (...)",
+    "int f(int, ...)",
+    "int f(int ...)",
+    "int f(int, . . .)",
+    "int f(....)",
+    "int f(void, int)",
+    "int f(void *)",
+    "int f(void a)",
+    "void",
+    "void f(void) ;",
+    "void f(void) ; ;",
+    "unsigned long long int f(signed char c, short unsigned s)",
+    "int long long unsigned f(char unsigned)",
+    "int f(long long long, int)",
+    "int f(long long longer, int)",
+    "int f(short short)",
+    "int f(unsigned float)",
+    "int f(_Complex)",
+    "int f(_Complex long double)",
+    "int f(foo)",
+    "int f(foo *p, bar **const q)",
+    "int f(foo p)",
+    "foo *f(void)",
+    "foo f(void)",
+    "int f(size_t n, uint32_t m, bool b)",
+    "int f(unsigned size_t)",
+    "int f(struct { int a[010]; } s)",
+    "int f(struct { int a[0], b[65536], c[3][4]; } s)",
+    "int f(struct { } s)",
+    "int f(struct t s)",
+    "int f(struct t *s, union { int a; } *p)",
+    "int f(struct t { struct { char c; } inner; void (*done)(int); } s)",
+    "int f(struct { int; } s)",
+    "int f(struct { int a, *b, (*c)(void); } s)",
+    "int f(struct { struct t *a, *b; } s)",
+    "int f(int a[], int b[4][5], int [][2], int (*)(const void *, ...))",
+    "int f(int a[][])",
+    "int f(int /* frames */ n)",
+    "int f(int a) int",
+];
+
+fn texts(random: &mut Random) -> Writer {
+    let mut writer = Writer::new("texts");
+    for start in [Start::Prototype, Start::Types] {
+        for text in PROTOTYPES {
+            add_text(&mut writer, text.as_bytes(), start);
+        }
+        for _ in 0..150 {
+            let text = texts::grown(start, random);
+            add_text(&mut writer, &text, start);
+            let worse = texts::damaged(&text, random);
+            add_text(&mut writer, &worse, start);
+            let worst = texts::damaged(&worse, random);
+            add_text(&mut writer, &worst, start);
+            add_text(&mut writer, &texts::jumbled(random), start);
+        }
+    }
+    for text in texts::extreme() {
+        add_text(&mut writer, &text, Start::Prototype);
+    }
+    writer
+}
+
+/// A text's record.
+pub fn text_part(text: &[u8], start: Start) -> Vec<u8> {
+    let read_as = match start {
+        Start::Prototype => 0,
+        Start::Types => 1,
+    };
+    [&(text.len() as u16 + 1).to_le_bytes()[..], &[read_as], text].concat()
+}
+
+/// A text's line.
+pub fn text_answer(text: &[u8], start: Start) -> String {
+    match in_grammar(text, start) {
+        _ if text.len() > LONGEST_TEXT => "too long".to_string(),
+        Ok(()) => "accepted".to_string(),
+        Err(place) => format!("refused at {place}"),
+    }
+}
+
+fn add_text(writer: &mut Writer, text: &[u8], start: Start) {
+    writer.pair.input.extend(text_part(text, start));
+    writer.pair.output += &(text_answer(text, start) + "\n");
+    writer.pair.records += 1;
 }

@@ -1,0 +1,13 @@
+pub mod Extends
+pub mod Interned
+pub mod Counted
+pub mod Ended
+pub mod Bounds
+pub mod Limits
+pub mod Depth
+pub mod Ways
+pub mod Sentences
+pub mod Examples
+pub mod Rows
+pub mod Adding
+pub mod Runs

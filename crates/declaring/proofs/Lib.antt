@@ -1,0 +1,13 @@
+pub mod Cases
+pub mod Numerals
+pub mod Paths
+pub mod Derived
+pub mod Held
+pub mod Meant
+pub mod Back
+pub mod Length
+pub mod Examples
+pub mod Named
+pub mod Lengths
+pub mod Laid
+pub mod Shorter

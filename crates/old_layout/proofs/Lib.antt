@@ -1,0 +1,4 @@
+pub mod Uses
+pub mod Verdict
+pub mod Arguments
+pub mod Layouts

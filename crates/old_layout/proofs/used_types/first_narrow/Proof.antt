@@ -1,0 +1,69 @@
+-- `first_narrow` meets its contract. The invariant: what is left to search finds what the whole search finds.
+-- Assumes nothing.
+use mathlib.Core.Path.{_≡_, sym, _∙_}
+use Prim.Native.Nat.{_-_, _≤_}
+use native.Mathlib.Omega.{arith}
+use borrow.Author.Needs.{needs}
+use denote.Ref.{now}
+use Rattle.uses.specs.Uses.{narrowArgument, firstNarrow}
+use Rattle.description.specs.Description.{argumentsIn}
+use Rattle.form.specs.Search.{firstFrom}
+use Rattle.form.proofs.Search.{search-stop, search-on, search-end}
+use Rattle.old_layout.proofs.used_types.first_narrow.Statement.{statement}
+use Rattle.old_layout.proofs.used_types.first_narrow.Tie as tie
+
+abbrev Inv-loop : tie.InvT-loop
+Inv-loop d named arguments i₀ i = (firstFrom (narrowArgument d) i (arguments - i) ≡ firstNarrow d) × (i ≤ arguments) × (arguments ≡ argumentsIn d)
+
+abbrev μ-loop : tie.MeasureT-loop
+μ-loop d named arguments i₀ i = arguments - i
+
+byte-at-requires : tie.Need-byte-at-requires Inv-loop μ-loop
+byte-at-requires c κs = search needs
+
+byte-at-requires-2 : tie.Need-byte-at-requires-2 Inv-loop μ-loop
+byte-at-requires-2 c κs = search needs
+
+loop-holds : tie.Need-loop-holds Inv-loop μ-loop
+loop-holds c =
+    let n = c .before .byte-at .ensures .0 in
+    let a = c .byte-at2 .ensures .0 in
+    (rw (n, a), omega (arith, n, a, c .before .before .before .pre .named), a)
+
+argument-at-requires : tie.Need-argument-at-requires Inv-loop μ-loop
+argument-at-requires c κs = (c .before .before .before .before .before .pre .whole, omega (arith, c .loop-test .taken, c .before .loop .inv .2))
+
+is-narrow-requires : tie.Need-is-narrow-requires Inv-loop μ-loop
+is-narrow-requires c κs = (c .before .before .before .before .before .before .pre .whole, rw (c .argument-at .ensures) (c .before .before .before .before .before .before .pre .below (c .before .before .loop .i) (omega (arith, c .before .loop-test .taken, c .before .before .loop .inv .2))))
+
+returns : tie.Need-returns Inv-loop μ-loop
+returns c = sym (sym (c .before .before .before .before .loop .inv .0) ∙ search-stop (narrowArgument (now (c .before .before .before .before .before .before .before .before .args .d))) (c .before .before .before .before .loop .i) _ (c .before .before .before .loop-test .taken) (rw (← c .before .before .argument-at .ensures) (sym (c .before .is-narrow .ensures) ∙ c .if1 .taken)))
+
+add-i : tie.Need-add-i Inv-loop μ-loop
+add-i c = search needs
+
+loop-less : tie.Need-loop-less Inv-loop μ-loop
+loop-less c = search needs
+
+loop-again : tie.Need-loop-again Inv-loop μ-loop
+loop-again c = (search-on (narrowArgument (now (c .before .before .before .before .before .before .before .before .args .d))) (c .before .before .before .before .loop .i) _ (c .before .before .before .loop-test .taken) (rw (← c .before .before .argument-at .ensures) (sym (c .before .is-narrow .ensures) ∙ c .if1 .left)) ∙ c .before .before .before .before .loop .inv .0, omega arith, c .before .before .before .before .loop .inv .2)
+
+returns-2 : tie.Need-returns-2 Inv-loop μ-loop
+returns-2 c = sym (sym (c .before .loop .inv .0) ∙ search-end (narrowArgument (now (c .before .before .before .before .before .args .d))) (c .before .loop .i) _ (c .loop-test .left))
+
+pub first-narrow-spec : {M : Type 1} → statement M
+first-narrow-spec =
+    tie.close
+    (tie.spec
+    Inv-loop
+    μ-loop
+    byte-at-requires
+    byte-at-requires-2
+    loop-holds
+    argument-at-requires
+    is-narrow-requires
+    returns
+    add-i
+    loop-less
+    loop-again
+    returns-2)

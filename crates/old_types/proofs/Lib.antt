@@ -1,0 +1,9 @@
+pub mod Cases
+pub mod Sizes
+pub mod Orders
+pub mod Trees
+pub mod Runs
+pub mod Table
+pub mod Judged
+pub mod Questions
+pub mod Theorems

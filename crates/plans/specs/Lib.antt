@@ -1,0 +1,5 @@
+pub mod Moves
+pub mod Plans
+pub mod Returned
+pub mod Cuts
+pub mod Statements

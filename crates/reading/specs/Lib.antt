@@ -1,0 +1,4 @@
+pub mod Productions
+pub mod Coded
+pub mod Code
+pub mod Statements

@@ -1,0 +1,4 @@
+pub mod Texts
+pub mod Parts
+pub mod Asks
+pub mod After
