@@ -444,7 +444,7 @@ pub enum Start {
 }
 
 /// The tokens of a text: blanks only separate them.
-fn tokens_of(text: &[u8]) -> Vec<Vec<u8>> {
+pub fn tokens_of(text: &[u8]) -> Vec<Vec<u8>> {
     let mut tokens: Vec<Vec<u8>> = Vec::new();
     let mut token: Vec<u8> = Vec::new();
     for &byte in text {

@@ -18,6 +18,7 @@ pub mod returning;
 pub mod tidying;
 pub mod needing;
 pub mod declaration;
+pub mod prototype;
 pub mod old386;
 
 pub mod random;
