@@ -1,6 +1,8 @@
 // What each C call answers and leaves, by value: the call is asked of the library, and of its answer is made the refusal, number 0 for
 // none, and the lent record at exit, which a refusal leaves as it was (document 01, "A refusal returns its number only and writes
 // nothing"). A part is an answer and no lent record: a refusal gives the empty one. `callbridge` lends the record and stores it.
+#![tactic(auto)]
+
 pub use layout_calls::{begin_list, layout_of, place_flat};
 pub use moving_calls::{gather_values, place_values};
 pub use returning_calls::{put_returned, take_returned};
@@ -26,61 +28,61 @@ use types::Extent;
 
 // Of each call the lent record at exit, and the refusal.
 
-#[derive(Drop)]
+#[derive(Clone, Copy)]
 pub struct GivenExtent {
     pub extent: Extent,
     pub refusal: Refusal,
 }
 
-#[derive(Drop)]
+#[derive(Clone, Copy)]
 pub struct GivenClasses {
     pub classes: Classes,
     pub refusal: Refusal,
 }
 
-#[derive(Drop)]
+#[derive(Clone, Copy)]
 pub struct GivenPart {
     pub part: Part,
     pub refusal: Refusal,
 }
 
-#[derive(Drop)]
+#[derive(Clone, Copy)]
 pub struct GivenLayout {
     pub layout: Layout,
     pub refusal: Refusal,
 }
 
-#[derive(Drop)]
+#[derive(Clone, Copy)]
 pub struct GivenNeed {
     pub need: StackNeed,
     pub refusal: Refusal,
 }
 
-#[derive(Drop)]
+#[derive(Clone, Copy)]
 pub struct GivenTidied {
     pub tidied: Tidied,
     pub refusal: Refusal,
 }
 
-#[derive(Drop)]
+#[derive(Clone, Copy)]
 pub struct GivenPlaced {
     pub placed: Placed,
     pub refusal: Refusal,
 }
 
-#[derive(Drop)]
+#[derive(Clone, Copy)]
 pub struct GivenGathered {
     pub gathered: Gathered,
     pub refusal: Refusal,
 }
 
-#[derive(Drop)]
+#[derive(Clone, Copy)]
 pub struct GivenStation {
     pub station: Station,
     pub refusal: Refusal,
 }
 
-#[derive(Drop)]
+#[derive(Clone, Copy)]
 pub struct GivenWalk {
     pub walk: Walk,
     pub refusal: Refusal,
@@ -88,7 +90,7 @@ pub struct GivenWalk {
 
 // Before the first record of a lent list: what `GivenLayout` says, how many records there are, none for a refusal, what is laid
 // out already, and the table that the records are made by.
-#[derive(Drop)]
+#[derive(Clone, Copy)]
 pub struct ListBegun {
     pub layout: Layout,
     pub refusal: Refusal,
@@ -98,7 +100,7 @@ pub struct ListBegun {
 }
 
 // One flat record, and what is laid out after it.
-#[derive(Drop)]
+#[derive(Clone, Copy)]
 pub struct FlatStep {
     pub placement: Placement,
     pub after: Laying,

@@ -1,5 +1,7 @@
 // The C interface (include/callbridge.h): every call of a host, thin over what `c_calls` works out by value. A slice is a pointer and a
 // count, `&mut S` and `&S` are pointers to a struct. specs/Interface says what each call tells.
+#![tactic(auto)]
+
 ghost use Rattle.std.specs.Prelude.{◌≡◌, [], ◌++◌, ◌≤◌, length, drop};
 ghost use Rattle.description.specs.Description.{arguments_in};
 ghost use Rattle.types.specs.Wrong.{refusal_for};

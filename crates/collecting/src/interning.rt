@@ -5,7 +5,7 @@ ghost use Rattle.collecting.specs.Bounded.{keep, raise};
 ghost use Rattle.collecting.specs.Arrays.{row_by, row_at, rows_at, Held, Given, Offered, Standing, Keeps, kept_by};
 
 // How many types and members there are, whether they are too many, and the number of the type that was looked for.
-#[derive(Drop)]
+#[derive(Clone, Copy)]
 pub struct Interned {
     types: usize,
     members: usize,

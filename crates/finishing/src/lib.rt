@@ -1,5 +1,7 @@
 // All the rest at once (document 02, request 2026-05): one call takes the expected type numbers and writes all remaining arguments, packed, to
 // one buffer. The description is laid out once, every type and every length is checked before a byte is written, and the record goes to the end.
+#![tactic(auto)]
+
 ghost use Rattle.std.specs.Prelude.{◌≡◌, [], ◌+◌, ◌-◌, ◌≤◌, length};
 ghost use Rattle.description.specs.Description.{arguments_in};
 ghost use Rattle.classify.specs.Table.{Tabled};

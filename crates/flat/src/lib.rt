@@ -1,5 +1,7 @@
 // The records of the C interface (include/callbridge.h): plain numbers for what the library answers by enums, and what each number means
 // (specs/Numbers, specs/Meanings). No record has a byte that is no field: the reserved ones are written as zero and never looked at.
+#![tactic(auto)]
+
 pub use records::{layout_of, placement_of};
 pub use stack_needs::flat_need;
 pub use stations::{flat_station, flat_walk, station_of, walk_of};
@@ -15,7 +17,7 @@ use units::{Bytes, Registers};
 
 // cb_classes: a number of enum cb_class for each of up to four eightbytes.
 #[repr(C)]
-#[derive(Drop)]
+#[derive(Clone, Copy)]
 pub struct Classes {
     pub first: u8,
     pub second: u8,
@@ -25,7 +27,7 @@ pub struct Classes {
 
 // cb_part: so many bytes of the description or of an image, by enum cb_image.
 #[repr(C)]
-#[derive(Drop)]
+#[derive(Clone, Copy)]
 pub struct Part {
     pub offset: Bytes,
     pub length: Bytes,
@@ -37,7 +39,7 @@ pub struct Part {
 
 // cb_placement: one argument; its registers by enum cb_register, or its stack offset; where its value begins, and 1 where it is named.
 #[repr(C)]
-#[derive(Drop)]
+#[derive(Clone, Copy)]
 pub struct Placement {
     pub size: Bytes,
     pub align: Bytes,
@@ -52,7 +54,7 @@ pub struct Placement {
 
 // Registers used, and where the stack arguments end.
 #[repr(C)]
-#[derive(Drop)]
+#[derive(Clone, Copy)]
 pub struct Reached {
     pub general: Registers,
     pub vector: Registers,
@@ -61,7 +63,7 @@ pub struct Reached {
 
 // cb_layout: a call as a whole; `align` is the area's alignment.
 #[repr(C)]
-#[derive(Drop)]
+#[derive(Clone, Copy)]
 pub struct Layout {
     pub used: Reached,
     pub area: Bytes,
@@ -79,21 +81,21 @@ pub struct Layout {
 
 // cb_placed: the vector count, for al.
 #[repr(C)]
-#[derive(Drop)]
+#[derive(Clone, Copy)]
 pub struct Placed {
     pub vector: Registers,
 }
 
 // cb_gathered: the hidden address, of the arguments or of a returned value, 0 where none is used.
 #[repr(C)]
-#[derive(Drop)]
+#[derive(Clone, Copy)]
 pub struct Gathered {
     pub hidden: u64,
 }
 
 // cb_stack_need: how many arguments were looked at, and 1 where one goes to the stack.
 #[repr(C)]
-#[derive(Drop)]
+#[derive(Clone, Copy)]
 pub struct StackNeed {
     pub looked: usize,
     pub needed: u8,
@@ -104,14 +106,14 @@ pub struct StackNeed {
 
 // cb_tidied: how many bytes the tidy form has.
 #[repr(C)]
-#[derive(Drop)]
+#[derive(Clone, Copy)]
 pub struct Tidied {
     pub length: Bytes,
 }
 
 // cb_station: 0 in `attached` is not attached, any other number is attached.
 #[repr(C)]
-#[derive(Drop)]
+#[derive(Clone, Copy)]
 pub struct Station {
     pub length: Bytes,
     pub number: u32,
@@ -122,7 +124,7 @@ pub struct Station {
 
 // cb_walk: where a walk stands.
 #[repr(C)]
-#[derive(Drop)]
+#[derive(Clone, Copy)]
 pub struct Walk {
     pub position: usize,
     pub general: Bytes,
@@ -133,7 +135,7 @@ pub struct Walk {
 }
 
 // A place in numbers.
-#[derive(Drop)]
+#[derive(Clone, Copy)]
 pub struct Slot {
     pub first: u8,
     pub second: u8,
@@ -141,7 +143,7 @@ pub struct Slot {
 }
 
 // A return place in numbers.
-#[derive(Drop)]
+#[derive(Clone, Copy)]
 pub struct Pair {
     pub first: u8,
     pub second: u8,

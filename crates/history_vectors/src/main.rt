@@ -1,5 +1,7 @@
 // Plays the calls on one station that stand in tests/vectors/histories.in, a line for each; histories.out has what an independent
 // reading of the rules answers. The host's part is free here: seats are spoilt, and stations and walk records made by hand.
+#![tactic(auto)]
+
 ghost use Rattle.std.specs.Prelude.{◌≡◌, true, ◌<◌, ◌≤◌, length};
 
 use form::Refusal;
@@ -12,7 +14,7 @@ use walk::{OpenAnswer, ShownAnswer, Walk};
 const COMMANDS: usize = 100000;
 
 // The station, the walk records, and how many bytes of the seat's room and of each image's are lent.
-#[derive(Drop)]
+#[derive(Clone, Copy)]
 struct State {
     station: Station,
     walks: [Walk; 4],

@@ -1,5 +1,7 @@
 // The three images (document 01, "Images and moving bytes"; document 02, request 2026-06): one argument's bytes into them and out again, and the hidden
 // address in rdi. Where a register lies in its image stands in `argument_bytes` and nowhere else.
+#![tactic(auto)]
+
 pub use argument_bytes::{address_of, gather_one, place_one};
 pub use hidden_address::{address_in, put_address};
 

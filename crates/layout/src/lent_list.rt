@@ -11,7 +11,7 @@ use crate::placements::{Laying, Placement, Step};
 use crate::{LayoutAnswer, deciding, placements};
 
 // Before the first record: the answer, how many records there are, none for a refusal, and what is laid out already.
-#[derive(Drop)]
+#[derive(Clone, Copy)]
 pub struct Begun {
     pub answer: LayoutAnswer,
     pub count: usize,
@@ -19,7 +19,7 @@ pub struct Begun {
 }
 
 // The same, and the table that the records are made by.
-#[derive(Drop)]
+#[derive(Clone, Copy)]
 pub struct Opened {
     pub answer: LayoutAnswer,
     pub count: usize,

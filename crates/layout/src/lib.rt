@@ -1,4 +1,6 @@
 // The layout of a call (document 01, "Places"): the verdict on a description, 1 to 10, what its arguments take together, and one record for each.
+#![tactic(auto)]
+
 pub use deciding::{check, layout_of, layout_with, refusal_in, used_after};
 pub use lent_list::{Begun, begin_with, lay_out};
 pub use needing::{StackAnswer, StackNeed, needs_stack};
@@ -14,7 +16,7 @@ use places::{ReturnPlace, Used};
 use units::Bytes;
 
 // What a description asks of a call as a whole.
-#[derive(Drop)]
+#[derive(Clone, Copy)]
 pub struct Layout {
     // After all arguments: registers used, the hidden address included; vector registers used; the end of the stack arguments.
     pub used: Used,
@@ -32,7 +34,7 @@ pub struct Layout {
     pub named: Used,
 }
 
-#[derive(Drop)]
+#[derive(Clone, Copy)]
 pub enum LayoutAnswer {
     Laid(Layout),
     Refused(Refusal),

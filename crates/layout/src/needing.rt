@@ -9,13 +9,13 @@ use form::Refusal;
 use units::Bytes;
 
 // Whether an argument goes to the stack, and how many arguments were looked at to know it.
-#[derive(Drop)]
+#[derive(Clone, Copy)]
 pub struct StackNeed {
     pub needed: bool,
     pub looked: usize,
 }
 
-#[derive(Drop)]
+#[derive(Clone, Copy)]
 pub enum StackAnswer {
     Known(StackNeed),
     Refused(Refusal),

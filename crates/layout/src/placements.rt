@@ -11,7 +11,7 @@ use types::Extent;
 use units::Bytes;
 
 // One argument: its type's number, size and alignment, and its place; where its value begins in the packed values, and whether it is named (request 2026-07).
-#[derive(Drop)]
+#[derive(Clone, Copy)]
 pub struct Placement {
     pub ty: u8,
     pub size: Bytes,
@@ -22,21 +22,21 @@ pub struct Placement {
 }
 
 // What is used, and how many bytes the values have, after some arguments.
-#[derive(Drop)]
+#[derive(Clone, Copy)]
 pub struct Laying {
     pub used: Used,
     pub values: Bytes,
 }
 
 // The record of one argument, and what is used, and how many bytes the values have, after it.
-#[derive(Drop)]
+#[derive(Clone, Copy)]
 pub struct Step {
     pub placement: Placement,
     pub after: Laying,
 }
 
 // The bytes of one argument, and what is used after it.
-#[derive(Drop)]
+#[derive(Clone, Copy)]
 pub struct Turn {
     pub size: Bytes,
     pub used: Used,

@@ -1,5 +1,7 @@
 // Lays out the descriptions that stand in tests/vectors/layouts.in, each for a list of so many records, and says whether the call needs the
 // stack; layouts.out has what an independent reading of the rules answers.
+#![tactic(auto)]
+
 ghost use Rattle.std.specs.Prelude.{◌≡◌, true, ◌<◌, ◌≤◌, length};
 ghost use Rattle.classify.specs.Table.{Tabled};
 ghost use Rattle.layout.specs.Lists.{begun_of};
@@ -14,7 +16,7 @@ use units::Registers;
 // More than the file has, so that the program ends whatever it reads.
 const RECORDS: usize = 100000;
 
-#[derive(Drop)]
+#[derive(Clone, Copy)]
 enum Length {
     Known(usize),
     End,

@@ -1,4 +1,6 @@
 // kcb-list: lists the description in a file or on standard input (document 01, "The lister"): its layout, or the number of its refusal.
+#![tactic(auto)]
+
 mod input;
 mod telling;
 

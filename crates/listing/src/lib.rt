@@ -1,5 +1,6 @@
 // The lister's text (document 01, "The lister"; document 02, request 2026-07), written into a lent buffer. A record's line has at most 69 bytes and the three
 // other lines together 124, so that with 64 records no listing is over 4,540.
+#![tactic(auto)]
 
 pub use text::{put, put_decimal};
 

@@ -1,4 +1,6 @@
 // Lists the descriptions that stand in tests/vectors/listings.in; listings.out has what an independent reading of the rules prints.
+#![tactic(auto)]
+
 ghost use Rattle.std.specs.Prelude.{◌≡◌, true, ◌<◌, ◌≤◌, length};
 
 use libc::{STDIN_FILENO, STDOUT_FILENO};
@@ -6,7 +8,7 @@ use libc::{STDIN_FILENO, STDOUT_FILENO};
 // More than the file has, so that the program ends whatever it reads.
 const RECORDS: usize = 100000;
 
-#[derive(Drop)]
+#[derive(Clone, Copy)]
 enum Length {
     Known(usize),
     End,

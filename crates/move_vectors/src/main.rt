@@ -1,5 +1,7 @@
 // Places and gathers what stands in tests/vectors/moves.in, six lines for each record; moves.out has what an independent reading of
 // the rules answers.
+#![tactic(auto)]
+
 ghost use Rattle.std.specs.Prelude.{◌≡◌, true, ◌<◌, ◌≤◌, length};
 
 use form::Refusal;
@@ -9,7 +11,7 @@ use moving::{GatherAnswer, PlaceAnswer};
 // More than the file has, so that the program ends whatever it reads.
 const RECORDS: usize = 100000;
 
-#[derive(Drop)]
+#[derive(Clone, Copy)]
 enum Length {
     Known(usize),
     End,

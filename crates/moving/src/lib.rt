@@ -1,4 +1,6 @@
 // Placing and gathering (document 01, "Images and moving bytes"): the bytes of all values, packed, into the three images and out again.
+#![tactic(auto)]
+
 pub use calls::{gather_values, place_values};
 pub use refusals::{broken_byte, wrong_address};
 
@@ -9,14 +11,14 @@ mod calls; // the calls: place_values, gather_values
 use form::Refusal;
 use units::Registers;
 
-#[derive(Drop)]
+#[derive(Clone, Copy)]
 pub enum PlaceAnswer {
     // The vector count, for al.
     Placed(Registers),
     Refused(Refusal),
 }
 
-#[derive(Drop)]
+#[derive(Clone, Copy)]
 pub enum GatherAnswer {
     // The hidden address, 0 where none is used.
     Gathered(u64),

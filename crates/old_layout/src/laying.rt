@@ -9,7 +9,7 @@ use crate::OldReturn;
 use units::Bytes;
 
 // Where the next argument stands, and where its value begins.
-#[derive(Drop)]
+#[derive(Clone, Copy)]
 pub struct Laying {
     pub offset: Bytes,
     pub values: Bytes,

@@ -1,4 +1,6 @@
 // The layout of a call of the 386 kind (request 2026-12): the verdict on a description, 1 to 6, 28 and 7 to 10, and what its arguments take together.
+#![tactic(auto)]
+
 pub use deciding::{old_check, old_layout_of, old_layout_with};
 
 mod used_types; // which types a call may use: 8 and 9, behind 1 to 6, 28 and 7
@@ -9,7 +11,7 @@ use form::Refusal;
 use units::Bytes;
 
 // Where a value is returned; edx has the upper half of an 8-byte integer.
-#[derive(Drop)]
+#[derive(Clone, Copy)]
 pub enum OldReturn {
     Void,
     Memory,
@@ -19,7 +21,7 @@ pub enum OldReturn {
 }
 
 // What a description asks of a call as a whole.
-#[derive(Drop)]
+#[derive(Clone, Copy)]
 pub struct OldLayout {
     // The stack area, rounded up to 16, the hidden address in it.
     pub area: Bytes,
@@ -35,7 +37,7 @@ pub struct OldLayout {
     pub start: Bytes,
 }
 
-#[derive(Drop)]
+#[derive(Clone, Copy)]
 pub enum OldAnswer {
     Laid(OldLayout),
     Refused(Refusal),

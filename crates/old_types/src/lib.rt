@@ -1,5 +1,7 @@
 // The types of the Intel386 supplement (request 2026-12): the sizes and alignments that its basic types have, beside document 01's rules for aggregates, and which codes it leaves out; the
 // refusals 1 to 6, 28 and 7; what may be asked about one type.
+#![tactic(auto)]
+
 pub use asking::{old_extent, old_member_run, old_run_at};
 pub use refusals::{kept_refusal, refusal_for, types_refusal_with};
 

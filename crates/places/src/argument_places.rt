@@ -174,7 +174,7 @@ pub fn place_shape(used: Used, shape: Shape) -> Placed
 }
 
 // What a type asks for: so many general registers, more than there are where its class sends it to the stack, and so many vector ones.
-#[derive(Drop)]
+#[derive(Clone, Copy)]
 struct Asks {
     general: Registers,
     vector: Registers,

@@ -1,5 +1,7 @@
 // The plan of a description (plans/specs/Cuts.antt), written into a lent list: a host makes it once, when a module is attached, and moves by it thousands of
 // times a second.
+#![tactic(auto)]
+
 pub use calls::plan_of;
 
 mod numbers; // numbers of 16 bits
@@ -9,7 +11,7 @@ mod calls; // the call: plan_of
 
 use form::Refusal;
 
-#[derive(Drop)]
+#[derive(Clone, Copy)]
 pub enum PlanAnswer {
     // How many numbers the plan has.
     Planned(usize),

@@ -1,5 +1,7 @@
 // Answers the questions about types that stand in tests/vectors/questions.in, a line each; questions.out has what an independent
 // reading of the rules answers.
+#![tactic(auto)]
+
 ghost use Rattle.std.specs.Prelude.{◌≡◌, true, ◌<◌, ◌≤◌, length};
 
 use classes::Class;
@@ -11,7 +13,7 @@ use units::Bytes;
 // More than the file has, so that the program ends whatever it reads.
 const RECORDS: usize = 100000;
 
-#[derive(Drop)]
+#[derive(Clone, Copy)]
 enum Length {
     Known(usize),
     End,

@@ -1,4 +1,6 @@
 // Reading a C prototype (document 02, request 2026-08) by its grammar: accepted, or the place of the first byte after which no text fits it.
+#![tactic(auto)]
+
 pub use texts::{read_prototype, read_types};
 
 mod tables; // the grammar, as tables of bytes
@@ -7,7 +9,7 @@ mod symbols; // the symbols that are still to come
 mod texts; // a text, byte by byte
 
 // The answer: accepted; 25, more than 4,096 bytes; 26, and the place where the text is refused.
-#[derive(Drop)]
+#[derive(Clone, Copy)]
 pub enum Reading {
     Accepted,
     TooLong,

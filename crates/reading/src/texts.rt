@@ -9,7 +9,7 @@ ghost use Rattle.reading.specs.Code.{tops, LeadsTo, Holds, answer_of, reading_of
 use crate::{Reading, symbols, tables, tokens};
 
 // The state behind some bytes: whether some text fits behind them, how many symbols are to come, and where the token that is being read begins.
-#[derive(Drop)]
+#[derive(Clone, Copy)]
 struct Standing {
     alive: bool,
     depth: usize,

@@ -1,5 +1,7 @@
 // Puts and takes what stands in tests/vectors/returns.in, five lines for each record; returns.out has what an independent reading of
 // the rules answers.
+#![tactic(auto)]
+
 ghost use Rattle.std.specs.Prelude.{◌≡◌, true, ◌<◌, ◌≤◌, length};
 
 use form::Refusal;
@@ -9,7 +11,7 @@ use returning::{PutAnswer, TakeAnswer};
 // More than the file has, so that the program ends whatever it reads.
 const RECORDS: usize = 100000;
 
-#[derive(Drop)]
+#[derive(Clone, Copy)]
 enum Length {
     Known(usize),
     End,

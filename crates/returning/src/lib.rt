@@ -1,5 +1,7 @@
 // Bringing the result back (document 02, request 2026-02): a returned value into the return image and the upper return image (request 2026-06), and out of
 // them.
+#![tactic(auto)]
+
 pub use calls::{put_returned, take_returned};
 pub use return_image::{length_for, parts_of};
 
@@ -9,13 +11,13 @@ mod calls; // the calls: put_returned, take_returned
 
 use form::Refusal;
 
-#[derive(Drop)]
+#[derive(Clone, Copy)]
 pub enum PutAnswer {
     Put,
     Refused(Refusal),
 }
 
-#[derive(Drop)]
+#[derive(Clone, Copy)]
 pub enum TakeAnswer {
     // The hidden address, 0 where none is carried.
     Taken(u64),

@@ -10,7 +10,7 @@ use places::{Register, ReturnPlace};
 use units::Bytes;
 
 // So many bytes of a value, from its byte `from` on, that stand in the image from its byte `to` on, or from 80 on in the upper image.
-#[derive(Drop)]
+#[derive(Clone, Copy)]
 pub struct Part {
     pub from: Bytes,
     pub to: Bytes,
@@ -18,7 +18,7 @@ pub struct Part {
 }
 
 // All bytes of a value that are moved.
-#[derive(Drop)]
+#[derive(Clone, Copy)]
 pub struct Parts {
     pub low: Part,
     pub high: Part,

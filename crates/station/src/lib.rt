@@ -1,5 +1,7 @@
 // The station and its seat (document 01, "Station and walk"): attaching a description, detaching it and changing it for another
 // (request 2026-09), by value and lent.
+#![tactic(auto)]
+
 ghost use Rattle.std.specs.Prelude.{◌≡◌, ◌≤◌, length};
 ghost use Rattle.station.specs.Attachment.{new_station, wrong_seat, seat_of, attach_refusal, attach_station, attach_seat, detach_refusal, detach_station, detach_seat, change_refusal, change_station, change_seat};
 ghost use Rattle.station.specs.Paper.{kcb, refusal_under};
@@ -10,7 +12,7 @@ use units::Bytes;
 
 // What the host keeps of a seat: whether a description is attached there, how long it is, and the number of the last attachment.
 #[repr(C)]
-#[derive(Drop)]
+#[derive(Clone, Copy)]
 pub struct Station {
     pub attached: bool,
     pub length: Bytes,
@@ -51,7 +53,7 @@ fn fill(seat: &mut [u8], d: &[u8])
 // ---- attaching
 
 // The station after an attach, and the refusal, number 0 for none.
-#[derive(Drop)]
+#[derive(Clone, Copy)]
 pub struct Attached {
     pub station: Station,
     pub refusal: Refusal,
@@ -111,7 +113,7 @@ pub fn attach(station: &mut Station, seat: &mut [u8], d: &[u8]) -> Refusal
 // ---- detaching
 
 // The station after a detach, and the refusal, number 0 for none.
-#[derive(Drop)]
+#[derive(Clone, Copy)]
 pub struct Detached {
     pub station: Station,
     pub refusal: Refusal,

@@ -1,5 +1,7 @@
 // Reads the texts that stand in tests/vectors/texts.in as prototypes, or as the types of further arguments; texts.out has what an independent reading of
 // docs/GRAMMAR.md says of each.
+#![tactic(auto)]
+
 ghost use Rattle.std.specs.Prelude.{◌≡◌, true, ◌<◌, ◌≤◌, length};
 
 use libc::{STDIN_FILENO, STDOUT_FILENO};
@@ -8,7 +10,7 @@ use reading::Reading;
 // More than the file has, so that the program ends whatever it reads.
 const RECORDS: usize = 100000;
 
-#[derive(Drop)]
+#[derive(Clone, Copy)]
 enum Length {
     Known(usize),
     End,

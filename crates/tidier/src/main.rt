@@ -1,4 +1,6 @@
 // kcb-tidy: writes the tidy form (document 02, request 2026-03) of the description in a file or on standard input to standard output.
+#![tactic(auto)]
+
 mod input;
 mod telling;
 

@@ -13,7 +13,7 @@ use form::Refusal;
 use units::Bytes;
 
 // How many types and how many members the tidy form has.
-#[derive(Drop)]
+#[derive(Clone, Copy)]
 pub enum Counting {
     Counted(usize, usize),
     Refused(Refusal),

@@ -1,4 +1,6 @@
 // The tidy form of a description (document 02, request 2026-03): only the types that return and arguments reach, equal ones once, each with a run of its own.
+#![tactic(auto)]
+
 pub use calls::{tidy, tidy_length};
 
 mod marking; // a mark for each type, equal for equal ones
@@ -10,7 +12,7 @@ use form::Refusal;
 use units::Bytes;
 
 // How many bytes the tidy form has.
-#[derive(Drop)]
+#[derive(Clone, Copy)]
 pub enum LengthAnswer {
     Length(Bytes),
     Refused(Refusal),

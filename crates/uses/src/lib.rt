@@ -1,4 +1,6 @@
 // What a call may use of a description's types (document 01, "Refusal numbers", 8 and 9), and which of 1 to 9 refuses any bytes.
+#![tactic(auto)]
+
 ghost use Rattle.std.specs.Prelude.{◌≡◌, ◌<◌};
 ghost use Rattle.description.specs.Description.{Whole, types_in, model_in};
 ghost use Rattle.uses.specs.Uses.{wrong_number, wrong_return, first_wrong, narrow, first_narrow, Typed, uses_refusal};

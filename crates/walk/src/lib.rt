@@ -1,4 +1,6 @@
 // The walk over unnamed arguments (document 01, "Station and walk"; 000, section 3.5.7): opened, checked, stepped, and the next argument shown where it lies.
+#![tactic(auto)]
+
 pub use checking::{checked, is_astray};
 pub use fetching::{fetch_at, moved_on};
 pub use opening::open_walk;
@@ -17,7 +19,7 @@ use units::{Bytes, Registers};
 
 // Where a walk stands: the attachment it was opened under, the next argument, gp_offset, fp_offset and the overflow offset.
 #[repr(C)]
-#[derive(Drop)]
+#[derive(Clone, Copy)]
 pub struct Walk {
     pub number: u32,
     pub position: usize,
@@ -26,14 +28,14 @@ pub struct Walk {
     pub overflow: Bytes,
 }
 
-#[derive(Drop)]
+#[derive(Clone, Copy)]
 pub enum OpenAnswer {
     Opened(Walk),
     Refused(Refusal),
 }
 
 // Where an argument is fetched: an offset of the register image for each eightbyte, or one of the stack image.
-#[derive(Drop)]
+#[derive(Clone, Copy)]
 pub enum Fetch {
     One(Bytes),
     Two(Bytes, Bytes),
@@ -41,14 +43,14 @@ pub enum Fetch {
 }
 
 // num_gp and num_fp: the registers that some eightbytes take.
-#[derive(Drop)]
+#[derive(Clone, Copy)]
 pub struct Counts {
     pub general: Registers,
     pub vector: Registers,
 }
 
 // What the argument that a walk stands before asks for, or that the walk does not go on there.
-#[derive(Drop)]
+#[derive(Clone, Copy)]
 pub enum Standing {
     Before(Shape),
     Refused(Refusal),

@@ -14,14 +14,14 @@ use station::Station;
 use units::Bytes;
 
 // So many bytes of an image, from an offset on.
-#[derive(Drop)]
+#[derive(Clone, Copy)]
 pub struct Part {
     pub offset: Bytes,
     pub length: Bytes,
 }
 
 // Which image an argument lies in, in one part, and where; that it lies in more than one; or a refusal.
-#[derive(Drop)]
+#[derive(Clone, Copy)]
 pub enum ShownAnswer {
     Registers(Part),
     Stack(Part),

@@ -40,7 +40,7 @@ pub fn copy_out(fetch: Fetch, size: Bytes, registers: &[u8], stack: &[u8], out: 
 // ---- by value
 
 // The walk after a step, and the refusal, number 0 for none.
-#[derive(Drop)]
+#[derive(Clone, Copy)]
 pub struct Stepped {
     pub walk: Walk,
     pub refusal: Refusal,

@@ -1,4 +1,6 @@
 // Writing a description's named part as a declaration in C (document 02, request 2026-08): its length first, so that 25 is decided before anything is written.
+#![tactic(auto)]
+
 pub use calls::write_declaration;
 
 mod type_text; // the text of a type
