@@ -1,6 +1,6 @@
 -- A plan judged whole, and what placing by it answers and leaves. Assumes nothing.
 use mathlib.Core.Path.{◌≡◌, refl, sym, ap, ap₂, ◌∙◌}
-use mathlib.Core.Bool.{Bool, true, false, cond, not, ◌&&◌, ◌||◌, and-eq-true_iff, or_true}
+use mathlib.Core.Bool.{Bool, true, false, cond, not, ◌&&◌, ◌||◌, and-eq-true_iff, or-true}
 use mathlib.Core.List.{List, [], ◌∷◌, ◌++◌}
 use Prim.Native.Nat.{ℕ, zero, suc, ◌+◌, ◌*◌, ◌-◌, ◌^◌, ◌≤◌, ◌<◌}
 use native.Mathlib.Omega.{arith}
@@ -141,7 +141,7 @@ module _ (plan : List ℕ) where
 
       pub place-image : (b : ℕ) → b ≡ area_in plan → (image ≡ 304 + b → ⊥) → 11 ≡ place_refusal_by plan h vals image
       unfolding place_refusal_by
-      place-image b q n = rw (sym qw ∙ not-false w nw, ne_eqb image (304 + area_in plan) (λ e. n (e ∙ ap (λ (k : ℕ). 304 + k) (sym q))), or_true (not (eqb (length vals) (values_in plan))))
+      place-image b q n = rw (sym qw ∙ not-false w nw, ne_eqb image (304 + area_in plan) (λ e. n (e ∙ ap (λ (k : ℕ). 304 + k) (sym q))), or-true (not (eqb (length vals) (values_in plan))))
 
       module _ (a b : ℕ) (qa : a ≡ values_in plan) (qb : b ≡ area_in plan) (va : length vals ≡ a) (vb : image ≡ 304 + b) (x : Bool) (qx : x ≡ wide_address plan h) where
         pub place-wide : x ≡ true → 27 ≡ place_refusal_by plan h vals image

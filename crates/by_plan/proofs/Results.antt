@@ -1,6 +1,6 @@
 -- Laws of putting and taking by a plan. Assumes nothing.
 use mathlib.Core.Path.{◌≡◌, refl, sym, ap, ap₂, ◌∙◌}
-use mathlib.Core.Bool.{Bool, true, false, cond, not, ◌&&◌, ◌||◌, and-eq-true_iff, or_true}
+use mathlib.Core.Bool.{Bool, true, false, cond, not, ◌&&◌, ◌||◌, and-eq-true_iff, or-true}
 use mathlib.Core.List.{List, [], ◌∷◌, ◌++◌}
 use Prim.Native.Nat.{ℕ, ◌+◌, ◌*◌, ◌≤◌, ◌<◌}
 use native.Mathlib.Omega.{arith}
@@ -68,7 +68,7 @@ module _ (plan : List ℕ) where
 
       pub take-image : (image ≡ 96 → ⊥) → 11 ≡ take_refusal_by plan value image
       unfolding take_refusal_by
-      take-image n = rw (sym qw ∙ not-false w nw, ne_eqb image 96 n, or_true (not (eqb value (returned_in plan))))
+      take-image n = rw (sym qw ∙ not-false w nw, ne_eqb image 96 n, or-true (not (eqb value (returned_in plan))))
 
       pub take-right : (a : ℕ) → a ≡ returned_in plan → value ≡ a → image ≡ 96 → 0 ≡ take_refusal_by plan value image
       unfolding take_refusal_by

@@ -1,6 +1,6 @@
 -- Laws of gathering by a plan. Assumes nothing.
 use mathlib.Core.Path.{◌≡◌, refl, sym, ap, ap₂, ◌∙◌}
-use mathlib.Core.Bool.{Bool, true, false, cond, not, ◌||◌, or_true}
+use mathlib.Core.Bool.{Bool, true, false, cond, not, ◌||◌, or-true}
 use mathlib.Core.List.{List, [], ◌∷◌, ◌++◌, map}
 use Prim.Native.Nat.{ℕ, ◌+◌, ◌*◌, ◌≤◌}
 use native.Mathlib.Omega.{arith}
@@ -73,7 +73,7 @@ module _ (plan : List ℕ) (values image : ℕ) where
 
     pub gather-image : (b : ℕ) → b ≡ area_in plan → (image ≡ 304 + b → ⊥) → 11 ≡ gather_refusal_by plan values image
     unfolding gather_refusal_by
-    gather-image b q n = rw (sym qw ∙ not-false w nw, ne_eqb image (304 + area_in plan) (λ e. n (e ∙ ap (λ (k : ℕ). 304 + k) (sym q))), or_true (not (eqb values (values_in plan))))
+    gather-image b q n = rw (sym qw ∙ not-false w nw, ne_eqb image (304 + area_in plan) (λ e. n (e ∙ ap (λ (k : ℕ). 304 + k) (sym q))), or-true (not (eqb values (values_in plan))))
 
     pub gather-right : (a b : ℕ) → a ≡ values_in plan → b ≡ area_in plan → values ≡ a → image ≡ 304 + b → 0 ≡ gather_refusal_by plan values image
     unfolding gather_refusal_by

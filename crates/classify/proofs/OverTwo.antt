@@ -1,6 +1,6 @@
 -- What the proofs of the functions on aggregates over two eightbytes cite, over plain values (request 2026-06). Assumes nothing.
 use mathlib.Core.Path.{◌≡◌, refl, sym, ap, ◌∙◌}
-use mathlib.Core.Bool.{Bool, true, false, cond, ◌&&◌, ◌||◌, or_false, or_assoc}
+use mathlib.Core.Bool.{Bool, true, false, cond, ◌&&◌, ◌||◌, or-false, or_assoc}
 use mathlib.Core.List.{List}
 use mathlib.Core.Logic.{inl, inr}
 use Prim.Native.Nat.{ℕ, zero, suc, ◌+◌, ◌-◌, ◌/◌, ◌%◌, ◌≤◌, ◌<◌}
@@ -60,7 +60,7 @@ together m ts some = each_fits m ts && (some || some_vector m ts)
 
 pub together-none : (d : List ℕ) (i n : ℕ) (some whole : Bool) → n ≡ 0 → together (model_in d) (tys_from (ty_at d) d i n) some ≡ whole → some ≡ whole
 unfolding tys_from
-together-none d i n some whole e h = sym (or_false some) ∙ (rw e at h)
+together-none d i n some whole e h = sym (or-false some) ∙ (rw e at h)
 
 module _ (d t : List ℕ) (k i n : ℕ) (p : SizedRun (model_in d) d k i n 0 1) (w : Classed d t k) (pos : 1 ≤ n) (member : ℕ) (em : member ≡ member_at d i) where
   is : unpacked_of (get_or t member 0 / 524288) ≡ classes_of (model_in d) (ty_at d member)

@@ -1,6 +1,6 @@
 -- Which aggregates are one vector register, by the classes of their members: what the code goes by (request 2026-06). Assumes nothing.
 use mathlib.Core.Path.{◌≡◌, refl, sym, ap, ap₂, ◌∙◌}
-use mathlib.Core.Bool.{Bool, true, false, cond, not, ◌&&◌, ◌||◌, true≢false, false≢true, and_true, and_false, and_assoc, or_false, or_assoc}
+use mathlib.Core.Bool.{Bool, true, false, cond, not, ◌&&◌, ◌||◌, true≢false, false≢true, and-true, and-false, and_assoc, or-false, or_assoc}
 use mathlib.Core.List.{List, [], ◌∷◌}
 use mathlib.Core.Logic.{◌⊎◌, inl, inr}
 use Prim.Native.Nat.{ℕ, zero, suc, ◌+◌, ◌*◌, ◌%◌, ◌≤◌, ◌<◌, max}
@@ -303,7 +303,7 @@ next-state xs ys cs _ _ (full e) (bad h f v) = rw f (spoilt _ (spoilt_come xs ys
 union-state : (model : Model) (ts : Tys) (x : ℕ) (xs : List Class) (all some : Bool) → AllFilled ts → end_of model ts true x ≤ 32 → State xs all some
     → State (members_at model 4 ts true x 0 xs) (all && each_fits model ts) (some || some_vector model ts)
 unfolding AllFilled end_of members_at offset_after
-union-state model none x xs all some f h s = rw (and_true all, or_false some) s
+union-state model none x xs all some f h s = rw (and-true all, or-false some) s
 union-state model (more t ts) x xs all some f h s =
     let y = end_after true x (align_ty model t) (size_ty model t) in
     let mine = end_member true x (align_ty model t) (size_ty model t) in
@@ -338,7 +338,7 @@ spoilt_none (Memory ∷ xs) h = refl
 state-one : (xs : List Class) (all some : Bool) → State xs all some → one_vector xs ≡ (all && some)
 unfolding same
 state-one xs _ _ (nothing e) = ap one_vector e
-state-one xs _ _ (lower b p e) = ap one_vector e ∙ and_false (same b SseUp)
+state-one xs _ _ (lower b p e) = ap one_vector e ∙ and-false (same b SseUp)
 state-one xs _ _ (full e) = ap one_vector e
 state-one xs _ _ (spoilt some h) = spoilt_none xs h
 
@@ -512,7 +512,7 @@ struct-vector model (more t (more u us)) f e =
     ∙ ap (λ (b : Bool). cond b vector memory)
     (third_none (members_at model 4 (more t (more u us)) false 0 0 (no_classes 4)) (length-members model 4 (more t (more u us)) false 0 0 (no_classes 4) refl)
     (members-third model (more t (more u us)) false 0 (no_classes 4) f w none-third)
-    ∙ sym (ap (λ (b : Bool). each_fits model (more t (more u us)) && b) (all_none model (more t (more u us)) f w) ∙ and_false (each_fits model (more t (more u us)))))
+    ∙ sym (ap (λ (b : Bool). each_fits model (more t (more u us)) && b) (all_none model (more t (more u us)) f w) ∙ and-false (each_fits model (more t (more u us)))))
 
 -- ---- arrays: of one element, as a union of it; of more, none of which can have 32 bytes
 

@@ -42,7 +42,7 @@ fn look_up(d: &[u8], k: usize, at: Bytes, table: &[u32; 64], finished: &[u8; 512
 }
 
 // The classes of type k at offset `at` of the whole: looked up, or worked out.
-#[cycle(classify_elements_classify_members_classify_type_work_out)]
+#[cycle(type_classes)]
 fn classify_type(d: &[u8], k: usize, at: Bytes, table: &[u32; 64], finished: &[u8; 512]) -> u8
     requires { AskType d.now k at.0 × Ready d.now table.now finished.now (k + 1) }
     ensures { pair_in result ≡ classes_at (model_in d.now) 2 (ty_at d.now k) at.0 }
@@ -55,7 +55,7 @@ fn classify_type(d: &[u8], k: usize, at: Bytes, table: &[u32; 64], finished: &[u
 }
 
 // The classes of type k at offset `at` of the whole, from those of the types that it names.
-#[cycle(classify_elements_classify_members_classify_type_work_out)]
+#[cycle(type_classes)]
 pub fn work_out(d: &[u8], k: usize, at: Bytes, table: &[u32; 64], finished: &[u8; 512]) -> u8
     requires { AskType d.now k at.0 × Ready d.now table.now finished.now k }
     ensures { pair_in result ≡ classes_at (model_in d.now) 2 (ty_at d.now k) at.0 }
@@ -76,7 +76,7 @@ pub fn work_out(d: &[u8], k: usize, at: Bytes, table: &[u32; 64], finished: &[u8
 }
 
 // `count` elements of type k, of `size` bytes each, from offset `at` on, merged.
-#[cycle(classify_elements_classify_members_classify_type_work_out)]
+#[cycle(type_classes)]
 fn classify_elements(
     d: &[u8],
     k: usize,
@@ -102,7 +102,7 @@ fn classify_elements(
 }
 
 // `count` members of type k, which is at offset `at`, from place `first` on, merged.
-#[cycle(classify_elements_classify_members_classify_type_work_out)]
+#[cycle(type_classes)]
 fn classify_members(
     d: &[u8],
     k: usize,

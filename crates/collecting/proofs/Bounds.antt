@@ -40,8 +40,8 @@ unfolding members_in
 members-append [] b = omega arith
 members-append (r ∷ a) b = omega (arith, members-append a b)
 
-or_true : (a b c d : ℕ) → a ≤ c → b ≤ d → (ltb 64 a || ltb 255 b) ≡ true → (ltb 64 c || ltb 255 d) ≡ true
-or_true a b c d p q h = by (ltb 64 a) refl h
+or-true : (a b c d : ℕ) → a ≤ c → b ≤ d → (ltb 64 a || ltb 255 b) ≡ true → (ltb 64 c || ltb 255 d) ≡ true
+or-true a b c d p q h = by (ltb 64 a) refl h
   where
     second : ltb 255 b ≡ true → (x : Bool) → (x || ltb 255 d) ≡ true
     second e true = refl
@@ -54,7 +54,7 @@ or_true a b c d p q h = by (ltb 64 a) refl h
 pub beyond-longer : (a b : List Row) → Longer a b → beyond a ≡ true → beyond b ≡ true
 unfolding beyond
 beyond-longer a b p h =
-    or_true (length a) (members_in a) (length b) (members_in b) (longer-length a b p) (omega (arith, ap members_in p.is, members-append a p.later)) h
+    or-true (length a) (members_in a) (length b) (members_in b) (longer-length a b p) (omega (arith, ap members_in p.is, members-append a p.later)) h
 
 not_both : (x : Bool) → x ≡ true → x ≡ false → ⊥
 not_both x p q = true≢false (sym p ∙ q)

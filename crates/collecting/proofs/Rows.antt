@@ -85,17 +85,17 @@ pub row_basic : (s t c d : ℕ) (x y : List ℕ) → same_row (row_by 0 s c x) (
 unfolding row_by same_row
 row_basic s t c d x y = refl
 
-and_true : (b : Bool) → (b && true) ≡ b
-and_true true = refl
-and_true false = refl
+and-true : (b : Bool) → (b && true) ≡ b
+and-true true = refl
+and-true false = refl
 
-and_false : (b : Bool) → (b && false) ≡ false
-and_false true = refl
-and_false false = refl
+and-false : (b : Bool) → (b && false) ≡ false
+and-false true = refl
+and-false false = refl
 
 pub row_array : (s t c d : ℕ) (x y : List ℕ) → c ≡ d → same_row (row_by 1 s c x) (row_by 1 t d y) ≡ eqb s t
 unfolding row_by same_row
-row_array s t c d x y e = rw (eq-eqb c d e) (and_true (eqb s t))
+row_array s t c d x y e = rw (eq-eqb c d e) (and-true (eqb s t))
 
 pub row_group : (k s t c d : ℕ) (x y : List ℕ) → 2 ≤ k → k ≤ 3 → same_row (row_by k s c x) (row_by k t d y) ≡ same_numbers x y
 unfolding row_by same_row
@@ -108,7 +108,7 @@ row_group (suc (suc (suc (suc k)))) s t c d x y h m = absurd (omega arith)
 pub row_counts : (k s t c d : ℕ) (x y : List ℕ) → 1 ≤ k → k ≤ 3 → (c ≡ d → ⊥) → (2 ≤ k → c ≡ length x) → (2 ≤ k → d ≡ length y) → same_row (row_by k s c x) (row_by k t d y) ≡ false
 unfolding row_by same_row
 row_counts zero s t c d x y l m h p q = absurd (omega arith)
-row_counts (suc zero) s t c d x y l m h p q = rw (ne_eqb c d h) (and_false (eqb s t))
+row_counts (suc zero) s t c d x y l m h p q = rw (ne_eqb c d h) (and-false (eqb s t))
 row_counts (suc (suc k)) s t c d x y l m h p q = row_group (suc (suc k)) s t c d x y (omega arith) m ∙ numbers-length x y (λ e. h (p (omega arith) ∙ e ∙ sym (q (omega arith))))
 
 -- ---- all rows

@@ -43,13 +43,13 @@ shape_small n h z k = record {
   is = decimal-small n h;
   first = digit-class n h;
   rest = refl;
-  front = or_true (not (eqb (48 + n) 48));
+  front = or-true (not (eqb (48 + n) 48));
   none = λ e. digit_not n h (k e);
 }
   where
-    or_true : (b : Bool) → (b || true) ≡ true
-    or_true true = refl
-    or_true false = refl
+    or-true : (b : Bool) → (b || true) ≡ true
+    or-true true = refl
+    or-true false = refl
 
 shape_large : (n : ℕ) → 10 ≤ n → Shape true (dec.decimal (n / 10)) → (z : Bool) → Shape z (dec.decimal n)
 shape_large n h s z =

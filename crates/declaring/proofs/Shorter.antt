@@ -51,9 +51,9 @@ unfolding first_from
 first-same f g k zero h = refl
 first-same f g k (suc n) h = ap₂ (λ (b : Bool) (r : ℕ). cond b k r) (h k (omega arith) (omega arith)) (first-same f g (k + 1) n (λ j p q. h j (omega arith) (omega arith)))
 
-and_false : (b : Bool) → (b && false) ≡ false
-and_false true = refl
-and_false false = refl
+and-false : (b : Bool) → (b && false) ≡ false
+and-false true = refl
+and-false false = refl
 
 -- the shapes of the first arguments, and of those behind them
 shapes-parts : (m : Model) (named n k : ℕ) (l : List Ty) → shapes_by m named k (take n l) ++ shapes_by m named (k + n) (drop n l) ≡ shapes_by m named k l
@@ -194,7 +194,7 @@ module _ (d : List ℕ) (right : verdict d ≡ 0) where
         le-ltb (arguments_in (named_bytes d)) (named_in (named_bytes d)) (omega (arith, many-part, named-part)),
         eq-eqb (named_in (named_bytes d)) (arguments_in (named_bytes d)) (omega (arith, many-part, named-part)),
       )
-      (and_false (eqb (variadic_in (named_bytes d)) 0))
+      (and-false (eqb (variadic_in (named_bytes d)) 0))
 
   stated-part : wrong_length (named_bytes d) ≡ false
   unfolding wrong_length

@@ -13,7 +13,7 @@ use Rattle.places.specs.Places.{slot_size}
 use Rattle.station.specs.declared.Station.{Station}
 use Rattle.station.specs.Paper.{Paper, verdict_of, arguments, shape_at, type_at, area_of}
 use Rattle.station.specs.Attachment.{wrong_seat, described}
-use Rattle.station.proofs.Orders.{or_false}
+use Rattle.station.proofs.Orders.{or-false}
 use Rattle.walk.specs.declared.Walk.{Walk}
 use Rattle.walk.specs.Offsets.{read_at, bytes_from}
 use Rattle.walk.specs.Orders.{Ask, offsets_of, standing, other_number, astray, at_end, other_type, wrong_stack, wrong_out, step_refusal, show_refusal}
@@ -76,7 +76,7 @@ module _ (P : Paper) where
       let x : q.registers ≡ a.registers = ap (λ (z : Ask). z.registers) e in
       let y : q.stack ≡ a.stack = ap (λ (z : Ask). z.stack) e in
       let z : q.asked ≡ t = ap (λ (z : Ask). z.asked) e in
-      let k : t ≡ type_at P d w.position = eqb-true t (type_at P d w.position) (not-false _ (or_false (not (eqb t (type_at P d w.position))) _ h.types).0) in
+      let k : t ≡ type_at P d w.position = eqb-true t (type_at P d w.position) (not-false _ (or-false (not (eqb t (type_at P d w.position))) _ h.types).0) in
       let shown : show_refusal P s seat w q ≡ 0 =
       show-rest P s seat w q h.right (ap length x ∙ h.registers) h.busy
       ∙ rest-right P s d w q h.accepted (rw (eq-eqb w.number s.number h.number)) (genuine_right d w h.on)
@@ -99,7 +99,7 @@ module _ (P : Paper) where
         number = e.0 ∙ h.number;
         on = genuine_moves P d w h.on (shaped-at d w.position h.shaped l) h.starts l;
         count = let r = remaining-next P d w l in omega (arith, h.count, r);
-        types = ap (λ (p : ℕ). differs P d p ts) e.1 ∙ (or_false (not (eqb t (type_at P d w.position))) (differs P d (suc w.position) ts) h.types).1;
+        types = ap (λ (p : ℕ). differs P d p ts) e.1 ∙ (or-false (not (eqb t (type_at P d w.position))) (differs P d (suc w.position) ts) h.types).1;
         stack = h.stack;
       }
 

@@ -15,7 +15,7 @@ use Rattle.form.proofs.Order.{first-behind, first-before, first-both, positive-a
 use Rattle.station.specs.declared.Station.{Station}
 use Rattle.station.specs.Paper.{Paper, verdict_of, refusal_under, area_of}
 use Rattle.station.specs.Attachment.{wrong_seat, described}
-use Rattle.station.proofs.Orders.{first_rest, or_false, kept, left}
+use Rattle.station.proofs.Orders.{first_rest, or-false, kept, left}
 use Rattle.station.proofs.Attachments.{under_none, under-high}
 use Rattle.walk.specs.declared.Walk.{Walk}
 use Rattle.walk.specs.Orders.{asking, wrong_registers, other_number, astray, wrong_stack}
@@ -88,7 +88,7 @@ module _ (P : Paper) (s : Station) (d : List ℕ) (w : Walk) (stack asked : List
       let z = first_rest 23 (wrong_count P d w asked) _ y.1 in
       let t = first_rest 19 (other_types P d w asked) _ z.1 in
       let u = first_rest 10 (wrong_stack P d (asking [] stack 0 []) || wrong_room P d w n) 0 t.1 in
-      let v = or_false (wrong_stack P d (asking [] stack 0 [])) (wrong_room P d w n) u.0 in
+      let v = or-false (wrong_stack P d (asking [] stack 0 [])) (wrong_room P d w n) u.0 in
       record {
         number = eqb-true w.number s.number (not-false _ x.0);
         on = y.0;
@@ -188,7 +188,7 @@ module _ (P : Paper) (s : Station) (seat : List ℕ) (w : Walk) (a : AskRest) wh
   finish-passes e =
       let d = described s seat in
       let x = first_rest 10 (wrong_seat s seat || wrong_registers P (step_ask a 0 [])) _ e in
-      let xs = or_false (wrong_seat s seat) (wrong_registers P (step_ask a 0 [])) x.0 in
+      let xs = or-false (wrong_seat s seat) (wrong_registers P (step_ask a 0 [])) x.0 in
       let y = first_rest 12 (not s.attached) _ x.1 in
       let z = first-both (P.order d) (later_order P s d w a.stack a.asked (length a.out)) (P.counted d) y.1 in
       record {

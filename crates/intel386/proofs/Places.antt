@@ -126,11 +126,11 @@ pub record Still (u w : Used) : Type 0 where
   pub strict : w.strict ≡ u.strict
 
 next-still : (u : Used) (s : Shape) → Plain s → Still u (next fours u s)
-next-still u s p = rw (next-plain u s p) (record { general = refl; vector = refl; strict = rw (lt-leb 32 s.align (omega (arith, small-high p.align))) (or_false u.strict) })
+next-still u s p = rw (next-plain u s p) (record { general = refl; vector = refl; strict = rw (lt-leb 32 s.align (omega (arith, small-high p.align))) (or-false u.strict) })
   where
-    or_false : (b : Bool) → (b || false) ≡ b
-    or_false true = refl
-    or_false false = refl
+    or-false : (b : Bool) → (b || false) ≡ b
+    or-false true = refl
+    or-false false = refl
 
 pub after-still : (ss : List Shape) (u : Used) → All Plain ss → Still u (after fours u ss)
 after-still [] u h = record { general = refl; vector = refl; strict = refl }

@@ -35,9 +35,9 @@ use Rattle.questions.specs.Questions.{question_refusal}
 use Rattle.questions.proofs.Questions.{answered-sized}
 use Rattle.promises.specs.Demand2.{class_table, pieces, pieces_at, before, UpAlone, CleansUp, Closes, merged_in, element_offsets, member_classes, classed}
 
-and_false : (b : Bool) → (b && false) ≡ false
-and_false true = refl
-and_false false = refl
+and-false : (b : Bool) → (b && false) ≡ false
+and-false true = refl
+and-false false = refl
 
 -- ---- the table
 
@@ -188,7 +188,7 @@ whole_memory a cs = ap (λ (rest : List Class). Memory ∷ rest) (none-for cs)
 not_ups : (cs : List Class) (i : ℕ) → i < length cs → same (get_or cs i NoClass) SseUp ≡ false → all_ups cs ≡ false
 not_ups [] i l e = absurd (omega arith)
 not_ups (c ∷ cs) zero l e = rw e refl
-not_ups (c ∷ cs) (suc i) l e = rw (not_ups cs i (omega arith) e) (and_false (same c SseUp))
+not_ups (c ∷ cs) (suc i) l e = rw (not_ups cs i (omega arith) e) (and-false (same c SseUp))
 
 all_up : (cs : List Class) → ((i : ℕ) → i < length cs → same (get_or cs i NoClass) SseUp ≡ true) → all_ups cs ≡ true
 all_up [] h = refl
@@ -200,7 +200,7 @@ not_first (c ∷ cs) e = rw e refl
 
 not_later : (cs : List Class) (i : ℕ) → suc i < length cs → same (get_or cs (suc i) NoClass) SseUp ≡ false → one_vector cs ≡ false
 not_later [] i l e = absurd (omega arith)
-not_later (c ∷ cs) i l e = rw (not_ups cs i (omega arith) e) (and_false (same c Sse))
+not_later (c ∷ cs) i l e = rw (not_ups cs i (omega arith) e) (and-false (same c Sse))
 
 none-sse : same NoClass Sse ≡ false
 unfolding same

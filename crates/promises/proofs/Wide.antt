@@ -73,9 +73,9 @@ module _ (d : List ℕ) (accepted : verdict d ≡ 0) (i : ℕ) (there : i < argu
 
 -- ---- what the area is rounded up to
 
-or_true : (b c : Bool) → (b || c) ≡ true → (b ≡ true) ⊎ (c ≡ true)
-or_true true c e = inl refl
-or_true false c e = inr e
+or-true : (b c : Bool) → (b || c) ≡ true → (b ≡ true) ⊎ (c ≡ true)
+or-true true c e = inl refl
+or-true false c e = inr e
 
 true_or : (b c : Bool) → b ≡ true → (b || c) ≡ true
 true_or b c e = rw e refl
@@ -97,7 +97,7 @@ module _ (d : List ℕ) (accepted : verdict d ≡ 0) where
       by true f = inl (sym (ap (λ (w : Used). w.strict) (used-next d i ∙ next_fits eights (used_at d i) (shape_at d i) f)) ∙ e)
       by false f =
           let s = sym (ap (λ (w : Used). w.strict) (used-next d i ∙ next-not eights (used_at d i) (shape_at d i) f)) ∙ e in
-          which (or_true (used_at d i).strict (leb 32 (shape_at d i).align) s)
+          which (or-true (used_at d i).strict (leb 32 (shape_at d i).align) s)
         where
           which : ((used_at d i).strict ≡ true) ⊎ (leb 32 (shape_at d i).align ≡ true) → ((used_at d i).strict ≡ true) ⊎ ((o : ℕ) × ((place_at d i ≡ on_stack o) × (32 ≤ (shape_at d i).align)))
           which (inl t) = inl t

@@ -18,7 +18,7 @@ use Rattle.addresses.proofs.Parts.{scatter-left}
 use Rattle.station.specs.declared.Station.{Station}
 use Rattle.station.specs.Paper.{Paper, verdict_of, refusal_under}
 use Rattle.station.specs.Attachment.{wrong_seat, seat_of, freed, holding, detach_order, detach_refusal, detach_station, detach_seat, attach_order, attach_refusal, attach_station, attach_seat}
-use Rattle.station.proofs.Orders.{kept, left, first_rest, or_false}
+use Rattle.station.proofs.Orders.{kept, left, first_rest, or-false}
 use Rattle.form.specs.Order.{NoneHolds, Answers, Positive}
 use Rattle.form.proofs.Order.{accepts-exactly, refuses-exactly}
 
@@ -31,7 +31,7 @@ pub record Seated (s : Station) (seat : List ℕ) : Type 0 where
 pub right-seat : (s : Station) (seat : List ℕ) → wrong_seat s seat ≡ false → Seated s seat
 unfolding wrong_seat
 right-seat s seat e =
-    let z = or_false (not (eqb (length seat) 586)) (ltb 586 s.length.0) e in
+    let z = or-false (not (eqb (length seat) 586)) (ltb 586 s.length.0) e in
     record { full = eqb-true (length seat) 586 (not-false _ z.0); within = ltb-false 586 s.length.0 z.1 }
 
 -- ---- detach

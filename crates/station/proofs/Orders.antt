@@ -23,6 +23,6 @@ pub first_rest : (n : ℕ) (b : Bool) (m : ℕ) → cond b (suc n) m ≡ 0 → (
 first_rest n true m e = absurd (omega arith)
 first_rest n false m e = (refl, e)
 
-pub or_false : (a b : Bool) → (a || b) ≡ false → (a ≡ false) × (b ≡ false)
-or_false true b e = absurd (true≢false e)
-or_false false b e = (refl, e)
+pub or-false : (a b : Bool) → (a || b) ≡ false → (a ≡ false) × (b ≡ false)
+or-false true b e = absurd (true≢false e)
+or-false false b e = (refl, e)

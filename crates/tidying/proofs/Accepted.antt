@@ -311,16 +311,16 @@ module _ (d : List ℕ) (right : uses_refusal d ≡ 0) where
   unfolding wrong_return
   return_right = by (eqb (return_in d) 255) refl
     where
-      and_false : (b : Bool) → (b && false) ≡ false
-      and_false true = refl
-      and_false false = refl
+      and-false : (b : Bool) → (b && false) ≡ false
+      and-false true = refl
+      and-false false = refl
 
       by : (b : Bool) → eqb (return_in d) 255 ≡ b → wrong_return e ≡ false
       by true q = rw (return_is void (returns-by true q))
       by false q =
           let t = returns-by false q in
           rw (return_is (returned (ty_at d (return_in d))) t, number-right (ty_at d (return_in d)) (return_there (ty_at d (return_in d)) t) (passed (return_in d) (accepted-return d right q) (right-below d (return_in d) (accepted-return d right q))))
-          (and_false (not (eqb (index_of (table_of (call_of d)) (ty_at d (return_in d))) 255)))
+          (and-false (not (eqb (index_of (table_of (call_of d)) (ty_at d (return_in d))) 255)))
 
   eight : wrong_use e ≡ false
   unfolding wrong_use

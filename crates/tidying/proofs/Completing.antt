@@ -207,11 +207,11 @@ module _ (d new : List ℕ) (j k : ℕ) (ask : AskSame d new j k) where
         unfolding same_ty
         same-array e =
             rw (at-array d j sized-j e, at-array d k sized-k (sym kinds ∙ e), counts, eq-eqb (count_at d k) (count_at d k) refl)
-            (by (eqb (get_or new (a_at d j) 0) (get_or new (a_at d k) 0)) refl ∙ and_true (same_ty (ty_at d (a_at d j)) (ty_at d (a_at d k))))
+            (by (eqb (get_or new (a_at d j) 0) (get_or new (a_at d k) 0)) refl ∙ and-true (same_ty (ty_at d (a_at d j)) (ty_at d (a_at d k))))
           where
-            and_true : (b : Bool) → b ≡ (b && true)
-            and_true true = refl
-            and_true false = refl
+            and-true : (b : Bool) → b ≡ (b && true)
+            and-true true = refl
+            and-true false = refl
 
             jl : a_at d j < types_in d
             jl = omega (arith, ask.one, (sized-ruled d j sized-j).element e)

@@ -36,7 +36,7 @@ use Rattle.layout.proofs.Layouts.{laid-accepted, refused-verdict, refused-nonzer
 use Rattle.station.specs.declared.Station.{Station}
 use Rattle.station.specs.Paper.{Paper, kcb, verdict_of, refusal_under, arguments, shape_at}
 use Rattle.station.specs.Attachment.{wrong_seat, described}
-use Rattle.station.proofs.Orders.{or_false}
+use Rattle.station.proofs.Orders.{or-false}
 use Rattle.station.proofs.Attachments.{under-high}
 use Rattle.station.proofs.Kcb.{kcb-verdict, kcb-refusal, kcb-arguments, kcb-area, kcb-shape, kcb-type}
 use Rattle.walk.specs.declared.Walk.{Walk}
@@ -114,10 +114,10 @@ module _ (P : Paper) where
   unfolding astray standing
   astray-not d w e =
       let v = standing P d w.number w.position in
-      let a = or_false (ltb w.position (P.named d)) _ e in
-      let b = or_false (ltb (arguments P d) w.position) _ a.1 in
-      let c = or_false (not (eqb w.general.0 v.general.0)) _ b.1 in
-      let f = or_false (not (eqb w.vector.0 v.vector.0)) (not (eqb w.overflow.0 v.overflow.0)) c.1 in
+      let a = or-false (ltb w.position (P.named d)) _ e in
+      let b = or-false (ltb (arguments P d) w.position) _ a.1 in
+      let c = or-false (not (eqb w.general.0 v.general.0)) _ b.1 in
+      let f = or-false (not (eqb w.vector.0 v.vector.0)) (not (eqb w.overflow.0 v.overflow.0)) c.1 in
       let x = eqb-true w.general.0 v.general.0 (not-false _ c.0) in
       let y = eqb-true w.vector.0 v.vector.0 (not-false _ f.0) in
       let z = eqb-true w.overflow.0 v.overflow.0 (not-false _ f.1) in

@@ -28,7 +28,7 @@ use Rattle.layout.proofs.Layouts.{asks_at}
 use Rattle.station.specs.declared.Station.{Station}
 use Rattle.station.specs.Paper.{Paper, kcb, verdict_of, arguments, shape_at, type_at, used_at, area_of}
 use Rattle.station.specs.Attachment.{wrong_seat, described}
-use Rattle.station.proofs.Orders.{first_rest, or_false}
+use Rattle.station.proofs.Orders.{first_rest, or-false}
 use Rattle.station.proofs.Kcb.{kcb-registers, kcb-verdict, kcb-arguments, kcb-used, kcb-shape}
 use Rattle.walk.specs.declared.Walk.{Walk}
 use Rattle.walk.specs.declared.Fetch.{Fetch}
@@ -58,7 +58,7 @@ module _ (P : Paper) where
   walk-passes s seat w a late e =
       let d = described s seat in
       let x = first_rest 10 (wrong_seat s seat || wrong_registers P a) _ e in
-      let xs = or_false (wrong_seat s seat) (wrong_registers P a) x.0 in
+      let xs = or-false (wrong_seat s seat) (wrong_registers P a) x.0 in
       let y = first_rest 12 (not s.attached) _ x.1 in
       let z = first-both (P.order d)
       (rule 17 (other_number s w) ∷ rule 18 (astray P d w) ∷ rule 19 (at_end P d w) ∷ rule 20 (other_type P d w a) ∷ late) (P.counted d) y.1 in
