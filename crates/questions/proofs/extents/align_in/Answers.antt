@@ -1,0 +1,13 @@
+-- `align_in` meets its contract.
+-- Assumes nothing.
+use mathlib.Core.Path.{ap, ◌∙◌}
+use Rattle.questions.specs.Questions.{refusal_in}
+use Rattle.questions.proofs.extents.align_in.Goals as goal
+
+pub returns-in_default : goal.returns-in_default
+returns-in_default c =
+    let e = c.enum_told-1.given.1 in
+    rw (e) (cc (c.refusal_in.ensures ∙ ap refusal_in e))
+
+pub returns : goal.returns
+returns c = rw c.answer-1.given.1
