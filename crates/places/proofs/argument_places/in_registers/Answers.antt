@@ -10,10 +10,10 @@ take-high-requires c = taken-few _ _ _ c.take-low.ensures (search rules) (search
 
 pub returns-in-Stack : goal.returns-in-Stack
 unfolding fits
-returns-in-Stack c = rw c.enum_told-1.given.1
+returns-in-Stack c = rw c.in-Stack.is
 
 pub returns-in-One : goal.returns-in-One
-returns-in-One c = rw c.kinds-1.given.1 (found-one _ _ c.take-only.result _ c.take-only.ensures c.if_enough.ensures)
+returns-in-One c = rw c.in-One.is (found-one _ _ c.take-only.result _ c.take-only.ensures c.if_enough.ensures)
 
 pub returns-in-Two : goal.returns-in-Two
-returns-in-Two c = rw c.kinds-in-Two-1.given.1 (found-two _ _ _ c.take-low.result c.take-high.result _ c.take-low.ensures c.take-high.ensures c.if_enough-in-Two.ensures)
+returns-in-Two c = rw c.in-Two.is (found-two _ _ _ c.take-low.result c.take-high.result _ c.take-low.ensures c.take-high.ensures c.if_enough-in-Two.ensures)

@@ -4,13 +4,13 @@ use Rattle.places.proofs.Records.{taken-general, taken-vector, taken-wide, taken
 use Rattle.places.proofs.argument_places.take.Goals as goal
 
 pub returns-in-General : goal.returns-in-General
-returns-in-General c = rw c.enum_told-1.given.1 (taken-general _ _ c.one_more.ensures)
+returns-in-General c = rw c.in-General.is (taken-general _ _ c.one_more.ensures)
 
 pub returns-in-Vector : goal.returns-in-Vector
-returns-in-Vector c = rw c.enum_told-in-Vector-1.given.1 (taken-vector _ _ c.one_more-in-Vector.ensures)
+returns-in-Vector c = rw c.in-Vector.is (taken-vector _ _ c.one_more-in-Vector.ensures)
 
 pub returns-in-Upper : goal.returns-in-Upper
-returns-in-Upper c = rw c.enum_told-in-Upper-1.given.1 (taken-upper _ _ c.before_last.ensures)
+returns-in-Upper c = rw c.in-Upper.is (taken-upper _ _ c.before_last.ensures)
 
 pub returns-in-Wide : goal.returns-in-Wide
-returns-in-Wide c = rw c.enum_told-in-Wide-1.given.1 (taken-wide _ _ c.one_more-in-Wide.ensures)
+returns-in-Wide c = rw c.in-Wide.is (taken-wide _ _ c.one_more-in-Wide.ensures)

@@ -10,13 +10,13 @@ pub in_registers-answer-requires : goal.in_registers-answer-requires
 in_registers-answer-requires c = rw c.fresh.ensures (omega arith)
 
 pub returns-in_default : goal.returns-in_default
-returns-in_default c = return_outside _ _ c.kinds_of-kinds.result _ _ c.kinds_of-kinds.ensures (rw c.fresh.ensures at c.in_registers-answer.ensures) c.enum_told-1.given.1 c.outside_registers.ensures
+returns-in_default c = return_outside _ _ c.kinds_of-kinds.result _ _ c.kinds_of-kinds.ensures (rw c.fresh.ensures at c.in_registers-answer.ensures) c.in_default.is c.outside_registers.ensures
 
 pub returns-in-One : goal.returns-in-One
-returns-in-One c = return_registers _ _ c.kinds_of-kinds.result _ _ _ c.kinds_of-kinds.ensures (rw c.fresh.ensures at c.in_registers-answer.ensures) c.answer-1.given.1 (ap place_of c.place-1.given.1)
+returns-in-One c = return_registers _ _ c.kinds_of-kinds.result _ _ _ c.kinds_of-kinds.ensures (rw c.fresh.ensures at c.in_registers-answer.ensures) c.in-Here.is (ap place_of c.in-One.is)
 
 pub returns-in-Two : goal.returns-in-Two
-returns-in-Two c = return_registers _ _ c.kinds_of-kinds.result _ _ _ c.kinds_of-kinds.ensures (rw c.fresh.ensures at c.in_registers-answer.ensures) c.answer-1.given.1 (ap place_of c.place-in-Two-1.given.1)
+returns-in-Two c = return_registers _ _ c.kinds_of-kinds.result _ _ _ c.kinds_of-kinds.ensures (rw c.fresh.ensures at c.in_registers-answer.ensures) c.in-Here.is (ap place_of c.in-Two.is)
 
 pub returns-in-Stack : goal.returns-in-Stack
-returns-in-Stack c = return_never _ _ c.kinds_of-kinds.result _ _ _ _ (rw c.fresh.ensures at c.in_registers-answer.ensures) c.answer-1.given.1 c.enum_told-in-Stack-1.given.1
+returns-in-Stack c = return_never _ _ c.kinds_of-kinds.result _ _ _ _ (rw c.fresh.ensures at c.in_registers-answer.ensures) c.in-Here.is c.in-Stack.is

@@ -3,4 +3,4 @@
 use Rattle.questions.proofs.extents.refusal_in.Goals as goal
 
 pub returns-in-Known : goal.returns-in-Known
-returns-in-Known c = rw c.enum_told-1.given.1 c.refusal_of.ensures
+returns-in-Known c = rw c.in-Known.is c.refusal_of.ensures

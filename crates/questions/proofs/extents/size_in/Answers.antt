@@ -6,8 +6,8 @@ use Rattle.questions.proofs.extents.size_in.Goals as goal
 
 pub returns-in_default : goal.returns-in_default
 returns-in_default c =
-    let e = c.enum_told-1.given.1 in
+    let e = c.in_default.is in
     rw (e) (cc (c.refusal_in.ensures ∙ ap refusal_in e))
 
 pub returns : goal.returns
-returns c = rw c.answer-1.given.1
+returns c = rw c.in-Known.is

@@ -8,20 +8,19 @@ use lib.ListN.{take, drop}
 use Rattle.questions.proofs.member_runs.part_in.Goals as goal
 
 pub overflow_add-end : goal.overflow_add-end
-overflow_add-end c = omega (arith, rw c.run-1.given.1 at c.requires)
+overflow_add-end c = omega (arith, rw c.in-Run.is at c.requires)
 
 pub slice_bounds-result-end : goal.slice_bounds-result-end
-slice_bounds-result-end c = omega (arith, rw c.run-1.given.1 at c.requires)
+slice_bounds-result-end c = omega (arith, rw c.in-Run.is at c.requires)
 
 pub returns-in-Run : goal.returns-in-Run
 returns-in-Run c =
-    let g = c.run-1.given in
     let d = c.args.d.now in
-    rw g.1
-    (ap (λ (k : ℕ). take k (drop g.0.0.0 d)) (add-sub_cancel_left g.0.0.0 g.0.1.0))
+    rw c.in-Run.is
+    (ap (λ (k : ℕ). take k (drop c.in-Run.offset.0 d)) (add-sub_cancel_left c.in-Run.offset.0 c.in-Run.count))
 
 pub returns-in-NoRun : goal.returns-in-NoRun
-returns-in-NoRun c = rw c.enum_told-1.given.1
+returns-in-NoRun c = rw c.in-NoRun.is
 
 pub returns-in-Refused : goal.returns-in-Refused
-returns-in-Refused c = rw c.enum_told-in-Refused-1.given.1
+returns-in-Refused c = rw c.in-Refused.is
