@@ -1,0 +1,17 @@
+-- `write_records` meets its contract. The invariant: the records before j are written, and the run of type j begins at `start`.
+-- Assumes nothing.
+use mathlib.Core.Path.{◌≡◌}
+use Prim.Native.Nat.{◌+◌, ◌-◌, ◌*◌, ◌≤◌}
+use Rattle.tidying.specs.Asks.{Written}
+use Rattle.tidying.specs.Call.{call_of}
+use Rattle.tidying.specs.Numbering.{table_of}
+use Rattle.tidying.specs.Tidy.{tidy_of}
+use Rattle.tidying.proofs.Bytes.{start_of}
+use Rattle.places.specs.Places.{start}
+use Rattle.tidying.proofs.writing.write_records.Given as goal
+
+abbrev pub invariant-loop-j : goal.invariant-loop-j
+invariant-loop-j l = (l.j ≤ l.n) × (l.start ≡ start_of (table_of (call_of l.d)) l.j) × (l.start ≤ 65536 * l.j) × Written (tidy_of (call_of l.d)) (11 + 4 * l.j) l.out
+
+abbrev pub decreases-loop-j : goal.decreases-loop-j
+decreases-loop-j l = l.n - l.j
