@@ -1,0 +1,19 @@
+use mathlib.Core.Path.{refl}
+use mathlib.Core.Bool.{true}
+use native.Mathlib.Omega.{arith}
+use Rattle.plans.proofs.Steps.{triples_step, triples_none, move-room}
+use Rattle.by_plan.proofs.Turns.{turn_on, turn_end, turn_rest}
+use Rattle.plans.specs.Plans.{triples}
+use Rattle.by_plan.proofs.gathering.turn_parts.Goals as goal
+
+pub loop-left-init : goal.loop-left-init
+loop-left-init c = (refl, (c.requires.1, (refl, omega (arith, c.requires.0))))
+
+pub copy_part-requires : goal.copy_part-requires
+copy_part-requires c = let r = move-room _ _ _ _ _ (triples_step _ _ _ c.loop-left-test.true) c.loop-left.invariant.1.0 in omega (arith, r, c.at.ensures.0, c.at-in-loop-left.ensures.0, c.at-in-loop-left-2.ensures.0)
+
+pub loop-left-preserved : goal.loop-left-preserved
+loop-left-preserved c = (turn_on _ _ _ (triples c.args.plan.now c.loop-left.i c.loop-left.left) _ _ (triples_step _ _ _ c.loop-left-test.true) _ c.loop-left.invariant.0 _ _ _ c.at.ensures.0 c.at-in-loop-left.ensures.0 c.at-in-loop-left-2.ensures.0 c.copy_part.ensures, (turn_rest _ _ _ _ _ (triples_step _ _ _ c.loop-left-test.true) c.loop-left.invariant.1.0 _ (omega arith), (omega arith, omega arith)))
+
+pub returns : goal.returns
+returns c = turn_end _ _ (triples c.args.plan.now c.loop-left.i c.loop-left.left) (triples_none _ _ c.loop-left.left (omega arith)) _ c.loop-left.invariant.0
