@@ -223,15 +223,17 @@ length-join (n ∷ ns) m = by (adjoin m n) (length-join ns (longer m n)) (length
     by true f g = omega arith
     by false f g = omega arith
 
-module _ (ms : List Move) where
-  pub targets-joined : targets (joined ms) ≡ targets ms
-  targets-joined = elim ms [ [] ↦ refl | m ∷ ns ↦ targets-join ns m ]
+pub targets-joined : (ms : List Move) → targets (joined ms) ≡ targets ms
+targets-joined [] = refl
+targets-joined (m ∷ ns) = targets-join ns m
 
-  pub sources-joined : sources (joined ms) ≡ sources ms
-  sources-joined = elim ms [ [] ↦ refl | m ∷ ns ↦ sources-join ns m ]
+pub sources-joined : (ms : List Move) → sources (joined ms) ≡ sources ms
+sources-joined [] = refl
+sources-joined (m ∷ ns) = sources-join ns m
 
-  pub length-joined : length (joined ms) ≤ length ms
-  length-joined = elim ms [ [] ↦ omega arith | m ∷ ns ↦ length-join ns m ]
+pub length-joined : (ms : List Move) → length (joined ms) ≤ length ms
+length-joined [] = omega arith
+length-joined (m ∷ ns) = length-join ns m
 
 pub within-joined : (v t : ℕ) (ms : List Move) → All (Within v t) ms → All (Within v t) (joined ms)
 within-joined v t [] h = tt

@@ -17,7 +17,7 @@ pub reach_all-types-requires : goal.reach_all-types-requires
 reach_all-types-requires c = (accepted-uses c.args.d.now (accepted-number c.args.d.now _ c.check-refusal.ensures c.if-refusal-ne0.false), c.requires, c.mark_all.ensures)
 
 pub separate_members-members-requires : goal.separate_members-members-requires
-separate_members-members-requires c = ask-sum c.args.d.now c.reach_all-types.new.1.0 c.reach_all-types.new.1.1.0 c.reach_all-types.result c.reach_all-types.ensures
+separate_members-members-requires c = ask-sum c.args.d.now c.reach_all-types.new.new c.reach_all-types.new.old c.reach_all-types.result c.reach_all-types.ensures
 
 pub returns-then-members-gt255 : goal.returns-then-members-gt255
 returns-then-members-gt255 c =

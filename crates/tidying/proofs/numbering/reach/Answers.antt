@@ -23,7 +23,7 @@ pub loop-number-smaller : goal.loop-number-smaller
 loop-number-smaller c = c.complete-many.ensures.1
 
 pub loop-number-preserved : goal.loop-number-preserved
-loop-number-preserved c = (c.complete-many.ensures.0.numbers, c.number_of-number-in-loop-number.ensures.0, reach_same c.args.d.now c.args.new.now c.args.old.now c.args.n c.args.k c.loop-number.new c.loop-number.old c.loop-number.many c.loop-number.invariant.0 c.loop-number.invariant.2 c.loop-number.invariant.3 c.lowest-part.result c.lowest-part.ensures c.complete-many.new.1.1.0 c.complete-many.new.1.1.1.0 c.complete-many.result c.complete-many.ensures.0, reach_kept c.args.d.now c.args.new.now c.args.old.now c.args.n c.args.k c.loop-number.new c.loop-number.old c.loop-number.many c.loop-number.invariant.0 c.loop-number.invariant.2 c.loop-number.invariant.3 c.lowest-part.result c.lowest-part.ensures c.complete-many.new.1.1.0 c.complete-many.new.1.1.1.0 c.complete-many.result c.complete-many.ensures.0)
+loop-number-preserved c = (c.complete-many.ensures.0.numbers, c.number_of-number-in-loop-number.ensures.0, reach_same c.args.d.now c.args.new.now c.args.old.now c.args.n c.args.k c.loop-number.new c.loop-number.old c.loop-number.many c.loop-number.invariant.0 c.loop-number.invariant.2 c.loop-number.invariant.3 c.lowest-part.result c.lowest-part.ensures c.complete-many.new.new c.complete-many.new.old c.complete-many.result c.complete-many.ensures.0, reach_kept c.args.d.now c.args.new.now c.args.old.now c.args.n c.args.k c.loop-number.new c.loop-number.old c.loop-number.many c.loop-number.invariant.0 c.loop-number.invariant.2 c.loop-number.invariant.3 c.lowest-part.result c.lowest-part.ensures c.complete-many.new.new c.complete-many.new.old c.complete-many.result c.complete-many.ensures.0)
 
 pub returns : goal.returns
 returns c = reach_done c.args.d.now c.args.new.now c.args.old.now c.args.n c.args.k c.loop-number.new c.loop-number.old c.loop-number.many c.loop-number.invariant.0 c.loop-number.invariant.2 c.loop-number.invariant.3 c.requires.1 (λ e. c.loop-number-test.false (c.loop-number.invariant.1 ∙ e))

@@ -21,7 +21,7 @@ pub reach-many-requires : goal.reach-many-requires
 reach-many-requires c = (c.loop-i.invariant.0, rw c.argument_at-k.ensures ((accepted-typed c.args.d.now c.requires.0.right).below c.loop-i.i (omega (arith, c.loop-i-test.true, c.loop-i.invariant.2))), c.requires.1)
 
 pub loop-i-preserved : goal.loop-i-preserved
-loop-i-preserved c = (c.reach-many.ensures.numbers, omega (arith, c.loop-i-test.true), c.loop-i.invariant.2, reach_next c.args.d.now (tabled c.args.d.now c.loop-i.old c.loop-i.many) (tabled c.args.d.now c.reach-many.new.1.1.1.0 c.reach-many.result) c.loop-i.i _ c.argument_at-k.result c.loop-i-test.true c.argument_at-k.ensures c.reach-many.ensures.is ∙ c.loop-i.invariant.3, passed-more c.args.d.now c.loop-i.new c.reach-many.new.1.1.0 c.loop-i.i c.loop-i.invariant.4 c.reach-many.ensures.kept (rw (← c.argument_at-k.ensures) c.reach-many.ensures.has), λ j h. c.reach-many.ensures.kept j (c.loop-i.invariant.5 j h))
+loop-i-preserved c = (c.reach-many.ensures.numbers, omega (arith, c.loop-i-test.true), c.loop-i.invariant.2, reach_next c.args.d.now (tabled c.args.d.now c.loop-i.old c.loop-i.many) (tabled c.args.d.now c.reach-many.new.old c.reach-many.result) c.loop-i.i _ c.argument_at-k.result c.loop-i-test.true c.argument_at-k.ensures c.reach-many.ensures.is ∙ c.loop-i.invariant.3, passed-more c.args.d.now c.loop-i.new c.reach-many.new.new c.loop-i.i c.loop-i.invariant.4 c.reach-many.ensures.kept (rw (← c.argument_at-k.ensures) c.reach-many.ensures.has), λ j h. c.reach-many.ensures.kept j (c.loop-i.invariant.5 j h))
 
 pub returns : goal.returns
 returns c = (c.loop-i.invariant.0, sym (reach_end (tabled c.args.d.now c.loop-i.old c.loop-i.many) c.args.d.now c.loop-i.i _ c.loop-i-test.false) ∙ c.loop-i.invariant.3 ∙ rw c.loop-i.invariant.2, λ j l. c.loop-i.invariant.4 j (omega (arith, l, c.loop-i.invariant.2, c.loop-i-test.false)), c.loop-i.invariant.5)
