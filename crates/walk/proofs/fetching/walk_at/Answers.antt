@@ -1,0 +1,11 @@
+-- The offsets where so much is used.
+-- Assumes nothing.
+use mathlib.Core.Path.{refl}
+use native.Mathlib.Omega.{arith}
+use Rattle.walk.specs.Offsets.{walk_at}
+use Rattle.walk.proofs.Fetches.{walk_same}
+use Rattle.walk.proofs.fetching.walk_at.Goals as goal
+
+pub returns : goal.returns
+unfolding walk_at
+returns c = walk_same _ _ refl refl c.general_bytes-general.ensures (omega (arith, c.plus-vector.ensures, c.vector_bytes.ensures)) refl
