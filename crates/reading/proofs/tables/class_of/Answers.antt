@@ -1,0 +1,13 @@
+-- `class_of` meets its contract: the table's test is computed.
+-- Assumes nothing.
+use mathlib.Core.Path.{ap, ◌∙◌}
+use Prim.Native.Nat.{ℕ}
+use Rattle.reading.specs.Coded.{class_code}
+use Rattle.reading.proofs.Lists.{class_list}
+use Rattle.reading.proofs.Tested.{class_right}
+use Rattle.grammar.specs.Tokens.{class_of}
+use Rattle.reading.proofs.tables.class_of.Goals as goal
+
+pub returns : goal.returns
+unfolding class_list
+returns c = class_right c.wide-i.result c.wide-i.ensures.1 ∙ ap (λ (z : ℕ). class_code (class_of z)) c.wide-i.ensures.0
