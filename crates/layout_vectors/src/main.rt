@@ -9,7 +9,6 @@ ghost use Rattle.layout.specs.Verdict.{verdict};
 
 use form::Refusal;
 use layout::{Begun, Layout, LayoutAnswer, Placement, StackAnswer};
-use libc::{STDIN_FILENO, STDOUT_FILENO};
 use places::{Place, Register, ReturnPlace, Used};
 use units::Registers;
 
@@ -22,110 +21,110 @@ enum Length {
     End,
 }
 
-fn print(text: &[u8]) {
-    io::write_all(STDOUT_FILENO, text);
+fn print(rt: &impl Print, text: &[u8]) {
+    streams::print(rt, text);
 }
 
-fn print_number(text: &[u8], n: u64) {
-    print(text);
-    io::print_decimal(STDOUT_FILENO, n);
+fn print_number(rt: &impl Print, text: &[u8], n: u64) {
+    print(rt, text);
+    streams::print_decimal(rt, n);
 }
 
-fn print_byte(text: &[u8], byte: u8) {
-    print_number(text, byte as u64);
+fn print_byte(rt: &impl Print, text: &[u8], byte: u8) {
+    print_number(rt, text, byte as u64);
 }
 
-fn print_argument_register(n: usize) {
+fn print_argument_register(rt: &impl Print, n: usize) {
     match n {
-        0 => print(b" rdi"),
-        1 => print(b" rsi"),
-        2 => print(b" rdx"),
-        3 => print(b" rcx"),
-        4 => print(b" r8"),
-        5 => print(b" r9"),
-        _ => print(b" ?"),
+        0 => print(rt, b" rdi"),
+        1 => print(rt, b" rsi"),
+        2 => print(rt, b" rdx"),
+        3 => print(rt, b" rcx"),
+        4 => print(rt, b" r8"),
+        5 => print(rt, b" r9"),
+        _ => print(rt, b" ?"),
     }
 }
 
-fn print_return_register(n: usize) {
+fn print_return_register(rt: &impl Print, n: usize) {
     match n {
-        0 => print(b" rax"),
-        1 => print(b" rdx"),
-        _ => print(b" ?"),
+        0 => print(rt, b" rax"),
+        1 => print(rt, b" rdx"),
+        _ => print(rt, b" ?"),
     }
 }
 
-fn print_register(register: Register, returned: bool) {
+fn print_register(rt: &impl Print, register: Register, returned: bool) {
     match register {
         Register::General(n) => {
             if returned {
-                print_return_register(n.0);
+                print_return_register(rt, n.0);
             } else {
-                print_argument_register(n.0);
+                print_argument_register(rt, n.0);
             }
         }
-        Register::Vector(n) => print_number(b" xmm", n.0 as u64),
+        Register::Vector(n) => print_number(rt, b" xmm", n.0 as u64),
         Register::Upper(n) => {
-            print_number(b" xmm", n.0 as u64);
-            print(b"h");
+            print_number(rt, b" xmm", n.0 as u64);
+            print(rt, b"h");
         }
         Register::Wide(n) => {
-            print_number(b" xmm", n.0 as u64);
-            print(b"y");
+            print_number(rt, b" xmm", n.0 as u64);
+            print(rt, b"y");
         }
     }
 }
 
-fn print_place(place: Place) {
+fn print_place(rt: &impl Print, place: Place) {
     match place {
-        Place::One(register) => print_register(register, false),
+        Place::One(register) => print_register(rt, register, false),
         Place::Two(first, second) => {
-            print_register(first, false);
-            print_register(second, false);
+            print_register(rt, first, false);
+            print_register(rt, second, false);
         }
-        Place::Stack(offset) => print_number(b" stack ", offset.0 as u64),
+        Place::Stack(offset) => print_number(rt, b" stack ", offset.0 as u64),
     }
 }
 
-fn print_record(i: usize, placement: Placement) {
+fn print_record(rt: &impl Print, i: usize, placement: Placement) {
     let size = placement.size;
     let align = placement.align;
     let place = placement.place;
     let at = placement.at;
-    print_number(b"", i as u64);
-    print_number(b" type ", placement.ty as u64);
-    print_number(b" size ", size.0 as u64);
-    print_number(b" align ", align.0 as u64);
-    print_place(place);
-    print_number(b" at ", at.0 as u64);
+    print_number(rt, b"", i as u64);
+    print_number(rt, b" type ", placement.ty as u64);
+    print_number(rt, b" size ", size.0 as u64);
+    print_number(rt, b" align ", align.0 as u64);
+    print_place(rt, place);
+    print_number(rt, b" at ", at.0 as u64);
     if placement.named {
-        print(b" named\n");
+        print(rt, b" named\n");
     } else {
-        print(b" unnamed\n");
+        print(rt, b" unnamed\n");
     }
 }
 
-fn print_returned(d: &[u8], returns: ReturnPlace) {
+fn print_returned(rt: &impl Print, d: &[u8], returns: ReturnPlace) {
     if d.len() < 11 {
         return;
     }
     if d[9] == 255 {
-        print(b"return void\n");
+        print(rt, b"return void\n");
         return;
     }
-    print_byte(b"return type ", d[9]);
+    print_byte(rt, b"return type ", d[9]);
     match returns {
-        ReturnPlace::Void => print(b" void"),
-        ReturnPlace::Memory => print(b" memory"),
-        ReturnPlace::One(register) => print_register(register, true),
+        ReturnPlace::Void => print(rt, b" void"),
+        ReturnPlace::Memory => print(rt, b" memory"),
+        ReturnPlace::One(register) => print_register(rt, register, true),
         ReturnPlace::Two(first, second) => {
-            print_register(first, true);
-            print_register(second, true);
+            print_register(rt, first, true);
+            print_register(rt, second, true);
         }
-        ReturnPlace::St0 => print(b" st0"),
-        ReturnPlace::St0St1 => print(b" st0 st1"),
+        ReturnPlace::St0 => print(rt, b" st0"),
+        ReturnPlace::St0St1 => print(rt, b" st0 st1"),
     }
-    print(b"\n");
+    print(rt, b"\n");
 }
 
 // gp_offset and fp_offset after so many registers.
@@ -143,24 +142,24 @@ fn vector_offset(count: Registers) -> usize {
     48 + units::vector_bytes(count).0
 }
 
-fn print_walk(d: &[u8], named: Used) {
+fn print_walk(rt: &impl Print, d: &[u8], named: Used) {
     if d.len() < 11 {
         return;
     }
     if d[6] % 2 == 0 {
-        print(b"walk none\n");
+        print(rt, b"walk none\n");
         return;
     }
     let general = named.general;
     let vector = named.vector;
     let stack = named.stack;
-    print_number(b"walk gp ", general_offset(general) as u64);
-    print_number(b" fp ", vector_offset(vector) as u64);
-    print_number(b" over ", stack.0 as u64);
-    print(b"\n");
+    print_number(rt, b"walk gp ", general_offset(general) as u64);
+    print_number(rt, b" fp ", vector_offset(vector) as u64);
+    print_number(rt, b" over ", stack.0 as u64);
+    print(rt, b"\n");
 }
 
-fn print_head(d: &[u8], layout: Layout) {
+fn print_head(rt: &impl Print, d: &[u8], layout: Layout) {
     if d.len() < 11 {
         return;
     }
@@ -168,16 +167,16 @@ fn print_head(d: &[u8], layout: Layout) {
     let general = used.general;
     let vector = used.vector;
     let area = layout.area;
-    print_byte(b"KCB 1 args ", d[8]);
-    print_byte(b" named ", d[7]);
-    print_number(b" gp ", general.0 as u64);
-    print_number(b" vec ", vector.0 as u64);
-    print_number(b" stack ", area.0 as u64);
-    print(b"\n");
+    print_byte(rt, b"KCB 1 args ", d[8]);
+    print_byte(rt, b" named ", d[7]);
+    print_number(rt, b" gp ", general.0 as u64);
+    print_number(rt, b" vec ", vector.0 as u64);
+    print_number(rt, b" stack ", area.0 as u64);
+    print(rt, b"\n");
 }
 
 // The records, as `lay_out` writes them into a list.
-fn print_records(d: &[u8], room: usize, begun: Begun, table: &[u32; 64])
+fn print_records(rt: &impl Print, d: &[u8], room: usize, begun: Begun, table: &[u32; 64])
     requires { (begun ≡ begun_of d.now room) × (verdict d.now ≡ 0 → Tabled d.now table.now) }
 {
     let count = begun.count;
@@ -186,64 +185,71 @@ fn print_records(d: &[u8], room: usize, begun: Begun, table: &[u32; 64])
     while i < count {
         let step = layout::place_argument(d, before, i, table);
         let placement = step.placement;
-        print_record(i, placement);
+        print_record(rt, i, placement);
         before = step.after;
         i += 1;
     }
 }
 
-fn print_laid(d: &[u8], room: usize, begun: Begun, layout: Layout, table: &[u32; 64])
+fn print_laid(
+    rt: &impl Print,
+    d: &[u8],
+    room: usize,
+    begun: Begun,
+    layout: Layout,
+    table: &[u32; 64],
+)
     requires { (begun ≡ begun_of d.now room) × (verdict d.now ≡ 0 → Tabled d.now table.now) }
 {
     let values = layout.values;
     let align = layout.align;
     let returns = layout.returns;
     let named = layout.named;
-    print_head(d, layout);
-    print_records(d, room, begun, table);
-    print_returned(d, returns);
-    print_walk(d, named);
-    print_number(b"values ", values.0 as u64);
-    print_number(b" align ", align.0 as u64);
-    print(b"\n");
+    print_head(rt, d, layout);
+    print_records(rt, d, room, begun, table);
+    print_returned(rt, d, returns);
+    print_walk(rt, d, named);
+    print_number(rt, b"values ", values.0 as u64);
+    print_number(rt, b" align ", align.0 as u64);
+    print(rt, b"\n");
 }
 
 // The number, and the type that breaks the rule of 6 or 7, which is 0 for the others.
-fn print_refusal(refusal: Refusal) {
-    print_number(b"refused ", refusal.number as u64);
-    print_number(b" ", refusal.ty as u64);
-    print(b"\n");
+fn print_refusal(rt: &impl Print, refusal: Refusal) {
+    print_number(rt, b"refused ", refusal.number as u64);
+    print_number(rt, b" ", refusal.ty as u64);
+    print(rt, b"\n");
 }
 
-fn answer_layout(d: &[u8], room: usize) {
+fn answer_layout(rt: &impl Print, d: &[u8], room: usize) {
     let mut table = [0u32; 64];
     let begun = layout::begin_with(d, room, &mut table);
     let answer = begun.answer;
     match answer {
-        LayoutAnswer::Laid(layout) => print_laid(d, room, begun, layout, &table),
-        LayoutAnswer::Refused(refusal) => print_refusal(refusal),
+        LayoutAnswer::Laid(layout) => print_laid(rt, d, room, begun, layout, &table),
+        LayoutAnswer::Refused(refusal) => print_refusal(rt, refusal),
     }
 }
 
-fn answer_need(d: &[u8]) {
+fn answer_need(rt: &impl Print, d: &[u8]) {
     let answer = layout::needs_stack(d);
     match answer {
         StackAnswer::Known(need) => {
             if need.needed {
-                print(b"needs yes ");
+                print(rt, b"needs yes ");
             } else {
-                print(b"needs no ");
+                print(rt, b"needs no ");
             }
-            print_number(b"", need.looked as u64);
-            print(b"\n");
+            print_number(rt, b"", need.looked as u64);
+            print(rt, b"\n");
         }
-        StackAnswer::Refused(refusal) => print_refusal(refusal),
+        StackAnswer::Refused(refusal) => print_refusal(rt, refusal),
     }
 }
 
-fn answer(d: &[u8], room: usize) {
-    answer_layout(d, room);
-    answer_need(d);
+fn answer(rt: &impl Print, d: &[u8], room: usize) {
+    answer_layout(rt, d, room);
+    answer_need(rt, d);
 }
 
 fn wide(byte: u8) -> usize
@@ -253,45 +259,45 @@ fn wide(byte: u8) -> usize
 }
 
 // The length of a part, in two bytes before it.
-fn read_length() -> Length {
+fn read_length(rt: &impl Input) -> Length {
     let mut two = [0u8; 2];
-    if io::read_full(STDIN_FILENO, &mut two) < 2 {
+    if streams::read_full(rt, &mut two) < 2 {
         return Length::End;
     }
     Length::Known(wide(two[0]) + 256 * wide(two[1]))
 }
 
 // The next n bytes, into the start of space; false where there are not so many.
-fn read_part(space: &mut [u8], n: usize) -> bool
+fn read_part(rt: &impl Input, space: &mut [u8], n: usize) -> bool
     ensures { result ≡ true → n ≤ length space.new }
 {
     if space.len() < n {
         return false;
     }
-    io::read_full(STDIN_FILENO, &mut space[..n]) == n
+    streams::read_full(rt, &mut space[..n]) == n
 }
 
 // One description and the length of a list; false at the end of the input.
-fn answer_next() -> bool {
-    let mut space = io::large_buffer();
+fn answer_next(rt: &(impl Print + Input)) -> bool {
+    let mut space = streams::large_buffer();
     let mut lent = [0u8; 1];
-    let length = read_length();
+    let length = read_length(rt);
     let Length::Known(n) = length else {
         return false;
     };
-    if !read_part(&mut space, n) {
+    if !read_part(rt, &mut space, n) {
         return false;
     }
-    if !read_part(&mut lent, 1) {
+    if !read_part(rt, &mut lent, 1) {
         return false;
     }
-    answer(&space[..n], wide(lent[0]));
+    answer(rt, &space[..n], wide(lent[0]));
     true
 }
 
-fn main() {
+fn main(rt: HostRuntime) {
     for _ in 0..RECORDS {
-        if !answer_next() {
+        if !answer_next(&rt) {
             return;
         }
     }

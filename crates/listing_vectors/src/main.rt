@@ -3,8 +3,6 @@
 
 ghost use Rattle.std.specs.Prelude.{◌≡◌, true, ◌<◌, ◌≤◌, length};
 
-use libc::{STDIN_FILENO, STDOUT_FILENO};
-
 // More than the file has, so that the program ends whatever it reads.
 const RECORDS: usize = 100000;
 
@@ -21,47 +19,47 @@ fn wide(byte: u8) -> usize
 }
 
 // The length of a part, in two bytes before it.
-fn read_length() -> Length {
+fn read_length(rt: &impl Input) -> Length {
     let mut two = [0u8; 2];
-    if io::read_full(STDIN_FILENO, &mut two) < 2 {
+    if streams::read_full(rt, &mut two) < 2 {
         return Length::End;
     }
     Length::Known(wide(two[0]) + 256 * wide(two[1]))
 }
 
 // The next n bytes, into the start of space; false where there are not so many.
-fn read_part(space: &mut [u8], n: usize) -> bool
+fn read_part(rt: &impl Input, space: &mut [u8], n: usize) -> bool
     ensures { result ≡ true → n ≤ length space.new }
 {
     if space.len() < n {
         return false;
     }
-    io::read_full(STDIN_FILENO, &mut space[..n]) == n
+    streams::read_full(rt, &mut space[..n]) == n
 }
 
-fn print_listing(d: &[u8]) {
+fn print_listing(rt: &impl Print, d: &[u8]) {
     let mut text = [0u8; 8192];
     let end = listing::write_listing(d, &mut text);
-    io::write_all(STDOUT_FILENO, &text[..end]);
+    streams::print(rt, &text[..end]);
 }
 
 // One description; false at the end of the input.
-fn print_next() -> bool {
-    let mut space = io::large_buffer();
-    let length = read_length();
+fn print_next(rt: &(impl Print + Input)) -> bool {
+    let mut space = streams::large_buffer();
+    let length = read_length(rt);
     let Length::Known(n) = length else {
         return false;
     };
-    if !read_part(&mut space, n) {
+    if !read_part(rt, &mut space, n) {
         return false;
     }
-    print_listing(&space[..n]);
+    print_listing(rt, &space[..n]);
     true
 }
 
-fn main() {
+fn main(rt: HostRuntime) {
     for _ in 0..RECORDS {
-        if !print_next() {
+        if !print_next(&rt) {
             return;
         }
     }

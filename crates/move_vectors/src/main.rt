@@ -5,7 +5,6 @@
 ghost use Rattle.std.specs.Prelude.{◌≡◌, true, ◌<◌, ◌≤◌, length};
 
 use form::Refusal;
-use libc::{STDIN_FILENO, STDOUT_FILENO};
 use moving::{GatherAnswer, PlaceAnswer};
 
 // More than the file has, so that the program ends whatever it reads.
@@ -17,21 +16,21 @@ enum Length {
     End,
 }
 
-fn print(text: &[u8]) {
-    io::write_all(STDOUT_FILENO, text);
+fn print(rt: &impl Print, text: &[u8]) {
+    streams::print(rt, text);
 }
 
-fn print_number(text: &[u8], n: u64) {
-    print(text);
-    io::print_decimal(STDOUT_FILENO, n);
-    print(b"\n");
+fn print_number(rt: &impl Print, text: &[u8], n: u64) {
+    print(rt, text);
+    streams::print_decimal(rt, n);
+    print(rt, b"\n");
 }
 
 // The number, and the type that breaks the rule of 6 or 7, which is 0 for the others.
-fn print_refusal(refusal: Refusal) {
-    print(b"refused ");
-    io::print_decimal(STDOUT_FILENO, refusal.number as u64);
-    print_number(b" ", refusal.ty as u64);
+fn print_refusal(rt: &impl Print, refusal: Refusal) {
+    print(rt, b"refused ");
+    streams::print_decimal(rt, refusal.number as u64);
+    print_number(rt, b" ", refusal.ty as u64);
 }
 
 // A digit in base 16.
@@ -44,20 +43,20 @@ fn digit(n: u8) -> u8
     87 + n
 }
 
-fn print_byte(byte: u8) {
+fn print_byte(rt: &impl Print, byte: u8) {
     let pair = [digit(byte / 16), digit(byte % 16)];
-    print(&pair);
+    print(rt, &pair);
 }
 
-fn print_bytes(text: &[u8], bytes: &[u8]) {
-    print(text);
+fn print_bytes(rt: &impl Print, text: &[u8], bytes: &[u8]) {
+    print(rt, text);
     if bytes.len() != 0 {
-        print(b" ");
+        print(rt, b" ");
     }
     for i in 0..bytes.len() {
-        print_byte(bytes[i]);
+        print_byte(rt, bytes[i]);
     }
-    print(b"\n");
+    print(rt, b"\n");
 }
 
 // What the buffer for gathering holds before.
@@ -71,6 +70,7 @@ fn fill(out: &mut [u8]) {
 
 // Places, and gathers from the images as they are then, whether or not placing was refused.
 fn answer(
+    rt: &impl Print,
     d: &[u8],
     hidden: u64,
     values: &[u8],
@@ -80,18 +80,18 @@ fn answer(
     out: &mut [u8],
 ) {
     match moving::place_values(d, hidden, values, registers, upper, stack) {
-        PlaceAnswer::Placed(count) => print_number(b"placed ", count.0 as u64),
-        PlaceAnswer::Refused(refusal) => print_refusal(refusal),
+        PlaceAnswer::Placed(count) => print_number(rt, b"placed ", count.0 as u64),
+        PlaceAnswer::Refused(refusal) => print_refusal(rt, refusal),
     }
-    print_bytes(b"registers", registers);
-    print_bytes(b"upper", upper);
-    print_bytes(b"stack", stack);
+    print_bytes(rt, b"registers", registers);
+    print_bytes(rt, b"upper", upper);
+    print_bytes(rt, b"stack", stack);
     fill(out);
     match moving::gather_values(d, registers, upper, stack, out) {
-        GatherAnswer::Gathered(address) => print_number(b"gathered ", address),
-        GatherAnswer::Refused(refusal) => print_refusal(refusal),
+        GatherAnswer::Gathered(address) => print_number(rt, b"gathered ", address),
+        GatherAnswer::Refused(refusal) => print_refusal(rt, refusal),
     }
-    print_bytes(b"values", out);
+    print_bytes(rt, b"values", out);
 }
 
 fn wide(byte: u8) -> usize
@@ -101,43 +101,43 @@ fn wide(byte: u8) -> usize
 }
 
 // The length of a part, in two bytes before it.
-fn read_length() -> Length {
+fn read_length(rt: &impl Input) -> Length {
     let mut two = [0u8; 2];
-    if io::read_full(STDIN_FILENO, &mut two) < 2 {
+    if streams::read_full(rt, &mut two) < 2 {
         return Length::End;
     }
     Length::Known(wide(two[0]) + 256 * wide(two[1]))
 }
 
 // The next n bytes, into the start of space; false where there are not so many.
-fn read_part(space: &mut [u8], n: usize) -> bool
+fn read_part(rt: &impl Input, space: &mut [u8], n: usize) -> bool
     ensures { result ≡ true → n ≤ length space.new }
 {
     if space.len() < n {
         return false;
     }
-    io::read_full(STDIN_FILENO, &mut space[..n]) == n
+    streams::read_full(rt, &mut space[..n]) == n
 }
 
 // A part with its length before it, into the start of space: how many bytes that is.
-fn read_sized(space: &mut [u8]) -> usize
+fn read_sized(rt: &impl Input, space: &mut [u8]) -> usize
     ensures { result ≤ length space.new }
 {
-    let length = read_length();
+    let length = read_length(rt);
     let Length::Known(n) = length else {
         return 0;
     };
-    if !read_part(space, n) {
+    if !read_part(rt, space, n) {
         return 0;
     }
     n
 }
 
 // How many bytes are to be gathered, at most as many as there is room for.
-fn read_room(room: usize) -> usize
+fn read_room(rt: &impl Input, room: usize) -> usize
     ensures { result ≤ room }
 {
-    let length = read_length();
+    let length = read_length(rt);
     let Length::Known(n) = length else {
         return 0;
     };
@@ -148,16 +148,17 @@ fn read_room(room: usize) -> usize
 }
 
 // The three images and the room for gathering, and the answers.
-fn answer_images(d: &[u8], hidden: u64, values: &[u8]) {
-    let mut registers = io::large_buffer();
-    let mut upper = io::large_buffer();
-    let mut stack = io::large_buffer();
-    let mut out = io::large_buffer();
-    let m = read_sized(&mut registers);
-    let u = read_sized(&mut upper);
-    let n = read_sized(&mut stack);
-    let v = read_room(65536);
+fn answer_images(rt: &(impl Print + Input), d: &[u8], hidden: u64, values: &[u8]) {
+    let mut registers = streams::large_buffer();
+    let mut upper = streams::large_buffer();
+    let mut stack = streams::large_buffer();
+    let mut out = streams::large_buffer();
+    let m = read_sized(rt, &mut registers);
+    let u = read_sized(rt, &mut upper);
+    let n = read_sized(rt, &mut stack);
+    let v = read_room(rt, 65536);
     answer(
+        rt,
         d,
         hidden,
         values,
@@ -169,31 +170,31 @@ fn answer_images(d: &[u8], hidden: u64, values: &[u8]) {
 }
 
 // The hidden address and the values, and what follows them.
-fn answer_values(d: &[u8]) {
+fn answer_values(rt: &(impl Print + Input), d: &[u8]) {
     let mut address = [0u8; 8];
-    let mut values = io::large_buffer();
-    io::read_full(STDIN_FILENO, &mut address);
-    let n = read_sized(&mut values);
-    answer_images(d, images::address_in(&address), &values[..n]);
+    let mut values = streams::large_buffer();
+    streams::read_full(rt, &mut address);
+    let n = read_sized(rt, &mut values);
+    answer_images(rt, d, images::address_in(&address), &values[..n]);
 }
 
 // One record; false at the end of the input.
-fn answer_next() -> bool {
-    let mut space = io::large_buffer();
-    let length = read_length();
+fn answer_next(rt: &(impl Print + Input)) -> bool {
+    let mut space = streams::large_buffer();
+    let length = read_length(rt);
     let Length::Known(n) = length else {
         return false;
     };
-    if !read_part(&mut space, n) {
+    if !read_part(rt, &mut space, n) {
         return false;
     }
-    answer_values(&space[..n]);
+    answer_values(rt, &space[..n]);
     true
 }
 
-fn main() {
+fn main(rt: HostRuntime) {
     for _ in 0..RECORDS {
-        if !answer_next() {
+        if !answer_next(&rt) {
             return;
         }
     }

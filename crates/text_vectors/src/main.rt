@@ -4,7 +4,6 @@
 
 ghost use Rattle.std.specs.Prelude.{◌≡◌, true, ◌<◌, ◌≤◌, length};
 
-use libc::{STDIN_FILENO, STDOUT_FILENO};
 use reading::Reading;
 
 // More than the file has, so that the program ends whatever it reads.
@@ -23,42 +22,42 @@ fn wide(byte: u8) -> usize
 }
 
 // The length of a part, in two bytes before it.
-fn read_length() -> Length {
+fn read_length(rt: &impl Input) -> Length {
     let mut two = [0u8; 2];
-    if io::read_full(STDIN_FILENO, &mut two) < 2 {
+    if streams::read_full(rt, &mut two) < 2 {
         return Length::End;
     }
     Length::Known(wide(two[0]) + 256 * wide(two[1]))
 }
 
 // The next n bytes, into the start of space; false where there are not so many.
-fn read_part(space: &mut [u8], n: usize) -> bool
+fn read_part(rt: &impl Input, space: &mut [u8], n: usize) -> bool
     ensures { result ≡ true → n ≤ length space.new }
 {
     if space.len() < n {
         return false;
     }
-    io::read_full(STDIN_FILENO, &mut space[..n]) == n
+    streams::read_full(rt, &mut space[..n]) == n
 }
 
-fn print_answer(answer: Reading) {
+fn print_answer(rt: &impl Print, answer: Reading) {
     match answer {
         Reading::Accepted => {
-            io::write_all(STDOUT_FILENO, b"accepted\n");
+            streams::print(rt, b"accepted\n");
         }
         Reading::TooLong => {
-            io::write_all(STDOUT_FILENO, b"too long\n");
+            streams::print(rt, b"too long\n");
         }
         Reading::RefusedAt(place) => {
-            io::write_all(STDOUT_FILENO, b"refused at ");
-            io::print_decimal(STDOUT_FILENO, place as u64);
-            io::write_all(STDOUT_FILENO, b"\n");
+            streams::print(rt, b"refused at ");
+            streams::print_decimal(rt, place as u64);
+            streams::print(rt, b"\n");
         }
     }
 }
 
-fn print_text(part: &[u8]) {
-    print_answer(read_text(part));
+fn print_text(rt: &impl Print, part: &[u8]) {
+    print_answer(rt, read_text(part));
 }
 
 // A part begins with a byte that says what its text is read as: 0, a prototype; otherwise the types of further arguments.
@@ -73,22 +72,22 @@ fn read_text(part: &[u8]) -> Reading {
 }
 
 // One text; false at the end of the input.
-fn print_next() -> bool {
-    let mut space = io::large_buffer();
-    let length = read_length();
+fn print_next(rt: &(impl Print + Input)) -> bool {
+    let mut space = streams::large_buffer();
+    let length = read_length(rt);
     let Length::Known(n) = length else {
         return false;
     };
-    if !read_part(&mut space, n) {
+    if !read_part(rt, &mut space, n) {
         return false;
     }
-    print_text(&space[..n]);
+    print_text(rt, &space[..n]);
     true
 }
 
-fn main() {
+fn main(rt: HostRuntime) {
     for _ in 0..RECORDS {
-        if !print_next() {
+        if !print_next(&rt) {
             return;
         }
     }

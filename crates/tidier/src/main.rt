@@ -4,50 +4,59 @@
 mod input;
 mod telling;
 
-use check::same;
-use libc::STDIN_FILENO;
+use std::env::{Env, FillError};
+use std::fs::File;
+use std::io::{Error, Read};
 use telling::{print, refuse_usage};
 use tidying::LengthAnswer;
 
+// The system's numbers of the errors: a name that is too long, and bytes that are no text.
+const ENAMETOOLONG: i32 = 36;
+
+const EILSEQ: i32 = 84;
+
 // The tidy form of a description, by a buffer of its length.
-fn write_tidy(d: &[u8], out: &mut [u8]) {
+fn write_tidy(rt: &HostRuntime, d: &[u8], out: &mut [u8]) {
     tidying::tidy(d, out);
-    print(out);
+    print(rt, out);
 }
 
-fn tidy(d: &[u8]) {
+fn tidy(rt: &HostRuntime, d: &[u8]) {
     // No tidy form has more bytes than a description may have.
     let mut out = [0u8; 586];
     let answer = tidying::tidy_length(d);
     match answer {
         LengthAnswer::Length(length) => {
             let end = length.0;
-            write_tidy(d, &mut out[..end]);
+            write_tidy(rt, d, &mut out[..end]);
         }
-        LengthAnswer::Refused(refusal) => telling::refused(refusal),
+        LengthAnswer::Refused(refusal) => telling::refused(rt, refusal),
     }
 }
 
-fn tidy_input(fd: i32, name: &[u8]) {
+fn tidy_input(rt: &HostRuntime, input: &mut impl Read, name: &[u8]) {
     // With one byte more than a description has, what stands behind one is seen, and is refused.
     let mut space = [0u8; 587];
-    let got = input::read_input(fd, &mut space);
-    if got < 0 {
-        telling::cannot_read(name);
-        return;
+    match input::read_input(input, &mut space) {
+        Ok(n) => tidy(rt, &space[..n]),
+        Err(error) => telling::cannot_read(rt, name, error),
     }
-    let n = io::count(got, &space);
-    tidy(&space[..n]);
 }
 
-fn tidy_file(name: &[u8]) {
-    let fd = os::open_read(name);
-    if fd < 0 {
-        telling::cannot_read(name);
+// A path of std is UTF-8 text.
+fn tidy_file(rt: &HostRuntime, name: &[u8]) {
+    let Ok(path) = str::from_utf8(name) else {
+        telling::cannot_read(rt, name, Error::from_raw_os_error(EILSEQ));
         return;
+    };
+    match File::open(rt, path) {
+        Ok(mut file) => tidy_input(rt, &mut file, name),
+        Err(error) => telling::cannot_read(rt, name, error),
     }
-    tidy_input(fd, name);
-    libc::close(fd);
+}
+
+fn tidy_standard_input(rt: &HostRuntime) {
+    tidy_input(rt, &mut rt.stdin(), b"standard input");
 }
 
 fn is_option(argument: &[u8]) -> bool {
@@ -55,36 +64,40 @@ fn is_option(argument: &[u8]) -> bool {
 }
 
 // What one argument asks for. A file whose name begins with - is named by its folder too, as ./-x.
-fn answer(argument: &[u8]) {
-    if same(argument, b"-") {
-        tidy_input(STDIN_FILENO, b"standard input");
-    } else if same(argument, b"--help") {
-        telling::print_help();
-    } else if same(argument, b"--version") {
-        print(b"kcb-tidy 5.1.0\n");
+fn answer(rt: &HostRuntime, argument: &[u8]) {
+    if argument == b"-".as_slice() {
+        tidy_standard_input(rt);
+    } else if argument == b"--help".as_slice() {
+        telling::print_help(rt);
+    } else if argument == b"--version".as_slice() {
+        print(rt, b"kcb-tidy 5.1.0\n");
     } else if is_option(argument) {
-        refuse_usage();
+        refuse_usage(rt);
     } else {
-        tidy_file(argument);
+        tidy_file(rt, argument);
     }
 }
 
-fn main() {
+fn has_argument(rt: &HostRuntime, i: usize) -> bool {
+    let mut none = [0u8; 1];
+    match rt.arg(i, &mut none) {
+        Err(FillError::NotPresent) => false,
+        _ => true,
+    }
+}
+
+fn main(rt: HostRuntime) {
     // Its own name is the first argument.
-    let arguments = os::arg_count();
-    if arguments < 2 {
-        tidy_input(STDIN_FILENO, b"standard input");
+    if has_argument(&rt, 2) {
+        refuse_usage(&rt);
         return;
     }
-    if arguments > 2 {
-        refuse_usage();
-        return;
+    let mut argument = [0u8; 4096];
+    match rt.arg(1, &mut argument) {
+        Ok(length) => answer(&rt, &argument[..length]),
+        Err(FillError::NotPresent) => tidy_standard_input(&rt),
+        Err(FillError::TooLong) => {
+            telling::cannot_read(&rt, b"the file", Error::from_raw_os_error(ENAMETOOLONG))
+        }
     }
-    let mut argument = io::buffer();
-    let length = os::arg(1, &mut argument);
-    if os::errno() != 0 {
-        telling::cannot_read(b"the file");
-        return;
-    }
-    answer(&argument[..length]);
 }

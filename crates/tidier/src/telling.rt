@@ -1,40 +1,70 @@
 // What is printed beside the tidy form, and where: answers on standard output; a refusal, and what went wrong, on standard error.
-use form::Refusal;
-use libc::{STDERR_FILENO, STDOUT_FILENO};
+ghost use Rattle.std.specs.Prelude.{◌≤◌, length};
 
-pub fn print(text: &[u8]) {
-    if !io::write_all(STDOUT_FILENO, text) {
-        tell_failure(b"kcb-tidy: cannot write ", b"standard output");
+use form::Refusal;
+use std::io::{Cursor, Error, Write};
+
+pub fn print(rt: &HostRuntime, text: &[u8]) {
+    match Print::write_all(rt, text) {
+        Ok(()) => {}
+        Err(error) => tell_failure(rt, b"kcb-tidy: cannot write ", b"standard output", error),
     }
 }
 
-pub fn cannot_read(name: &[u8]) {
-    tell_failure(b"kcb-tidy: cannot read ", name);
+pub fn cannot_read(rt: &HostRuntime, name: &[u8], error: Error) {
+    tell_failure(rt, b"kcb-tidy: cannot read ", name, error);
 }
 
-// The reason is errno's, which a write that succeeds leaves as it is: this comes right after the call that failed.
-fn tell_failure(what: &[u8], name: &[u8]) {
-    io::write_all(STDERR_FILENO, what);
-    os::fail(name);
+fn tell(rt: &HostRuntime, text: &[u8]) {
+    let _ = Print::write_all(&rt.stderr(), text);
 }
 
-fn tell_number(text: &[u8], number: u8) {
-    io::write_all(STDERR_FILENO, text);
-    io::print_decimal(STDERR_FILENO, number as u64);
+// How many bytes of an error's text are the system's: all before the number, which std writes behind them. Zeros follow the text.
+fn reason_length(text: &[u8]) -> usize
+    ensures { result ≤ length text.now }
+{
+    for i in 0..text.len() {
+        if text[i] == 0 || text[i..].starts_with(b" (os error ") {
+            return i;
+        }
+    }
+    text.len()
+}
+
+fn tell_reason(rt: &HostRuntime, error: Error) {
+    let mut text = [0u8; 320];
+    let mut room = Cursor::new(text.as_mut_slice());
+    let _ = write!(room, "{error}");
+    let n = reason_length(&text);
+    tell(rt, &text[..n]);
+}
+
+fn tell_failure(rt: &HostRuntime, what: &[u8], name: &[u8], error: Error) {
+    tell(rt, what);
+    tell(rt, name);
+    tell(rt, b": ");
+    tell_reason(rt, error);
+    tell(rt, b"\n");
+}
+
+fn tell_number(rt: &HostRuntime, text: &[u8], number: u8) {
+    tell(rt, text);
+    let _ = rt.eprint(number);
 }
 
 // The number of the refusal and, for 6 and 7, the type that breaks the rule.
-pub fn refused(refusal: Refusal) {
+pub fn refused(rt: &HostRuntime, refusal: Refusal) {
     let number = refusal.number;
-    tell_number(b"kcb-tidy: refused ", number);
+    tell_number(rt, b"kcb-tidy: refused ", number);
     if number == 6 || number == 7 {
-        tell_number(b" type ", refusal.ty);
+        tell_number(rt, b" type ", refusal.ty);
     }
-    io::write_all(STDERR_FILENO, b"\n");
+    tell(rt, b"\n");
 }
 
-pub fn print_help() {
+pub fn print_help(rt: &HostRuntime) {
     print(
+        rt,
         b"usage: kcb-tidy [FILE]\n\
           Writes the tidy form of the description in FILE (KCB, raw bytes) to standard output, or tells why it is refused.\n\
           Without FILE, or where it is -, the description is read from standard input.\n\
@@ -43,9 +73,9 @@ pub fn print_help() {
     );
 }
 
-pub fn refuse_usage() {
-    io::write_all(
-        STDERR_FILENO,
+pub fn refuse_usage(rt: &HostRuntime) {
+    tell(
+        rt,
         b"usage: kcb-tidy [FILE], kcb-tidy --help or kcb-tidy --version\n",
     );
 }

@@ -5,7 +5,6 @@
 ghost use Rattle.std.specs.Prelude.{◌≡◌, true, ◌<◌, ◌≤◌, length};
 
 use form::Refusal;
-use libc::{STDIN_FILENO, STDOUT_FILENO};
 use tidying::LengthAnswer;
 
 // More than the file has, so that the program ends whatever it reads.
@@ -17,21 +16,21 @@ enum Length {
     End,
 }
 
-fn print(text: &[u8]) {
-    io::write_all(STDOUT_FILENO, text);
+fn print(rt: &impl Print, text: &[u8]) {
+    streams::print(rt, text);
 }
 
-fn print_number(text: &[u8], n: u64) {
-    print(text);
-    io::print_decimal(STDOUT_FILENO, n);
-    print(b"\n");
+fn print_number(rt: &impl Print, text: &[u8], n: u64) {
+    print(rt, text);
+    streams::print_decimal(rt, n);
+    print(rt, b"\n");
 }
 
 // The number, and the type that breaks the rule of 6 or 7, which is 0 for the others.
-fn print_refusal(refusal: Refusal) {
-    print(b"refused ");
-    io::print_decimal(STDOUT_FILENO, refusal.number as u64);
-    print_number(b" ", refusal.ty as u64);
+fn print_refusal(rt: &impl Print, refusal: Refusal) {
+    print(rt, b"refused ");
+    streams::print_decimal(rt, refusal.number as u64);
+    print_number(rt, b" ", refusal.ty as u64);
 }
 
 // A digit in base 16.
@@ -44,20 +43,20 @@ fn digit(n: u8) -> u8
     87 + n
 }
 
-fn print_byte(byte: u8) {
+fn print_byte(rt: &impl Print, byte: u8) {
     let pair = [digit(byte / 16), digit(byte % 16)];
-    print(&pair);
+    print(rt, &pair);
 }
 
-fn print_bytes(text: &[u8], bytes: &[u8]) {
-    print(text);
+fn print_bytes(rt: &impl Print, text: &[u8], bytes: &[u8]) {
+    print(rt, text);
     if bytes.len() != 0 {
-        print(b" ");
+        print(rt, b" ");
     }
     for i in 0..bytes.len() {
-        print_byte(bytes[i]);
+        print_byte(rt, bytes[i]);
     }
-    print(b"\n");
+    print(rt, b"\n");
 }
 
 // What the buffer holds before.
@@ -70,19 +69,19 @@ fn fill(out: &mut [u8]) {
 }
 
 // The length of the tidy form, and the form into a buffer that is of that length or not.
-fn answer(d: &[u8], out: &mut [u8]) {
+fn answer(rt: &impl Print, d: &[u8], out: &mut [u8]) {
     match tidying::tidy_length(d) {
-        LengthAnswer::Length(length) => print_number(b"length ", length.0 as u64),
-        LengthAnswer::Refused(refusal) => print_refusal(refusal),
+        LengthAnswer::Length(length) => print_number(rt, b"length ", length.0 as u64),
+        LengthAnswer::Refused(refusal) => print_refusal(rt, refusal),
     }
     fill(out);
     let refusal = tidying::tidy(d, out);
     if refusal.number == 0 {
-        print(b"tidy\n");
+        print(rt, b"tidy\n");
     } else {
-        print_refusal(refusal);
+        print_refusal(rt, refusal);
     }
-    print_bytes(b"out", out);
+    print_bytes(rt, b"out", out);
 }
 
 fn wide(byte: u8) -> usize
@@ -92,29 +91,29 @@ fn wide(byte: u8) -> usize
 }
 
 // The length of a part, in two bytes before it.
-fn read_length() -> Length {
+fn read_length(rt: &impl Input) -> Length {
     let mut two = [0u8; 2];
-    if io::read_full(STDIN_FILENO, &mut two) < 2 {
+    if streams::read_full(rt, &mut two) < 2 {
         return Length::End;
     }
     Length::Known(wide(two[0]) + 256 * wide(two[1]))
 }
 
 // The next n bytes, into the start of space; false where there are not so many.
-fn read_part(space: &mut [u8], n: usize) -> bool
+fn read_part(rt: &impl Input, space: &mut [u8], n: usize) -> bool
     ensures { result ≡ true → n ≤ length space.new }
 {
     if space.len() < n {
         return false;
     }
-    io::read_full(STDIN_FILENO, &mut space[..n]) == n
+    streams::read_full(rt, &mut space[..n]) == n
 }
 
 // How many bytes the buffer has, at most as many as there is room for.
-fn read_room(room: usize) -> usize
+fn read_room(rt: &impl Input, room: usize) -> usize
     ensures { result ≤ room }
 {
-    let length = read_length();
+    let length = read_length(rt);
     let Length::Known(n) = length else {
         return 0;
     };
@@ -125,29 +124,29 @@ fn read_room(room: usize) -> usize
 }
 
 // The buffer, and the answers.
-fn answer_room(d: &[u8]) {
-    let mut out = io::large_buffer();
-    let n = read_room(65536);
-    answer(d, &mut out[..n]);
+fn answer_room(rt: &(impl Print + Input), d: &[u8]) {
+    let mut out = streams::large_buffer();
+    let n = read_room(rt, 65536);
+    answer(rt, d, &mut out[..n]);
 }
 
 // One record; false at the end of the input.
-fn answer_next() -> bool {
-    let mut space = io::large_buffer();
-    let length = read_length();
+fn answer_next(rt: &(impl Print + Input)) -> bool {
+    let mut space = streams::large_buffer();
+    let length = read_length(rt);
     let Length::Known(n) = length else {
         return false;
     };
-    if !read_part(&mut space, n) {
+    if !read_part(rt, &mut space, n) {
         return false;
     }
-    answer_room(&space[..n]);
+    answer_room(rt, &space[..n]);
     true
 }
 
-fn main() {
+fn main(rt: HostRuntime) {
     for _ in 0..RECORDS {
-        if !answer_next() {
+        if !answer_next(&rt) {
             return;
         }
     }
