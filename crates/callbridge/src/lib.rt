@@ -1,5 +1,5 @@
-// The C interface (include/callbridge.h): every call of a host, thin over what `c_calls` works out by value. A slice is a pointer and a
-// count, `&mut S` and `&S` are pointers to a struct. specs/Interface says what each call tells.
+// The C interface (include/callbridge.h): every call of a host, thin over what `c_calls` works out by value. specs/Interface says what each
+// call tells. `callbridge_c` hands these functions to C: Rattle's crates cite this one, and none can cite a static library.
 #![tactic(auto)]
 
 ghost use Rattle.std.specs.Prelude.{◌≡◌, [], ◌++◌, ◌≤◌, length, drop};
@@ -39,24 +39,21 @@ use form::Refusal;
 use types::Extent;
 
 // CB_VERSION.
-#[unsafe(no_mangle)]
-pub extern "C" fn cb_version() -> u32
+pub fn cb_version() -> u32
     ensures { result ≡ 5 }
 {
     flat::version()
 }
 
 // The verdict on a description.
-#[unsafe(no_mangle)]
-pub extern "C" fn cb_check(d: &[u8]) -> Refusal
+pub fn cb_check(d: &[u8]) -> Refusal
     ensures { result ≡ refusal_for d.now (verdict d.now) }
 {
     layout::check(d)
 }
 
 // Size and alignment of a type.
-#[unsafe(no_mangle)]
-pub extern "C" fn cb_type_extent(d: &[u8], asked: u8, extent: &mut Extent) -> Refusal
+pub fn cb_type_extent(d: &[u8], asked: u8, extent: &mut Extent) -> Refusal
     ensures { (result ≡ refusal_in (extent_given (extent_answer d.now asked)))
         × (extent.new ≡ left_in (extent_given (extent_answer d.now asked)) extent.old) }
 {
@@ -66,8 +63,7 @@ pub extern "C" fn cb_type_extent(d: &[u8], asked: u8, extent: &mut Extent) -> Re
 }
 
 // The classes of a type.
-#[unsafe(no_mangle)]
-pub extern "C" fn cb_type_classes(d: &[u8], asked: u8, classes: &mut Classes) -> Refusal
+pub fn cb_type_classes(d: &[u8], asked: u8, classes: &mut Classes) -> Refusal
     ensures { (result ≡ refusal_in (classes_given (classes_answer d.now asked)))
         × (classes.new ≡ left_in (classes_given (classes_answer d.now asked)) classes.old) }
 {
@@ -77,8 +73,7 @@ pub extern "C" fn cb_type_classes(d: &[u8], asked: u8, classes: &mut Classes) ->
 }
 
 // The members of a type, as a part of the description; the empty part for a refusal.
-#[unsafe(no_mangle)]
-pub extern "C" fn cb_member_run(d: &[u8], asked: u8, part: &mut Part) -> Refusal
+pub fn cb_member_run(d: &[u8], asked: u8, part: &mut Part) -> Refusal
     ensures { (result ≡ run_refusal (run_answer d.now asked)) × (part.new ≡ run_part (run_answer d.now asked)) }
 {
     let given = c_calls::member_run(d, asked);
@@ -87,8 +82,7 @@ pub extern "C" fn cb_member_run(d: &[u8], asked: u8, part: &mut Part) -> Refusal
 }
 
 // The offsets of a type's members into the list; entries past them stay.
-#[unsafe(no_mangle)]
-pub extern "C" fn cb_member_offsets(d: &[u8], asked: u8, offsets: &mut [usize]) -> Refusal
+pub fn cb_member_offsets(d: &[u8], asked: u8, offsets: &mut [usize]) -> Refusal
     ensures { (result ≡ refusal_for d.now (offsets_refusal d.now asked (length offsets.old)))
         × (offsets.new ≡ offsets_after d.now asked offsets.old) }
 {
@@ -96,8 +90,7 @@ pub extern "C" fn cb_member_offsets(d: &[u8], asked: u8, offsets: &mut [usize]) 
 }
 
 // The call as a whole.
-#[unsafe(no_mangle)]
-pub extern "C" fn cb_layout_of(d: &[u8], layout: &mut Layout) -> Refusal
+pub fn cb_layout_of(d: &[u8], layout: &mut Layout) -> Refusal
     ensures { (result ≡ refusal_in (layout_given (arguments_in d.now) (layout_answer d.now)))
         × (layout.new ≡ left_in (layout_given (arguments_in d.now) (layout_answer d.now)) layout.old) }
 {
@@ -107,8 +100,7 @@ pub extern "C" fn cb_layout_of(d: &[u8], layout: &mut Layout) -> Refusal
 }
 
 // The call as a whole, and one record for each argument into the list; entries past them stay.
-#[unsafe(no_mangle)]
-pub extern "C" fn cb_lay_out(d: &[u8], layout: &mut Layout, list: &mut [Placement]) -> Refusal
+pub fn cb_lay_out(d: &[u8], layout: &mut Layout, list: &mut [Placement]) -> Refusal
     ensures { (result ≡ refusal_in (list_given d.now (length list.old)))
         × ((layout.new ≡ left_in (list_given d.now (length list.old)) layout.old)
         × (list.new ≡ filled (flat_at d.now) (list_count d.now (length list.old)) list.old)) }
@@ -128,8 +120,7 @@ pub extern "C" fn cb_lay_out(d: &[u8], layout: &mut Layout, list: &mut [Placemen
 }
 
 // Whether an argument goes to the stack, told at the first that does.
-#[unsafe(no_mangle)]
-pub extern "C" fn cb_needs_stack(d: &[u8], need: &mut StackNeed) -> Refusal
+pub fn cb_needs_stack(d: &[u8], need: &mut StackNeed) -> Refusal
     ensures { (result ≡ refusal_in (need_given (stack_answer d.now)))
         × (need.new ≡ left_in (need_given (stack_answer d.now)) need.old) }
 {
@@ -139,8 +130,7 @@ pub extern "C" fn cb_needs_stack(d: &[u8], need: &mut StackNeed) -> Refusal
 }
 
 // The layout as text; the answer is its length.
-#[unsafe(no_mangle)]
-pub extern "C" fn cb_write_listing(d: &[u8], out: &mut [u8; 8192]) -> usize
+pub fn cb_write_listing(d: &[u8], out: &mut [u8; 8192]) -> usize
     ensures { (result ≡ length (listing d.now)) × (result ≤ 4540)
         × (out.new ≡ listing d.now ++ drop (length (listing d.now)) out.old) }
 {
@@ -148,8 +138,7 @@ pub extern "C" fn cb_write_listing(d: &[u8], out: &mut [u8; 8192]) -> usize
 }
 
 // The length of the tidy form.
-#[unsafe(no_mangle)]
-pub extern "C" fn cb_tidy_length(d: &[u8], tidied: &mut Tidied) -> Refusal
+pub fn cb_tidy_length(d: &[u8], tidied: &mut Tidied) -> Refusal
     ensures { (result ≡ refusal_in (tidied_given (length_answer d.now)))
         × (tidied.new ≡ left_in (tidied_given (length_answer d.now)) tidied.old) }
 {
@@ -159,8 +148,7 @@ pub extern "C" fn cb_tidy_length(d: &[u8], tidied: &mut Tidied) -> Refusal
 }
 
 // The tidy form of the description.
-#[unsafe(no_mangle)]
-pub extern "C" fn cb_tidy(d: &[u8], out: &mut [u8]) -> Refusal
+pub fn cb_tidy(d: &[u8], out: &mut [u8]) -> Refusal
     ensures { (result ≡ refusal_for d.now (tidy_refusal d.now (length out.old)))
         × (out.new ≡ tidy_after d.now out.old) }
 {
@@ -168,8 +156,7 @@ pub extern "C" fn cb_tidy(d: &[u8], out: &mut [u8]) -> Refusal
 }
 
 // Values into the three images.
-#[unsafe(no_mangle)]
-pub extern "C" fn cb_place_values(
+pub fn cb_place_values(
     d: &[u8],
     hidden: u64,
     values: &[u8],
@@ -190,8 +177,7 @@ pub extern "C" fn cb_place_values(
 }
 
 // Values out of the three images.
-#[unsafe(no_mangle)]
-pub extern "C" fn cb_gather_values(
+pub fn cb_gather_values(
     d: &[u8],
     registers: &[u8],
     upper: &[u8],
@@ -209,8 +195,7 @@ pub extern "C" fn cb_gather_values(
 }
 
 // A returned value into the two return images.
-#[unsafe(no_mangle)]
-pub extern "C" fn cb_put_returned(
+pub fn cb_put_returned(
     d: &[u8],
     hidden: u64,
     value: &[u8],
@@ -225,8 +210,7 @@ pub extern "C" fn cb_put_returned(
 }
 
 // A returned value out of the two return images.
-#[unsafe(no_mangle)]
-pub extern "C" fn cb_take_returned(
+pub fn cb_take_returned(
     d: &[u8],
     image: &[u8],
     upper: &[u8],
@@ -243,16 +227,14 @@ pub extern "C" fn cb_take_returned(
 }
 
 // A station that nothing was ever attached to.
-#[unsafe(no_mangle)]
-pub extern "C" fn cb_new_station() -> Station
+pub fn cb_new_station() -> Station
     ensures { result ≡ flat_station new_station }
 {
     flat::flat_station(station::new_station())
 }
 
 // The description into the seat.
-#[unsafe(no_mangle)]
-pub extern "C" fn cb_attach(station: &mut Station, seat: &mut [u8], d: &[u8]) -> Refusal
+pub fn cb_attach(station: &mut Station, seat: &mut [u8], d: &[u8]) -> Refusal
     ensures { (result ≡ refusal_in (attach_given station.old seat.old d.now))
         × ((station.new ≡ left_in (attach_given station.old seat.old d.now) station.old)
         × (seat.new ≡ attach_seat kcb (station_meant station.old) seat.old d.now)) }
@@ -263,8 +245,7 @@ pub extern "C" fn cb_attach(station: &mut Station, seat: &mut [u8], d: &[u8]) ->
 }
 
 // The seat emptied.
-#[unsafe(no_mangle)]
-pub extern "C" fn cb_detach(station: &mut Station, seat: &mut [u8]) -> Refusal
+pub fn cb_detach(station: &mut Station, seat: &mut [u8]) -> Refusal
     ensures { (result ≡ refusal_in (detach_given station.old seat.old))
         × ((station.new ≡ left_in (detach_given station.old seat.old) station.old)
         × (seat.new ≡ detach_seat (station_meant station.old) seat.old)) }
@@ -275,8 +256,7 @@ pub extern "C" fn cb_detach(station: &mut Station, seat: &mut [u8]) -> Refusal
 }
 
 // The seat emptied, and the description into it: the one call where a refusal writes.
-#[unsafe(no_mangle)]
-pub extern "C" fn cb_change(station: &mut Station, seat: &mut [u8], d: &[u8]) -> Refusal
+pub fn cb_change(station: &mut Station, seat: &mut [u8], d: &[u8]) -> Refusal
     ensures { (result ≡ refusal_in (change_given station.old seat.old d.now))
         × ((station.new ≡ left_in (change_given station.old seat.old d.now) (freed_station station.old seat.old))
         × (seat.new ≡ change_seat kcb (station_meant station.old) seat.old d.now)) }
@@ -287,8 +267,7 @@ pub extern "C" fn cb_change(station: &mut Station, seat: &mut [u8], d: &[u8]) ->
 }
 
 // A walk before the first unnamed argument.
-#[unsafe(no_mangle)]
-pub extern "C" fn cb_open_walk(station: &Station, seat: &[u8], walk: &mut Walk) -> Refusal
+pub fn cb_open_walk(station: &Station, seat: &[u8], walk: &mut Walk) -> Refusal
     ensures { (result ≡ refusal_in (open_given (open_answer kcb (station_meant station.now) seat.now)))
         × (walk.new ≡ left_in (open_given (open_answer kcb (station_meant station.now) seat.now)) walk.old) }
 {
@@ -298,8 +277,7 @@ pub extern "C" fn cb_open_walk(station: &Station, seat: &[u8], walk: &mut Walk) 
 }
 
 // The next argument's bytes, and the walk behind it.
-#[unsafe(no_mangle)]
-pub extern "C" fn cb_step(
+pub fn cb_step(
     station: &Station,
     seat: &[u8],
     walk: &mut Walk,
@@ -317,9 +295,8 @@ pub extern "C" fn cb_step(
     given.refusal
 }
 
-// (asking_rest (now (registers .entry)) (now (stack .entry)) (now (asked .entry)) (now (out .entry)))ll remaining arguments' bytes, packed, and the walk at its end.
-#[unsafe(no_mangle)]
-pub extern "C" fn cb_finish_walk(
+// All remaining arguments' bytes, packed, and the walk at its end.
+pub fn cb_finish_walk(
     station: &Station,
     seat: &[u8],
     walk: &mut Walk,
@@ -338,8 +315,7 @@ pub extern "C" fn cb_finish_walk(
 }
 
 // Where the next argument lies; the empty part for a refusal.
-#[unsafe(no_mangle)]
-pub extern "C" fn cb_show(
+pub fn cb_show(
     station: &Station,
     seat: &[u8],
     walk: &Walk,
