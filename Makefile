@@ -13,13 +13,14 @@ INCLUDE = $(DESTDIR)$(PREFIX)/include
 MAN = $(DESTDIR)$(PREFIX)/share/man
 DOC = $(DESTDIR)$(PREFIX)/share/doc/callbridge
 
-# The crates whose functions C calls. `rt staticlib` exports those of the one crate that it is given; all are joined in one archive.
-BRIDGES = callbridge
+# The static libraries whose functions C calls. `rt lib` exports those of the crate in whose folder it is called; all are joined in one archive.
+BRIDGES = callbridge_c
+ARCHIVES = $(foreach bridge,$(BRIDGES),crates/$(bridge)/out/lib$(bridge).a)
 LIBRARY = target/staticlib/libcallbridge.a
 SHARED = target/shared/libcallbridge.so.$(VERSION)
 LISTER = target/bin/lister
 TIDIER = target/bin/tidier
-SOURCES = crates.txt $(shell find crates -name '*.rt' -o -name '*.antt')
+SOURCES = crates.txt $(shell find crates -path '*/out' -prune -o -type f '(' -name '*.rt' -o -name '*.antt' ')' -print)
 
 # What is built is x86-64 code, whatever machine builds it: on another one Debian's compiler for x86-64 links the shared library.
 MACHINE := $(shell uname -m)
@@ -33,17 +34,30 @@ endif
 
 all: $(LIBRARY) shared $(LISTER) $(TIDIER)
 
-$(LIBRARY): $(SOURCES)
-	for bridge in $(BRIDGES); do rt staticlib $$bridge || exit 1; done
-	cd target/staticlib && for bridge in $(filter-out callbridge,$(BRIDGES)); do $(JOIN) x lib$$bridge.a && $(JOIN) qs libcallbridge.a $$bridge.o && rm $$bridge.o || exit 1; done
+$(LIBRARY): $(ARCHIVES)
+	mkdir -p target/staticlib
+	cp $< $@
+	cd target/staticlib && for bridge in $(filter-out $(firstword $(BRIDGES)),$(BRIDGES)); do \
+	    $(JOIN) x ../../crates/$$bridge/out/lib$$bridge.a && $(JOIN) qs libcallbridge.a $$bridge.o && rm $$bridge.o || exit 1; done
 
-$(LISTER): $(SOURCES)
-	rt check lister
-	touch $(LISTER)
+# What `rt` proves and builds stands in the out/ of a crate's folder. It is as old as what was proved last, where nothing has changed since.
+define built_archive
+crates/$(1)/out/lib$(1).a: $$(SOURCES)
+	cd crates/$(1) && rt lib
+	touch $$@
+endef
+$(foreach bridge,$(BRIDGES),$(eval $(call built_archive,$(bridge))))
 
-$(TIDIER): $(SOURCES)
-	rt check tidier
-	touch $(TIDIER)
+# `rt run` starts what it has built: on no input, and what is written then is thrown away.
+define built_program
+target/bin/$(1): crates/$(1)/out/$(1)
+	mkdir -p target/bin
+	cp $$< $$@
+crates/$(1)/out/$(1): $$(SOURCES)
+	cd crates/$(1) && rt run </dev/null >/dev/null
+	touch $$@
+endef
+$(foreach program,lister tidier text_vectors,$(eval $(call built_program,$(program))))
 
 shared: $(SHARED)
 
@@ -96,6 +110,6 @@ uninstall:
 	rmdir $(CMAKE) $(DOC) 2>/dev/null || true
 
 clean:
-	rm -rf target tests/target bindings/rust/target
+	rm -rf target tests/target bindings/rust/target crates/*/out
 
 .PHONY: all shared test bench install uninstall clean
