@@ -14,6 +14,7 @@ MAN = $(DESTDIR)$(PREFIX)/share/man
 DOC = $(DESTDIR)$(PREFIX)/share/doc/callbridge
 
 # The static libraries whose functions C calls. `rt lib` exports those of the crate in whose folder it is called; all are joined in one archive.
+# Unlike a program, a library does not look at what processor it runs on: it has code for all of x86-64.
 BRIDGES = callbridge_c
 ARCHIVES = $(foreach bridge,$(BRIDGES),crates/$(bridge)/out/lib$(bridge).a)
 LIBRARY = target/staticlib/libcallbridge.a
@@ -43,7 +44,7 @@ $(LIBRARY): $(ARCHIVES)
 # What `rt` proves and builds stands in the out/ of a crate's folder. It is as old as what was proved last, where nothing has changed since.
 define built_archive
 crates/$(1)/out/lib$(1).a: $$(SOURCES)
-	cd crates/$(1) && rt lib
+	cd crates/$(1) && rt lib --cpu x86-64
 	touch $$@
 endef
 $(foreach bridge,$(BRIDGES),$(eval $(call built_archive,$(bridge))))
