@@ -1,6 +1,5 @@
 -- Written by tools/grammar: from how many open groups to how many each symbol of the grammar leads, at least, in the order of its table; that they are right is tested. Assumes nothing.
-use mathlib.Core.List.{List, [], ◌∷◌}
-use Prim.Native.Nat.{ℕ}
+use Rattle.std.specs.Prelude.{List, [], ◌∷◌, ℕ}
 use Rattle.collecting.proofs.Depth.{Way, none, way}
 
 -- before the result: no item outside of groups

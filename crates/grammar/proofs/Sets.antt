@@ -1,6 +1,5 @@
 -- Written by tools/grammar: what may follow each symbol of the grammar, and an example of each, in the order of its table; that they are right is tested. Assumes nothing.
-use mathlib.Core.List.{List, [], ◌∷◌}
-use Prim.Native.Nat.{ℕ}
+use Rattle.std.specs.Prelude.{List, [], ◌∷◌, ℕ}
 use Rattle.listing.specs.Characters.{bytes}
 
 unfoldable pub follows : List (List ℕ)

@@ -1,6 +1,5 @@
 -- Written by tools/grammar: the tables of the code. Assumes nothing: these are definitions.
-use mathlib.Core.List.{List, [], ◌∷◌}
-use Prim.Native.Nat.{ℕ}
+use Rattle.std.specs.Prelude.{List, [], ◌∷◌, ℕ}
 
 unfoldable pub class_list : List ℕ
 class_list =
