@@ -15,7 +15,7 @@ class Function(typing.NamedTuple):
     name: str
     parameters: list  # the name and the type of each
     result: str  # its type, or '' for none
-    clauses: dict  # the texts of `requires` and `ensures`
+    clauses: dict  # `requires` and `ensures` -> the texts of these clauses, in their order
 
     @property
     def pair(self):
@@ -71,23 +71,34 @@ def apart(text):
 # ---- crates and functions
 
 
+def crate_lines():
+    """Of each line of crates.txt the words before the colon, the crate's name first, and the crates that it names."""
+    lines = [line.partition('#')[0].partition(':') for line in read('crates.txt').splitlines()]
+    return [(words.split(), named.split()) for words, colon, named in lines if colon]
+
+
 def crates():
     """Each crate of crates.txt -> the crates that it names."""
-    lines = [line.partition('#')[0].partition(':') for line in read('crates.txt').splitlines()]
-    return {name.strip(): named.split() for name, colon, named in lines if colon}
+    return {words[0]: named for words, named in crate_lines()}
+
+
+def static_libraries():
+    """The crates that are libraries for C alone."""
+    return [words[0] for words, _ in crate_lines() if 'staticlib' in words]
 
 
 def library_crates():
-    return [name for name in crates() if there(source(name, 'lib'))]
+    """The crates that other crates can name."""
+    return [name for name in crates() if there(source(name, 'lib')) and name not in static_libraries()]
 
 
-def public_functions():
+def public_functions(crates=None):
     """(crate, function) -> Function, for each `pub fn` of a library's root and each that the root passes on by `pub use`."""
     found = {}
-    for crate in library_crates():
+    for crate in library_crates() if crates is None else crates:
         seen = {'lib': None}  # module -> what the root passes on of it; of the root itself, all that is `pub`
-        for module, item in re.findall(r'^pub use (\w+)::(\w+);', read(source(crate, 'lib')), re.M):
-            seen.setdefault(module, set()).add(item)
+        for module, items in re.findall(r'^pub use (\w+)::(\w+|\{[^}]*\});', read(source(crate, 'lib')), re.M):
+            seen.setdefault(module, set()).update(re.findall(r'\w+', items))
         for module, items in seen.items():
             text = code(crate, module)
             for match in re.finditer(r'\bpub\s+(?:extern\s+"C"\s+)?fn\s+(\w+)\s*(?:<[^>]*>)?\s*\(', text):
@@ -111,13 +122,13 @@ def signature(text, at):
     """The result and the clauses of the function whose parameters end at `at`."""
     head, clauses = '', {}
     while True:
-        clause = re.match(r'([^{]*?)\b(requires|ensures)\s*\{', text[at:])
+        clause = re.match(r'([^{]*?)\b(requires|ensures)\s*(?:\w+\s*)?\{', text[at:])
         if not clause:
             break
         head = head or clause.group(1)
         start = at + clause.end()
         at = closing(text, start, '{}')
-        clauses[clause.group(2)] = text[start : at - 1]
+        clauses.setdefault(clause.group(2), []).append(text[start : at - 1])
     head = head or text[at : text.index('{', at)]
     result = re.match(r'\s*->\s*(.*)', head.strip())
     return result.group(1).strip() if result else '', clauses
@@ -132,7 +143,7 @@ def declared(crate, module, path):
     if not way:
         if re.search(r'\b(?:struct|enum)\s+%s\b' % name, text):
             return crate, module
-        used = re.search(r'^(?:pub )?use ((?:\w+::)+)%s;' % name, text, re.M)
+        used = re.search(r'^(?:pub )?use ((?:\w+::)+)(?:%s|\{(?:[^}]*\W)?%s\b[^}]*\});' % (name, name), text, re.M)
         if not used:
             return None
         way = used.group(1).split('::')[:-1]
@@ -211,26 +222,26 @@ def exceptions(functions):
 
 
 def label(kind, pair):
-    return '%s-%s-%s' % (kind, pair[0].replace('_', '-'), pair[1].replace('_', '-'))
+    return '%s_%s_%s' % (kind, *pair)
 
 
 def symbol(pair):
-    """What a file of theorems calls the module that names the function's code."""
-    return pair[1].replace('_', '-') + '-symbol'
+    """What a file of theorems calls the module that names the function and its code."""
+    return pair[1] + '_symbol'
 
 
 def statement_of(kind, pair, result):
     """What the theorem must say."""
-    about = '%s.ended (λ M. %s.clauses {M = M})' % (pair[1], pair[1])
+    about = '%s.ended (λ M 𝓤 𝓛. %s.clauses 𝓛)' % (pair[1], pair[1])
     if kind == 'total':
         return 'Total ' + about
     if kind == 'meets':
-        return 'Meets %s %s.routine' % (about, symbol(pair))
+        return 'Meets %s %s.name %s.code' % (about, symbol(pair), symbol(pair))
     if result.startswith('&'):
-        return 'TightPart ' + about.replace('.ended ', '.ended (λ c r. now r) ')
+        return 'TightPart ' + about.replace('.ended ', '.ended (λ c r. r.now) ')
     return 'Tight ' + about
 
 
 def theorems(path):
     """Name and statement of each theorem of a file."""
-    return re.findall(r'^pub ((?:tight|meets|total)-\S+) : (.*)$', read(path), re.M)
+    return re.findall(r'^pub ((?:tight|meets|total)_\S+) : (.*)$', read(path), re.M)

@@ -1,5 +1,5 @@
 -- Written by tools/tightness: "Each public call accepts all inputs": the contracts of the calls that hosts use ask nothing, one theorem for each. Assumes nothing.
-use mathlib.Core.Path.{refl}
+use Rattle.std.specs.Prelude.{refl}
 use Rattle.tightness.specs.Tight.{Total}
 use Rattle.form.specs.contracts.read_form
 use Rattle.questions.specs.contracts.type_size
@@ -72,212 +72,212 @@ use Rattle.callbridge.specs.contracts.cb_step
 use Rattle.callbridge.specs.contracts.cb_finish_walk
 use Rattle.callbridge.specs.contracts.cb_show
 
-pub total-form_read_form : Total read_form.ended (λ M. read_form.clauses {M = M})
-total-form_read_form c g = refl
+pub total_form_read_form : Total read_form.ended (λ M 𝓤 𝓛. read_form.clauses 𝓛)
+total_form_read_form c g = refl
 
-pub total-questions_type_size : Total type_size.ended (λ M. type_size.clauses {M = M})
-total-questions_type_size c g = refl
+pub total_questions_type_size : Total type_size.ended (λ M 𝓤 𝓛. type_size.clauses 𝓛)
+total_questions_type_size c g = refl
 
-pub total-questions_type_align : Total type_align.ended (λ M. type_align.clauses {M = M})
-total-questions_type_align c g = refl
+pub total_questions_type_align : Total type_align.ended (λ M 𝓤 𝓛. type_align.clauses 𝓛)
+total_questions_type_align c g = refl
 
-pub total-questions_type_extent : Total type_extent.ended (λ M. type_extent.clauses {M = M})
-total-questions_type_extent c g = refl
+pub total_questions_type_extent : Total type_extent.ended (λ M 𝓤 𝓛. type_extent.clauses 𝓛)
+total_questions_type_extent c g = refl
 
-pub total-questions_type_classes : Total type_classes.ended (λ M. type_classes.clauses {M = M})
-total-questions_type_classes c g = refl
+pub total_questions_type_classes : Total type_classes.ended (λ M 𝓤 𝓛. type_classes.clauses 𝓛)
+total_questions_type_classes c g = refl
 
-pub total-questions_run_at : Total run_at.ended (λ M. run_at.clauses {M = M})
-total-questions_run_at c g = refl
+pub total_questions_run_at : Total run_at.ended (λ M 𝓤 𝓛. run_at.clauses 𝓛)
+total_questions_run_at c g = refl
 
-pub total-questions_member_run : Total member_run.ended (λ M. member_run.clauses {M = M})
-total-questions_member_run c g = refl
+pub total_questions_member_run : Total member_run.ended (λ M 𝓤 𝓛. member_run.clauses 𝓛)
+total_questions_member_run c g = refl
 
-pub total-questions_member_offsets : Total member_offsets.ended (λ M. member_offsets.clauses {M = M})
-total-questions_member_offsets c g = refl
+pub total_questions_member_offsets : Total member_offsets.ended (λ M 𝓤 𝓛. member_offsets.clauses 𝓛)
+total_questions_member_offsets c g = refl
 
-pub total-layout_check : Total check.ended (λ M. check.clauses {M = M})
-total-layout_check c g = refl
+pub total_layout_check : Total check.ended (λ M 𝓤 𝓛. check.clauses 𝓛)
+total_layout_check c g = refl
 
-pub total-layout_layout_of : Total layout_of.ended (λ M. layout_of.clauses {M = M})
-total-layout_layout_of c g = refl
+pub total_layout_layout_of : Total layout_of.ended (λ M 𝓤 𝓛. layout_of.clauses 𝓛)
+total_layout_layout_of c g = refl
 
-pub total-layout_needs_stack : Total needs_stack.ended (λ M. needs_stack.clauses {M = M})
-total-layout_needs_stack c g = refl
+pub total_layout_needs_stack : Total needs_stack.ended (λ M 𝓤 𝓛. needs_stack.clauses 𝓛)
+total_layout_needs_stack c g = refl
 
-pub total-layout_lay_out : Total lay_out.ended (λ M. lay_out.clauses {M = M})
-total-layout_lay_out c g = refl
+pub total_layout_lay_out : Total lay_out.ended (λ M 𝓤 𝓛. lay_out.clauses 𝓛)
+total_layout_lay_out c g = refl
 
-pub total-old_types_old_extent : Total old_extent.ended (λ M. old_extent.clauses {M = M})
-total-old_types_old_extent c g = refl
+pub total_old_types_old_extent : Total old_extent.ended (λ M 𝓤 𝓛. old_extent.clauses 𝓛)
+total_old_types_old_extent c g = refl
 
-pub total-old_types_old_run_at : Total old_run_at.ended (λ M. old_run_at.clauses {M = M})
-total-old_types_old_run_at c g = refl
+pub total_old_types_old_run_at : Total old_run_at.ended (λ M 𝓤 𝓛. old_run_at.clauses 𝓛)
+total_old_types_old_run_at c g = refl
 
-pub total-old_types_old_member_run : Total old_member_run.ended (λ M. old_member_run.clauses {M = M})
-total-old_types_old_member_run c g = refl
+pub total_old_types_old_member_run : Total old_member_run.ended (λ M 𝓤 𝓛. old_member_run.clauses 𝓛)
+total_old_types_old_member_run c g = refl
 
-pub total-old_types_kept_refusal : Total kept_refusal.ended (λ M. kept_refusal.clauses {M = M})
-total-old_types_kept_refusal c g = refl
+pub total_old_types_kept_refusal : Total kept_refusal.ended (λ M 𝓤 𝓛. kept_refusal.clauses 𝓛)
+total_old_types_kept_refusal c g = refl
 
-pub total-old_layout_old_check : Total old_check.ended (λ M. old_check.clauses {M = M})
-total-old_layout_old_check c g = refl
+pub total_old_layout_old_check : Total old_check.ended (λ M 𝓤 𝓛. old_check.clauses 𝓛)
+total_old_layout_old_check c g = refl
 
-pub total-old_layout_old_layout_of : Total old_layout_of.ended (λ M. old_layout_of.clauses {M = M})
-total-old_layout_old_layout_of c g = refl
+pub total_old_layout_old_layout_of : Total old_layout_of.ended (λ M 𝓤 𝓛. old_layout_of.clauses 𝓛)
+total_old_layout_old_layout_of c g = refl
 
-pub total-old_layout_old_layout_with : Total old_layout_with.ended (λ M. old_layout_with.clauses {M = M})
-total-old_layout_old_layout_with c g = refl
+pub total_old_layout_old_layout_with : Total old_layout_with.ended (λ M 𝓤 𝓛. old_layout_with.clauses 𝓛)
+total_old_layout_old_layout_with c g = refl
 
-pub total-tidying_tidy_length : Total tidy_length.ended (λ M. tidy_length.clauses {M = M})
-total-tidying_tidy_length c g = refl
+pub total_tidying_tidy_length : Total tidy_length.ended (λ M 𝓤 𝓛. tidy_length.clauses 𝓛)
+total_tidying_tidy_length c g = refl
 
-pub total-tidying_tidy : Total tidy.ended (λ M. tidy.clauses {M = M})
-total-tidying_tidy c g = refl
+pub total_tidying_tidy : Total tidy.ended (λ M 𝓤 𝓛. tidy.clauses 𝓛)
+total_tidying_tidy c g = refl
 
-pub total-moving_place_values : Total place_values.ended (λ M. place_values.clauses {M = M})
-total-moving_place_values c g = refl
+pub total_moving_place_values : Total place_values.ended (λ M 𝓤 𝓛. place_values.clauses 𝓛)
+total_moving_place_values c g = refl
 
-pub total-moving_gather_values : Total gather_values.ended (λ M. gather_values.clauses {M = M})
-total-moving_gather_values c g = refl
+pub total_moving_gather_values : Total gather_values.ended (λ M 𝓤 𝓛. gather_values.clauses 𝓛)
+total_moving_gather_values c g = refl
 
-pub total-returning_put_returned : Total put_returned.ended (λ M. put_returned.clauses {M = M})
-total-returning_put_returned c g = refl
+pub total_returning_put_returned : Total put_returned.ended (λ M 𝓤 𝓛. put_returned.clauses 𝓛)
+total_returning_put_returned c g = refl
 
-pub total-returning_take_returned : Total take_returned.ended (λ M. take_returned.clauses {M = M})
-total-returning_take_returned c g = refl
+pub total_returning_take_returned : Total take_returned.ended (λ M 𝓤 𝓛. take_returned.clauses 𝓛)
+total_returning_take_returned c g = refl
 
-pub total-planning_plan_of : Total plan_of.ended (λ M. plan_of.clauses {M = M})
-total-planning_plan_of c g = refl
+pub total_planning_plan_of : Total plan_of.ended (λ M 𝓤 𝓛. plan_of.clauses 𝓛)
+total_planning_plan_of c g = refl
 
-pub total-by_plan_place_by_plan : Total place_by_plan.ended (λ M. place_by_plan.clauses {M = M})
-total-by_plan_place_by_plan c g = refl
+pub total_by_plan_place_by_plan : Total place_by_plan.ended (λ M 𝓤 𝓛. place_by_plan.clauses 𝓛)
+total_by_plan_place_by_plan c g = refl
 
-pub total-by_plan_gather_by_plan : Total gather_by_plan.ended (λ M. gather_by_plan.clauses {M = M})
-total-by_plan_gather_by_plan c g = refl
+pub total_by_plan_gather_by_plan : Total gather_by_plan.ended (λ M 𝓤 𝓛. gather_by_plan.clauses 𝓛)
+total_by_plan_gather_by_plan c g = refl
 
-pub total-by_plan_put_by_plan : Total put_by_plan.ended (λ M. put_by_plan.clauses {M = M})
-total-by_plan_put_by_plan c g = refl
+pub total_by_plan_put_by_plan : Total put_by_plan.ended (λ M 𝓤 𝓛. put_by_plan.clauses 𝓛)
+total_by_plan_put_by_plan c g = refl
 
-pub total-by_plan_take_by_plan : Total take_by_plan.ended (λ M. take_by_plan.clauses {M = M})
-total-by_plan_take_by_plan c g = refl
+pub total_by_plan_take_by_plan : Total take_by_plan.ended (λ M 𝓤 𝓛. take_by_plan.clauses 𝓛)
+total_by_plan_take_by_plan c g = refl
 
-pub total-station_new_station : Total new_station.ended (λ M. new_station.clauses {M = M})
-total-station_new_station c g = refl
+pub total_station_new_station : Total new_station.ended (λ M 𝓤 𝓛. new_station.clauses 𝓛)
+total_station_new_station c g = refl
 
-pub total-station_attach : Total attach.ended (λ M. attach.clauses {M = M})
-total-station_attach c g = refl
+pub total_station_attach : Total attach.ended (λ M 𝓤 𝓛. attach.clauses 𝓛)
+total_station_attach c g = refl
 
-pub total-station_attach_by_value : Total attach_by_value.ended (λ M. attach_by_value.clauses {M = M})
-total-station_attach_by_value c g = refl
+pub total_station_attach_by_value : Total attach_by_value.ended (λ M 𝓤 𝓛. attach_by_value.clauses 𝓛)
+total_station_attach_by_value c g = refl
 
-pub total-station_detach : Total detach.ended (λ M. detach.clauses {M = M})
-total-station_detach c g = refl
+pub total_station_detach : Total detach.ended (λ M 𝓤 𝓛. detach.clauses 𝓛)
+total_station_detach c g = refl
 
-pub total-station_detach_by_value : Total detach_by_value.ended (λ M. detach_by_value.clauses {M = M})
-total-station_detach_by_value c g = refl
+pub total_station_detach_by_value : Total detach_by_value.ended (λ M 𝓤 𝓛. detach_by_value.clauses 𝓛)
+total_station_detach_by_value c g = refl
 
-pub total-station_change : Total change.ended (λ M. change.clauses {M = M})
-total-station_change c g = refl
+pub total_station_change : Total change.ended (λ M 𝓤 𝓛. change.clauses 𝓛)
+total_station_change c g = refl
 
-pub total-station_change_by_value : Total change_by_value.ended (λ M. change_by_value.clauses {M = M})
-total-station_change_by_value c g = refl
+pub total_station_change_by_value : Total change_by_value.ended (λ M 𝓤 𝓛. change_by_value.clauses 𝓛)
+total_station_change_by_value c g = refl
 
-pub total-walk_open_walk : Total open_walk.ended (λ M. open_walk.clauses {M = M})
-total-walk_open_walk c g = refl
+pub total_walk_open_walk : Total open_walk.ended (λ M 𝓤 𝓛. open_walk.clauses 𝓛)
+total_walk_open_walk c g = refl
 
-pub total-walk_step : Total step.ended (λ M. step.clauses {M = M})
-total-walk_step c g = refl
+pub total_walk_step : Total step.ended (λ M 𝓤 𝓛. step.clauses 𝓛)
+total_walk_step c g = refl
 
-pub total-walk_step_by_value : Total step_by_value.ended (λ M. step_by_value.clauses {M = M})
-total-walk_step_by_value c g = refl
+pub total_walk_step_by_value : Total step_by_value.ended (λ M 𝓤 𝓛. step_by_value.clauses 𝓛)
+total_walk_step_by_value c g = refl
 
-pub total-finishing_finish_walk : Total finish_walk.ended (λ M. finish_walk.clauses {M = M})
-total-finishing_finish_walk c g = refl
+pub total_finishing_finish_walk : Total finish_walk.ended (λ M 𝓤 𝓛. finish_walk.clauses 𝓛)
+total_finishing_finish_walk c g = refl
 
-pub total-finishing_finish_by_value : Total finish_by_value.ended (λ M. finish_by_value.clauses {M = M})
-total-finishing_finish_by_value c g = refl
+pub total_finishing_finish_by_value : Total finish_by_value.ended (λ M 𝓤 𝓛. finish_by_value.clauses 𝓛)
+total_finishing_finish_by_value c g = refl
 
-pub total-walk_shown_at : Total shown_at.ended (λ M. shown_at.clauses {M = M})
-total-walk_shown_at c g = refl
+pub total_walk_shown_at : Total shown_at.ended (λ M 𝓤 𝓛. shown_at.clauses 𝓛)
+total_walk_shown_at c g = refl
 
-pub total-walk_show : Total show.ended (λ M. show.clauses {M = M})
-total-walk_show c g = refl
+pub total_walk_show : Total show.ended (λ M 𝓤 𝓛. show.clauses 𝓛)
+total_walk_show c g = refl
 
-pub total-walk_show_number : Total show_number.ended (λ M. show_number.clauses {M = M})
-total-walk_show_number c g = refl
+pub total_walk_show_number : Total show_number.ended (λ M 𝓤 𝓛. show_number.clauses 𝓛)
+total_walk_show_number c g = refl
 
-pub total-listing_write_listing : Total write_listing.ended (λ M. write_listing.clauses {M = M})
-total-listing_write_listing c g = refl
+pub total_listing_write_listing : Total write_listing.ended (λ M 𝓤 𝓛. write_listing.clauses 𝓛)
+total_listing_write_listing c g = refl
 
-pub total-callbridge_cb_version : Total cb_version.ended (λ M. cb_version.clauses {M = M})
-total-callbridge_cb_version c g = refl
+pub total_callbridge_cb_version : Total cb_version.ended (λ M 𝓤 𝓛. cb_version.clauses 𝓛)
+total_callbridge_cb_version c g = refl
 
-pub total-callbridge_cb_check : Total cb_check.ended (λ M. cb_check.clauses {M = M})
-total-callbridge_cb_check c g = refl
+pub total_callbridge_cb_check : Total cb_check.ended (λ M 𝓤 𝓛. cb_check.clauses 𝓛)
+total_callbridge_cb_check c g = refl
 
-pub total-callbridge_cb_type_extent : Total cb_type_extent.ended (λ M. cb_type_extent.clauses {M = M})
-total-callbridge_cb_type_extent c g = refl
+pub total_callbridge_cb_type_extent : Total cb_type_extent.ended (λ M 𝓤 𝓛. cb_type_extent.clauses 𝓛)
+total_callbridge_cb_type_extent c g = refl
 
-pub total-callbridge_cb_type_classes : Total cb_type_classes.ended (λ M. cb_type_classes.clauses {M = M})
-total-callbridge_cb_type_classes c g = refl
+pub total_callbridge_cb_type_classes : Total cb_type_classes.ended (λ M 𝓤 𝓛. cb_type_classes.clauses 𝓛)
+total_callbridge_cb_type_classes c g = refl
 
-pub total-callbridge_cb_member_run : Total cb_member_run.ended (λ M. cb_member_run.clauses {M = M})
-total-callbridge_cb_member_run c g = refl
+pub total_callbridge_cb_member_run : Total cb_member_run.ended (λ M 𝓤 𝓛. cb_member_run.clauses 𝓛)
+total_callbridge_cb_member_run c g = refl
 
-pub total-callbridge_cb_member_offsets : Total cb_member_offsets.ended (λ M. cb_member_offsets.clauses {M = M})
-total-callbridge_cb_member_offsets c g = refl
+pub total_callbridge_cb_member_offsets : Total cb_member_offsets.ended (λ M 𝓤 𝓛. cb_member_offsets.clauses 𝓛)
+total_callbridge_cb_member_offsets c g = refl
 
-pub total-callbridge_cb_layout_of : Total cb_layout_of.ended (λ M. cb_layout_of.clauses {M = M})
-total-callbridge_cb_layout_of c g = refl
+pub total_callbridge_cb_layout_of : Total cb_layout_of.ended (λ M 𝓤 𝓛. cb_layout_of.clauses 𝓛)
+total_callbridge_cb_layout_of c g = refl
 
-pub total-callbridge_cb_needs_stack : Total cb_needs_stack.ended (λ M. cb_needs_stack.clauses {M = M})
-total-callbridge_cb_needs_stack c g = refl
+pub total_callbridge_cb_needs_stack : Total cb_needs_stack.ended (λ M 𝓤 𝓛. cb_needs_stack.clauses 𝓛)
+total_callbridge_cb_needs_stack c g = refl
 
-pub total-callbridge_cb_lay_out : Total cb_lay_out.ended (λ M. cb_lay_out.clauses {M = M})
-total-callbridge_cb_lay_out c g = refl
+pub total_callbridge_cb_lay_out : Total cb_lay_out.ended (λ M 𝓤 𝓛. cb_lay_out.clauses 𝓛)
+total_callbridge_cb_lay_out c g = refl
 
-pub total-callbridge_cb_write_listing : Total cb_write_listing.ended (λ M. cb_write_listing.clauses {M = M})
-total-callbridge_cb_write_listing c g = refl
+pub total_callbridge_cb_write_listing : Total cb_write_listing.ended (λ M 𝓤 𝓛. cb_write_listing.clauses 𝓛)
+total_callbridge_cb_write_listing c g = refl
 
-pub total-callbridge_cb_tidy_length : Total cb_tidy_length.ended (λ M. cb_tidy_length.clauses {M = M})
-total-callbridge_cb_tidy_length c g = refl
+pub total_callbridge_cb_tidy_length : Total cb_tidy_length.ended (λ M 𝓤 𝓛. cb_tidy_length.clauses 𝓛)
+total_callbridge_cb_tidy_length c g = refl
 
-pub total-callbridge_cb_tidy : Total cb_tidy.ended (λ M. cb_tidy.clauses {M = M})
-total-callbridge_cb_tidy c g = refl
+pub total_callbridge_cb_tidy : Total cb_tidy.ended (λ M 𝓤 𝓛. cb_tidy.clauses 𝓛)
+total_callbridge_cb_tidy c g = refl
 
-pub total-callbridge_cb_place_values : Total cb_place_values.ended (λ M. cb_place_values.clauses {M = M})
-total-callbridge_cb_place_values c g = refl
+pub total_callbridge_cb_place_values : Total cb_place_values.ended (λ M 𝓤 𝓛. cb_place_values.clauses 𝓛)
+total_callbridge_cb_place_values c g = refl
 
-pub total-callbridge_cb_gather_values : Total cb_gather_values.ended (λ M. cb_gather_values.clauses {M = M})
-total-callbridge_cb_gather_values c g = refl
+pub total_callbridge_cb_gather_values : Total cb_gather_values.ended (λ M 𝓤 𝓛. cb_gather_values.clauses 𝓛)
+total_callbridge_cb_gather_values c g = refl
 
-pub total-callbridge_cb_put_returned : Total cb_put_returned.ended (λ M. cb_put_returned.clauses {M = M})
-total-callbridge_cb_put_returned c g = refl
+pub total_callbridge_cb_put_returned : Total cb_put_returned.ended (λ M 𝓤 𝓛. cb_put_returned.clauses 𝓛)
+total_callbridge_cb_put_returned c g = refl
 
-pub total-callbridge_cb_take_returned : Total cb_take_returned.ended (λ M. cb_take_returned.clauses {M = M})
-total-callbridge_cb_take_returned c g = refl
+pub total_callbridge_cb_take_returned : Total cb_take_returned.ended (λ M 𝓤 𝓛. cb_take_returned.clauses 𝓛)
+total_callbridge_cb_take_returned c g = refl
 
-pub total-callbridge_cb_new_station : Total cb_new_station.ended (λ M. cb_new_station.clauses {M = M})
-total-callbridge_cb_new_station c g = refl
+pub total_callbridge_cb_new_station : Total cb_new_station.ended (λ M 𝓤 𝓛. cb_new_station.clauses 𝓛)
+total_callbridge_cb_new_station c g = refl
 
-pub total-callbridge_cb_attach : Total cb_attach.ended (λ M. cb_attach.clauses {M = M})
-total-callbridge_cb_attach c g = refl
+pub total_callbridge_cb_attach : Total cb_attach.ended (λ M 𝓤 𝓛. cb_attach.clauses 𝓛)
+total_callbridge_cb_attach c g = refl
 
-pub total-callbridge_cb_detach : Total cb_detach.ended (λ M. cb_detach.clauses {M = M})
-total-callbridge_cb_detach c g = refl
+pub total_callbridge_cb_detach : Total cb_detach.ended (λ M 𝓤 𝓛. cb_detach.clauses 𝓛)
+total_callbridge_cb_detach c g = refl
 
-pub total-callbridge_cb_change : Total cb_change.ended (λ M. cb_change.clauses {M = M})
-total-callbridge_cb_change c g = refl
+pub total_callbridge_cb_change : Total cb_change.ended (λ M 𝓤 𝓛. cb_change.clauses 𝓛)
+total_callbridge_cb_change c g = refl
 
-pub total-callbridge_cb_open_walk : Total cb_open_walk.ended (λ M. cb_open_walk.clauses {M = M})
-total-callbridge_cb_open_walk c g = refl
+pub total_callbridge_cb_open_walk : Total cb_open_walk.ended (λ M 𝓤 𝓛. cb_open_walk.clauses 𝓛)
+total_callbridge_cb_open_walk c g = refl
 
-pub total-callbridge_cb_step : Total cb_step.ended (λ M. cb_step.clauses {M = M})
-total-callbridge_cb_step c g = refl
+pub total_callbridge_cb_step : Total cb_step.ended (λ M 𝓤 𝓛. cb_step.clauses 𝓛)
+total_callbridge_cb_step c g = refl
 
-pub total-callbridge_cb_finish_walk : Total cb_finish_walk.ended (λ M. cb_finish_walk.clauses {M = M})
-total-callbridge_cb_finish_walk c g = refl
+pub total_callbridge_cb_finish_walk : Total cb_finish_walk.ended (λ M 𝓤 𝓛. cb_finish_walk.clauses 𝓛)
+total_callbridge_cb_finish_walk c g = refl
 
-pub total-callbridge_cb_show : Total cb_show.ended (λ M. cb_show.clauses {M = M})
-total-callbridge_cb_show c g = refl
+pub total_callbridge_cb_show : Total cb_show.ended (λ M 𝓤 𝓛. cb_show.clauses 𝓛)
+total_callbridge_cb_show c g = refl

@@ -1,40 +1,40 @@
 -- Written by tools/tightness: each public function of `classes` meets its contract, and the contract is tight. Assumes nothing.
-use mathlib.Core.Path.{refl}
+use Rattle.std.specs.Prelude.{refl}
 use Rattle.tightness.specs.Tight.{Meets, Tight}
 use Rattle.tightness.proofs.Laws.{equal, result}
 use Rattle.classes.specs.contracts.code_of
-use Rattle.classes.proofs.code_of.Met as code-of-met
-use Rattle.classes.proofs.code_of.Symbol as code-of-symbol
+use Rattle.classes.proofs.code_of.Met as code_of_met
+use Rattle.classes.proofs.code_of.Symbol as code_of_symbol
 use Rattle.classes.specs.contracts.is_same
-use Rattle.classes.proofs.is_same.Met as is-same-met
-use Rattle.classes.proofs.is_same.Symbol as is-same-symbol
+use Rattle.classes.proofs.is_same.Met as is_same_met
+use Rattle.classes.proofs.is_same.Symbol as is_same_symbol
 use Rattle.classes.specs.contracts.merge_both
-use Rattle.classes.proofs.merge_both.Met as merge-both-met
-use Rattle.classes.proofs.merge_both.Symbol as merge-both-symbol
+use Rattle.classes.proofs.merge_both.Met as merge_both_met
+use Rattle.classes.proofs.merge_both.Symbol as merge_both_symbol
 use Rattle.classes.specs.contracts.clean_up
-use Rattle.classes.proofs.clean_up.Met as clean-up-met
-use Rattle.classes.proofs.clean_up.Symbol as clean-up-symbol
+use Rattle.classes.proofs.clean_up.Met as clean_up_met
+use Rattle.classes.proofs.clean_up.Symbol as clean_up_symbol
 
-pub meets_classes_code_of : Meets code_of.ended (λ M. code_of.clauses {M = M}) code-of-symbol.routine
-meets_classes_code_of M = code-of-met.met
+pub meets_classes_code_of : Meets code_of.ended (λ M 𝓤 𝓛. code_of.clauses 𝓛) code_of_symbol.name code_of_symbol.code
+meets_classes_code_of M = code_of_met.met
 
-pub tight_classes_code_of : Tight code_of.ended (λ M. code_of.clauses {M = M})
+pub tight_classes_code_of : Tight code_of.ended (λ M 𝓤 𝓛. code_of.clauses 𝓛)
 tight_classes_code_of c r q w v a b = (equal (result code_of.ended c) a.ensured b.ensured, refl)
 
-pub meets_classes_is_same : Meets is_same.ended (λ M. is_same.clauses {M = M}) is-same-symbol.routine
-meets_classes_is_same M = is-same-met.met
+pub meets_classes_is_same : Meets is_same.ended (λ M 𝓤 𝓛. is_same.clauses 𝓛) is_same_symbol.name is_same_symbol.code
+meets_classes_is_same M = is_same_met.met
 
-pub tight_classes_is_same : Tight is_same.ended (λ M. is_same.clauses {M = M})
+pub tight_classes_is_same : Tight is_same.ended (λ M 𝓤 𝓛. is_same.clauses 𝓛)
 tight_classes_is_same c r q w v a b = (equal (result is_same.ended c) a.ensured b.ensured, refl)
 
-pub meets_classes_merge_both : Meets merge_both.ended (λ M. merge_both.clauses {M = M}) merge-both-symbol.routine
-meets_classes_merge_both M = merge-both-met.met
+pub meets_classes_merge_both : Meets merge_both.ended (λ M 𝓤 𝓛. merge_both.clauses 𝓛) merge_both_symbol.name merge_both_symbol.code
+meets_classes_merge_both M = merge_both_met.met
 
-pub tight_classes_merge_both : Tight merge_both.ended (λ M. merge_both.clauses {M = M})
+pub tight_classes_merge_both : Tight merge_both.ended (λ M 𝓤 𝓛. merge_both.clauses 𝓛)
 tight_classes_merge_both c r q w v a b = (equal (result merge_both.ended c) a.ensured b.ensured, refl)
 
-pub meets_classes_clean_up : Meets clean_up.ended (λ M. clean_up.clauses {M = M}) clean-up-symbol.routine
-meets_classes_clean_up M = clean-up-met.met
+pub meets_classes_clean_up : Meets clean_up.ended (λ M 𝓤 𝓛. clean_up.clauses 𝓛) clean_up_symbol.name clean_up_symbol.code
+meets_classes_clean_up M = clean_up_met.met
 
-pub tight_classes_clean_up : Tight clean_up.ended (λ M. clean_up.clauses {M = M})
+pub tight_classes_clean_up : Tight clean_up.ended (λ M 𝓤 𝓛. clean_up.clauses 𝓛)
 tight_classes_clean_up c r q w v a b = (equal (result clean_up.ended c) a.ensured b.ensured, refl)

@@ -1,52 +1,53 @@
 -- Written by tools/tightness: each public function of `moving` meets its contract, and the contract is tight. Assumes nothing.
-use mathlib.Core.Path.{◌≡◌, refl, sym, ◌∙◌}
+use Rattle.std.specs.Prelude.{◌≡◌, refl}
+use mathlib.Core.Path.{sym, ◌∙◌}
 use Rattle.tightness.specs.Tight.{Meets, Tight}
 use Rattle.tightness.proofs.Laws.{bytes, equal, result, settle}
 use Rattle.moving.specs.contracts.place_values
-use Rattle.moving.proofs.place_values.Met as place-values-met
-use Rattle.moving.proofs.place_values.Symbol as place-values-symbol
+use Rattle.moving.proofs.place_values.Met as place_values_met
+use Rattle.moving.proofs.place_values.Symbol as place_values_symbol
 use Rattle.moving.specs.contracts.gather_values
-use Rattle.moving.proofs.gather_values.Met as gather-values-met
-use Rattle.moving.proofs.gather_values.Symbol as gather-values-symbol
+use Rattle.moving.proofs.gather_values.Met as gather_values_met
+use Rattle.moving.proofs.gather_values.Symbol as gather_values_symbol
 use Rattle.moving.specs.contracts.wrong_address
-use Rattle.moving.proofs.wrong_address.Met as wrong-address-met
-use Rattle.moving.proofs.wrong_address.Symbol as wrong-address-symbol
+use Rattle.moving.proofs.wrong_address.Met as wrong_address_met
+use Rattle.moving.proofs.wrong_address.Symbol as wrong_address_symbol
 use Rattle.moving.specs.contracts.broken_byte
-use Rattle.moving.proofs.broken_byte.Met as broken-byte-met
-use Rattle.moving.proofs.broken_byte.Symbol as broken-byte-symbol
+use Rattle.moving.proofs.broken_byte.Met as broken_byte_met
+use Rattle.moving.proofs.broken_byte.Symbol as broken_byte_symbol
 
-pub meets_moving_place_values : Meets place_values.ended (λ M. place_values.clauses {M = M}) place-values-symbol.routine
-meets_moving_place_values M = place-values-met.met
+pub meets_moving_place_values : Meets place_values.ended (λ M 𝓤 𝓛. place_values.clauses 𝓛) place_values_symbol.name place_values_symbol.code
+meets_moving_place_values M = place_values_met.met
 
-pub tight_moving_place_values : Tight place_values.ended (λ M. place_values.clauses {M = M})
-tight_moving_place_values c r q w v a b = (settle (result place_values.ended c) a.ensured b.ensured (λ e f. e.0 ∙ sym f.0), λ i. (tt, (tt, (tt, (same-registers i, (same-upper i, (same-stack i, tt)))))))
+pub tight_moving_place_values : Tight place_values.ended (λ M 𝓤 𝓛. place_values.clauses 𝓛)
+tight_moving_place_values c r q w v a b = (settle (result place_values.ended c) a.ensured b.ensured (λ e f. e.0 ∙ sym f.0), λ i. (tt, (tt, (tt, (same_registers i, (same_upper i, (same_stack i, tt)))))))
   where
-    same-registers : w.1.1.1.0 ≡ v.1.1.1.0
-    same-registers = settle bytes a.ensured b.ensured (λ e f. e.1.0 ∙ sym f.1.0)
+    same_registers : w.1.1.1.0 ≡ v.1.1.1.0
+    same_registers = settle bytes a.ensured b.ensured (λ e f. e.1.0 ∙ sym f.1.0)
 
-    same-upper : w.1.1.1.1.0 ≡ v.1.1.1.1.0
-    same-upper = settle bytes a.ensured b.ensured (λ e f. e.1.1.0 ∙ sym f.1.1.0)
+    same_upper : w.1.1.1.1.0 ≡ v.1.1.1.1.0
+    same_upper = settle bytes a.ensured b.ensured (λ e f. e.1.1.0 ∙ sym f.1.1.0)
 
-    same-stack : w.1.1.1.1.1.0 ≡ v.1.1.1.1.1.0
-    same-stack = settle bytes a.ensured b.ensured (λ e f. e.1.1.1 ∙ sym f.1.1.1)
+    same_stack : w.1.1.1.1.1.0 ≡ v.1.1.1.1.1.0
+    same_stack = settle bytes a.ensured b.ensured (λ e f. e.1.1.1 ∙ sym f.1.1.1)
 
-pub meets_moving_gather_values : Meets gather_values.ended (λ M. gather_values.clauses {M = M}) gather-values-symbol.routine
-meets_moving_gather_values M = gather-values-met.met
+pub meets_moving_gather_values : Meets gather_values.ended (λ M 𝓤 𝓛. gather_values.clauses 𝓛) gather_values_symbol.name gather_values_symbol.code
+meets_moving_gather_values M = gather_values_met.met
 
-pub tight_moving_gather_values : Tight gather_values.ended (λ M. gather_values.clauses {M = M})
-tight_moving_gather_values c r q w v a b = (settle (result gather_values.ended c) a.ensured b.ensured (λ e f. e.0 ∙ sym f.0), λ i. (tt, (tt, (tt, (tt, (same-values i, tt))))))
+pub tight_moving_gather_values : Tight gather_values.ended (λ M 𝓤 𝓛. gather_values.clauses 𝓛)
+tight_moving_gather_values c r q w v a b = (settle (result gather_values.ended c) a.ensured b.ensured (λ e f. e.0 ∙ sym f.0), λ i. (tt, (tt, (tt, (tt, (same_values i, tt))))))
   where
-    same-values : w.1.1.1.1.0 ≡ v.1.1.1.1.0
-    same-values = settle bytes a.ensured b.ensured (λ e f. e.1 ∙ sym f.1)
+    same_values : w.1.1.1.1.0 ≡ v.1.1.1.1.0
+    same_values = settle bytes a.ensured b.ensured (λ e f. e.1 ∙ sym f.1)
 
-pub meets_moving_wrong_address : Meets wrong_address.ended (λ M. wrong_address.clauses {M = M}) wrong-address-symbol.routine
-meets_moving_wrong_address M = wrong-address-met.met
+pub meets_moving_wrong_address : Meets wrong_address.ended (λ M 𝓤 𝓛. wrong_address.clauses 𝓛) wrong_address_symbol.name wrong_address_symbol.code
+meets_moving_wrong_address M = wrong_address_met.met
 
-pub tight_moving_wrong_address : Tight wrong_address.ended (λ M. wrong_address.clauses {M = M})
+pub tight_moving_wrong_address : Tight wrong_address.ended (λ M 𝓤 𝓛. wrong_address.clauses 𝓛)
 tight_moving_wrong_address c r q w v a b = (equal (result wrong_address.ended c) a.ensured b.ensured, refl)
 
-pub meets_moving_broken_byte : Meets broken_byte.ended (λ M. broken_byte.clauses {M = M}) broken-byte-symbol.routine
-meets_moving_broken_byte M = broken-byte-met.met
+pub meets_moving_broken_byte : Meets broken_byte.ended (λ M 𝓤 𝓛. broken_byte.clauses 𝓛) broken_byte_symbol.name broken_byte_symbol.code
+meets_moving_broken_byte M = broken_byte_met.met
 
-pub tight_moving_broken_byte : Tight broken_byte.ended (λ M. broken_byte.clauses {M = M})
+pub tight_moving_broken_byte : Tight broken_byte.ended (λ M 𝓤 𝓛. broken_byte.clauses 𝓛)
 tight_moving_broken_byte c r q w v a b = (equal (result broken_byte.ended c) a.ensured b.ensured, refl)

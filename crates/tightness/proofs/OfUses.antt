@@ -1,15 +1,16 @@
 -- Written by tools/tightness: each public function of `uses` meets its contract, and the contract is tight. Assumes nothing.
-use mathlib.Core.Path.{◌≡◌, sym, ◌∙◌}
+use Rattle.std.specs.Prelude.{◌≡◌}
+use mathlib.Core.Path.{sym, ◌∙◌}
 use Rattle.tightness.specs.Tight.{Meets, Tight}
 use Rattle.tightness.proofs.Laws.{bytes, result, settle}
 use Rattle.uses.specs.contracts.uses_refusal_with
-use Rattle.uses.proofs.uses_refusal_with.Met as uses-refusal-with-met
-use Rattle.uses.proofs.uses_refusal_with.Symbol as uses-refusal-with-symbol
+use Rattle.uses.proofs.uses_refusal_with.Met as uses_refusal_with_met
+use Rattle.uses.proofs.uses_refusal_with.Symbol as uses_refusal_with_symbol
 
-pub meets_uses_uses_refusal_with : Meets uses_refusal_with.ended (λ M. uses_refusal_with.clauses {M = M}) uses-refusal-with-symbol.routine
-meets_uses_uses_refusal_with M = uses-refusal-with-met.met
+pub meets_uses_uses_refusal_with : Meets uses_refusal_with.ended (λ M 𝓤 𝓛. uses_refusal_with.clauses 𝓛) uses_refusal_with_symbol.name uses_refusal_with_symbol.code
+meets_uses_uses_refusal_with M = uses_refusal_with_met.met
 
-pub tight_uses_uses_refusal_with : Tight uses_refusal_with.ended (λ M. uses_refusal_with.clauses {M = M})
+pub tight_uses_uses_refusal_with : Tight uses_refusal_with.ended (λ M 𝓤 𝓛. uses_refusal_with.clauses 𝓛)
 tight_uses_uses_refusal_with c r q w v a b = (settle (result uses_refusal_with.ended c) a.ensured b.ensured (λ e f. e.0 ∙ sym f.0), λ i. (tt, (same_table i, tt)))
   where
     same_table : w.1.0 ≡ v.1.0

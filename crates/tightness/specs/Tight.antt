@@ -7,8 +7,9 @@ use base.Logic.{SProp, emp}
 use prog.Memory.{Memory}
 use prog.Model.{Model}
 use prog.Routine.{Routine}
-use ghost.Atoms.{meaning}
-use types.Logic.{Logic}
+use prog.Wired.{Wired, Code}
+use mir.Syntax.{Callee}
+use types.Logic.{Logic, sem}
 use contract.Lifetimes.{Lfts}
 use contract.Monad.{Fun}
 use contract.Running.{Running}
@@ -32,7 +33,7 @@ pub record Call (T : Ended) : Type 2 where
 
 -- what the contract says of a call
 abbrev pub contract_at : (T : Ended) → Contract T → (c : Call T) → ClausesAt c.model T c.lifetimes
-contract_at T C c = C c.M c.model c.heap c.atoms c.memory c.runs c.lifetimes c.passed
+contract_at T C c = C c.M c.model c.𝓛 c.memory c.runs c.lifetimes c.passed
 
 -- an outcome of a call is the result, and the last value of everything that is lent by `&mut`. The contract admits it: what `requires` says
 -- holds at entry; the last values are such as what was lent can have (a slice keeps its length); and what `ensures` says of them and of the
@@ -43,7 +44,7 @@ pub record Admits (T : Ended) (C : Contract T) (c : Call T) (result : Res T.sign
   pub exit : c.M
   pub held : c.M
   pub asked : ((contract_at T C c).requires ghost).holds entry
-  pub lent : (meaning c.model c.heap c.atoms (lasts T c.lifetimes c.passed left)).holds held
+  pub lent : (sem c.𝓛 (lasts T c.lifetimes c.passed left)).holds held
   pub ensured : ((contract_at T C c).ensures ghost result (at_exit T c.lifetimes c.passed left)).holds exit
 
 -- any two outcomes that it admits are equal
@@ -63,8 +64,8 @@ TightPart T read C =
 abbrev pub Total : (T : Ended) → Contract T → Type 2
 Total T C = (c : Call T) (g : (contract_at T C c).ghost) → (contract_at T C c).requires g ≡ emp c.model
 
--- the function is proved to meet this contract, in any model of the machine
-abbrev pub Meets : (T : Ended) → Contract T → Routine → Type 2
-Meets T C routine =
+-- the function of this name, with this code, is proved to meet this contract, in any model of a machine in which the name means the code
+abbrev pub Meets : (T : Ended) → Contract T → Callee → Code → Type 2
+Meets T C name code =
     (M : Type 1) (𝓤 : Ura M) (𝓛 : Logic 𝓤) (𝓜 : Model 𝓤 𝓛.H) (𝓡 : Running 𝓤 𝓛.H 𝓜)
-    → MeetsSpec 𝓛 T.signature (𝓡.run routine) (closing 𝓛 T (C M 𝓤 𝓛 𝓜.mem 𝓡.run))
+    → Wired 𝓡.env code → MeetsSpec 𝓛 T.signature (𝓡.run (𝓡.env name)) (closing 𝓛 T (C M 𝓤 𝓛 𝓜.mem 𝓡.returns))
