@@ -1,3 +1,4 @@
+use Rattle.std.proofs.Common.{rules}
 use mathlib.Core.Path.{refl, sym, ap, ◌∙◌}
 use mathlib.Core.List.{[]}
 use native.Mathlib.Omega.{arith}
@@ -40,7 +41,7 @@ pub loop-at-smaller : goal.loop-at-smaller
 loop-at-smaller c = let e = ap (λ (w : Walk). w.position) c.moved_on-at.ensures in omega (arith, e, c.loop-at-test.true)
 
 pub loop-at-preserved : goal.loop-at-preserved
-loop-at-preserved c = let z = fits_in c.args.d.now c.args.walk c.loop-at.at c.args.registers.now c.args.stack.now c.loop-at.done (length c.args.out.now) c.loop-at.out c.requires.0.uses c.loop-at.invariant (rw (sym c.byte_at-arguments.ensures.0) c.loop-at-test.true) c.args.table.now c.requires.1 c.argument_at-ty.result c.argument_at-ty.ensures c.shape_in-shape.result c.shape_in-shape.ensures in fetched_on c.args.d.now c.args.walk c.loop-at.at c.args.registers.now c.args.stack.now c.loop-at.done (length c.args.out.now) c.loop-at.out c.requires.0.uses c.loop-at.invariant (rw (sym c.byte_at-arguments.ensures.0) c.loop-at-test.true) c.args.table.now c.requires.1 c.argument_at-ty.result c.argument_at-ty.ensures c.shape_in-shape.result c.shape_in-shape.ensures c.fetch_at-fetch.result _ _ _ _ c.moved_on-at.result refl c.fetch_at-fetch.ensures c.copy_out.ensures (c.out-1.given.0 ∙ part-long c.loop-at.out c.loop-at.done _ _ z refl) refl c.out-1.given.1 c.moved_on-at.ensures
+loop-at-preserved c = let z = fits_in c.args.d.now c.args.walk c.loop-at.at c.args.registers.now c.args.stack.now c.loop-at.done (length c.args.out.now) c.loop-at.out c.requires.0.uses c.loop-at.invariant (rw (sym c.byte_at-arguments.ensures.0) c.loop-at-test.true) c.args.table.now c.requires.1 c.argument_at-ty.result c.argument_at-ty.ensures c.shape_in-shape.result c.shape_in-shape.ensures in fetched_on c.args.d.now c.args.walk c.loop-at.at c.args.registers.now c.args.stack.now c.loop-at.done (length c.args.out.now) c.loop-at.out c.requires.0.uses c.loop-at.invariant (rw (sym c.byte_at-arguments.ensures.0) c.loop-at-test.true) c.args.table.now c.requires.1 c.argument_at-ty.result c.argument_at-ty.ensures c.shape_in-shape.result c.shape_in-shape.ensures c.fetch_at-fetch.result _ _ _ _ c.moved_on-at.result refl c.fetch_at-fetch.ensures c.copy_out.ensures (search rules) refl (search rules) c.moved_on-at.ensures
 
 pub shape_of-out : goal.shape_of-out
 shape_of-out c = c.loop-at.invariant.long

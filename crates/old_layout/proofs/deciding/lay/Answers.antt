@@ -1,0 +1,28 @@
+-- `lay` meets its contract: the named arguments first, and then the others.
+-- Assumes nothing.
+use mathlib.Core.Path.{refl}
+use native.Mathlib.Omega.{arith}
+use Rattle.old_layout.specs.Asks.{IsLaid}
+use Rattle.old_layout.proofs.Arguments.{laid-first}
+use Rattle.old_layout.proofs.Layouts.{area-asks, layout_is}
+use Rattle.old_layout.proofs.Uses.{accepted-typed}
+use Rattle.description.specs.Description.{named_in, arguments_in}
+use Rattle.old_layout.proofs.deciding.lay.Goals as goal
+
+pub byte_at-named-requires : goal.byte_at-named-requires
+byte_at-named-requires c = omega (arith, (accepted-typed c.args.d.now c.requires.right).whole.headed)
+
+pub byte_at-arguments-requires : goal.byte_at-arguments-requires
+byte_at-arguments-requires c = omega (arith, (accepted-typed c.args.d.now c.requires.right).whole.headed)
+
+pub lay_more-first-requires : goal.lay_more-first-requires
+lay_more-first-requires c = (c.requires, record { order = omega arith; there = omega (arith, c.byte_at-named.ensures.0, (accepted-typed c.args.d.now c.requires.right).named); laid = laid-first c.args.d.now (record { offset = c.address_bytes-popped.result; values = record { 0 = 0 } }) (rw (← c.hidden_of-hidden.ensures) c.address_bytes-popped.ensures) refl })
+
+pub lay_more-all-requires : goal.lay_more-all-requires
+lay_more-all-requires c = (c.requires, record { order = omega (arith, c.byte_at-named.ensures.0, c.byte_at-arguments.ensures.0, (accepted-typed c.args.d.now c.requires.right).named); there = omega (arith, c.byte_at-arguments.ensures.0); laid = c.lay_more-first.ensures })
+
+pub raise_to-area-requires : goal.raise_to-area-requires
+raise_to-area-requires c = let all : IsLaid c.args.d.now (arguments_in c.args.d.now) c.lay_more-all.result = rw (← c.byte_at-arguments.ensures.0) c.lay_more-all.ensures in (omega arith, omega (arith, area-asks c.args.d.now c.lay_more-all.result all c.requires.right))
+
+pub returns : goal.returns
+returns c = let named : IsLaid c.args.d.now (named_in c.args.d.now) c.lay_more-first.result = rw (← c.byte_at-named.ensures.0) c.lay_more-first.ensures in let all : IsLaid c.args.d.now (arguments_in c.args.d.now) c.lay_more-all.result = rw (← c.byte_at-arguments.ensures.0) c.lay_more-all.ensures in layout_is c.args.d.now c.lay_more-first.result c.lay_more-all.result named all _ c.raise_to-area.ensures refl c.return_of-returns.ensures c.returned_size-returned.ensures c.hidden_of-hidden.ensures c.address_bytes-popped.ensures refl
