@@ -82,7 +82,7 @@ fn put_group(out: &mut [u8; 8192], at: usize, union: bool) -> usize
 }
 
 // Type k without its sizes.
-#[cycle(put_members_put_type)]
+#[cycle(put_types)]
 pub fn put_type(d: &[u8], k: usize, out: &mut [u8; 8192], at: usize) -> usize
     requires { Sized (model_in d.now) d.now k × (at + length (type_text d.now k) ≤ 8192) }
     ensures { Wrote (length (type_text d.now k)) out.old at (type_text d.now k) out.new result }
@@ -102,7 +102,7 @@ pub fn put_type(d: &[u8], k: usize, out: &mut [u8; 8192], at: usize) -> usize
 }
 
 // `count` members of type k, from place `first` of the member list on.
-#[cycle(put_members_put_type)]
+#[cycle(put_types)]
 fn put_members(
     d: &[u8],
     k: usize,
