@@ -1,10 +1,11 @@
-use Rattle.std.proofs.Common.{rules, ◌≡◌, ℕ, ◌+◌, ◌-◌, ◌*◌, ◌<◌, ◌≤◌, length, ◌/◌, ◌%◌, Bool, true, false, nat_eq, nat_lt, List, [], ◌∷◌, ◌++◌, slice_index_or, slice_set, bit_and, bit_or, Fits, w8, w32, w64, Bor, MutBor}
+-- The buffer has room for every tidy form.
+use Rattle.std.proofs.Common.{sym, ◌∙◌}
+use lib.Seq.{length-take-le}
+use Rattle.tidying.proofs.Wellformed.{answer-short}
 use Rattle.tidier.proofs.tidy.Goals as goal
 
--- src/main.rt:31:31
 pub slice_bounds-out-end : goal.slice_bounds-out-end
-slice_bounds-out-end c = ?
+slice_bounds-out-end c = answer-short c.args.d.now _ (sym c.tidy_length-answer.ensures ∙ c.in-Length.is)
 
--- src/main.rt:31:31
 pub slice_bounds-write_tidy-end : goal.slice_bounds-write_tidy-end
-slice_bounds-write_tidy-end c = ?
+slice_bounds-write_tidy-end c = sym (length-take-le _ _ (answer-short c.args.d.now _ (sym c.tidy_length-answer.ensures ∙ c.in-Length.is)))
