@@ -88,8 +88,12 @@ def static_libraries():
 
 
 def library_crates():
-    """The crates that other crates can name."""
-    return [name for name in crates() if there(source(name, 'lib')) and name not in static_libraries()]
+    """The crates that other crates can name, without those that programs alone name: what they read and write is a program's own."""
+    named = crates()
+    libraries = [name for name in named if there(source(name, 'lib')) and name not in static_libraries()]
+    by_libraries = {below for name in libraries for below in named[name]}
+    by_programs = {below for name in named if there(source(name, 'main')) for below in named[name]}
+    return [name for name in libraries if name in by_libraries or name not in by_programs]
 
 
 def public_functions(crates=None):

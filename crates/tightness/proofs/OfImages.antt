@@ -35,13 +35,13 @@ pub tight_images_place_one : Tight place_one.ended (λ M 𝓤 𝓛. place_one.cl
 tight_images_place_one c r q w v a b = (refl, λ i. (parts_registers.0 i, (parts_upper.0 i, (parts_upper.1 i, (tt, (tt, (tt, (tt, tt))))))))
   where
     kept_registers : (r : Res place_one.ended.signature c.lifetimes) (w : Lasts place_one.ended c.lifetimes c.passed) → Admits place_one.ended (λ M 𝓤 𝓛. place_one.clauses 𝓛) c r w → ∥ length w.0 ≡ length c.passed.0.now ∥₁
-    kept_registers r w a = ∥∥₁_elim a.lent ∥∥₁_prop (λ s. ∥∥₁_elim s.3 ∥∥₁_prop (λ t. ∥∥₁_map t.4 (λ u. u.0)))
+    kept_registers r w a = ∥∥₁_elim a.lent ∥∥₁_prop (λ s. ∥∥₁_elim s.3 ∥∥₁_prop (λ t. ∥∥₁_elim t.3 ∥∥₁_prop (λ t. ∥∥₁_map t.4 (λ u. u.0))))
 
     parts_registers : (w.0 ≡ v.0) × (w.1.0 ++ w.1.1.0 ≡ v.1.0 ++ v.1.1.0)
     parts_registers = settle_parts a.ensured b.ensured (λ e f. e ∙ sym f) (kept_registers r w a) (kept_registers q v b)
 
     kept_upper : (r : Res place_one.ended.signature c.lifetimes) (w : Lasts place_one.ended c.lifetimes c.passed) → Admits place_one.ended (λ M 𝓤 𝓛. place_one.clauses 𝓛) c r w → ∥ length w.1.0 ≡ length c.passed.1.0.now ∥₁
-    kept_upper r w a = ∥∥₁_elim a.lent ∥∥₁_prop (λ s. ∥∥₁_elim s.4 ∥∥₁_prop (λ s. ∥∥₁_elim s.3 ∥∥₁_prop (λ t. ∥∥₁_map t.4 (λ u. u.0))))
+    kept_upper r w a = ∥∥₁_elim a.lent ∥∥₁_prop (λ s. ∥∥₁_elim s.4 ∥∥₁_prop (λ s. ∥∥₁_elim s.3 ∥∥₁_prop (λ t. ∥∥₁_elim t.3 ∥∥₁_prop (λ t. ∥∥₁_map t.4 (λ u. u.0)))))
 
     parts_upper : (w.1.0 ≡ v.1.0) × (w.1.1.0 ≡ v.1.1.0)
     parts_upper = settle_parts a.ensured b.ensured (λ e f. parts_registers.1) (kept_upper r w a) (kept_upper q v b)
