@@ -307,7 +307,7 @@ places-flat d h values q y s old =
     record {
       count = fills (λ (p : Placed). p.vector.0) d _ _ old _ (place_refusal amd64 d h values (length q) (length y) (length s)) _ _ t (λ z. refl) (demand_1.layout.place_values d h values (length q) (length y) (length s)) m (wrong_type.place_values d h values (length q) (length y) (length s));
       refused = λ n. demand_1.frame.place_values d h values q y s (λ z. n (told-number t ∙ sym (decided_number _ _ m) ∙ z));
-      placed = λ z. demand_2.moving.places_all d h values (q y s (sym (told-number t) ∙ z) (images_after amd64 d h values q y s)).0 refl;
+      placed = λ z. (demand_2.moving.places_all d h values q y s (sym (told-number t) ∙ z) (images_after amd64 d h values q y s)).0 refl;
     }
 
 gathers_all : (d r y s v : List ℕ) → gather_refusal amd64 d (length v) (length r) (length y) (length s) ≡ 0 → values_after amd64 d r y s v ≡ gather (r ++ (y ++ s)) (addresses_of d)

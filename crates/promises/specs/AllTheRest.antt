@@ -39,6 +39,6 @@ pub record AllTheRest : Type 2 where
   -- and in histories in which steps and this call are mixed: each leads to the desk, and hands back the bytes, of a history of condition C
   pub mixed : Mixed kcb
   -- the call
-  pub finishes : Ensures cb_finish_walk.ended (λ M. cb_finish_walk.clauses {M = M})
+  pub finishes : Ensures cb_finish_walk.ended (λ M 𝓤 𝓛. cb_finish_walk.clauses 𝓛)
       (λ c r w. FinishesFlat c.passed.0.now c.passed.1.0.now c.passed.1.1.0.now
       (asking_rest c.passed.1.1.1.0.now c.passed.1.1.1.1.0.now c.passed.1.1.1.1.1.0.now c.passed.1.1.1.1.1.1.0.now) r w.1.1.0 w.1.1.1.1.1.1.0)

@@ -20,11 +20,11 @@ abbrev pub Ensures : (T : Ended) → Contract T → ((c : Call T) → Res T.sign
 Ensures T C P = (c : Call T) (r : Res T.signature c.lifetimes) (w : Lasts T c.lifetimes c.passed) → Admits T C c r w → P c r w
 
 pub record Calls : Type 2 where
-  pub reads : Ensures read_form.ended (λ M. read_form.clauses {M = M}) (λ c r w. Answered (of_reading r) (form_order c.passed.0.now) (header_of c.passed.0.now))
-  pub sizes : Ensures type_size.ended (λ M. type_size.clauses {M = M})
+  pub reads : Ensures read_form.ended (λ M 𝓤 𝓛. read_form.clauses 𝓛) (λ c r w. Answered (of_reading r) (form_order c.passed.0.now) (header_of c.passed.0.now))
+  pub sizes : Ensures type_size.ended (λ M 𝓤 𝓛. type_size.clauses 𝓛)
       (λ c r w. Answered (of_size r) (question_order c.passed.0.now c.passed.1.0) (size_ty (model_in c.passed.0.now) (ty_at c.passed.0.now c.passed.1.0)))
-  pub aligns : Ensures type_align.ended (λ M. type_align.clauses {M = M})
+  pub aligns : Ensures type_align.ended (λ M 𝓤 𝓛. type_align.clauses 𝓛)
       (λ c r w. Answered (of_align r) (question_order c.passed.0.now c.passed.1.0) (align_ty (model_in c.passed.0.now) (ty_at c.passed.0.now c.passed.1.0)))
-  pub shows : Ensures show_number.ended (λ M. show_number.clauses {M = M})
+  pub shows : Ensures show_number.ended (λ M 𝓤 𝓛. show_number.clauses 𝓛)
       (λ c r w. Answered (of_refusal r) (show_order c.passed.0 c.passed.1.0.now c.passed.1.1.0
       (asking c.passed.1.1.1.0.now c.passed.1.1.1.1.0.now c.passed.1.1.1.1.1.0 [])) tt)

@@ -132,7 +132,7 @@ pub record LaysOutFlat (d : List ℕ) (old : Layout) (list : List Placement) (r 
   -- request 2026-07: "The records' offsets start at 0, each is the one before plus its size, and the last ends at the total", and each says whether it is named
   pub starts : r.number ≡ 0 → 0 < arguments_in d → (x : Placement) → (get_or after 0 x).value.0 ≡ 0
   pub follows : r.number ≡ 0 → (i : ℕ) → i + 1 < arguments_in d → (x : Placement) → (get_or after (i + 1) x).value.0 ≡ (get_or after i x).value.0 + (get_or after i x).size.0
-  pub ends : r.number ≡ 0 → (i : ℕ) → i + 1 ≡ arguments_in d → (x : Placement) → (get_or after i x).value.0 + (get_or after i x).size.0 ≡ new .values .0
+  pub ends : r.number ≡ 0 → (i : ℕ) → i + 1 ≡ arguments_in d → (x : Placement) → (get_or after i x).value.0 + (get_or after i x).size.0 ≡ new.values.0
   pub marks : r.number ≡ 0 → (i : ℕ) → i < arguments_in d → (x : Placement) → (get_or after i x).named ≡ cond (ltb i (named_in d)) 1 0
 
 -- cb_write_listing: the lister's text, and behind it what stood there
@@ -215,45 +215,45 @@ pub record ShowsFlat (s : Station) (seat : List ℕ) (w : Walk) (a : Ask) (r : R
 -- ---- and that it does
 
 pub record Exports : Type 2 where
-  pub version : Ensures cb_version.ended (λ M. cb_version.clauses {M = M}) (λ c r w. r ≡ 5)
-  pub check : Ensures cb_check.ended (λ M. cb_check.clauses {M = M}) (λ c r w. Checks c.passed.0.now r)
-  pub type_extent : Ensures cb_type_extent.ended (λ M. cb_type_extent.clauses {M = M})
+  pub version : Ensures cb_version.ended (λ M 𝓤 𝓛. cb_version.clauses 𝓛) (λ c r w. r ≡ 5)
+  pub check : Ensures cb_check.ended (λ M 𝓤 𝓛. cb_check.clauses 𝓛) (λ c r w. Checks c.passed.0.now r)
+  pub type_extent : Ensures cb_type_extent.ended (λ M 𝓤 𝓛. cb_type_extent.clauses 𝓛)
       (λ c r w. Fills extent_read c.passed.0.now (question_order c.passed.0.now c.passed.1.0)
       (size_ty (model_in c.passed.0.now) (ty_at c.passed.0.now c.passed.1.0), align_ty (model_in c.passed.0.now) (ty_at c.passed.0.now c.passed.1.0)) c.passed.1.1.0.now r w.1.1.0)
-  pub type_classes : Ensures cb_type_classes.ended (λ M. cb_type_classes.clauses {M = M})
+  pub type_classes : Ensures cb_type_classes.ended (λ M 𝓤 𝓛. cb_type_classes.clauses 𝓛)
       (λ c r w. Fills classes_read c.passed.0.now (question_order c.passed.0.now c.passed.1.0) (classes_of (model_in c.passed.0.now) (ty_at c.passed.0.now c.passed.1.0))
       c.passed.1.1.0.now r w.1.1.0)
-  pub member_run : Ensures cb_member_run.ended (λ M. cb_member_run.clauses {M = M})
+  pub member_run : Ensures cb_member_run.ended (λ M 𝓤 𝓛. cb_member_run.clauses 𝓛)
       (λ c r w. GivesPart members_read c.passed.0.now (question_order c.passed.0.now c.passed.1.0) (members c.passed.0.now c.passed.1.0) r w.1.1.0)
-  pub member_offsets_lem : Ensures cb_member_offsets.ended (λ M. cb_member_offsets.clauses {M = M})
+  pub member_offsets_lem : Ensures cb_member_offsets.ended (λ M 𝓤 𝓛. cb_member_offsets.clauses 𝓛)
       (λ c r w. OffsetsFlat c.passed.0.now c.passed.1.0 c.passed.1.1.0.now r w.1.1.0)
-  pub layout_of_lem : Ensures cb_layout_of.ended (λ M. cb_layout_of.clauses {M = M})
+  pub layout_of_lem : Ensures cb_layout_of.ended (λ M 𝓤 𝓛. cb_layout_of.clauses 𝓛)
       (λ c r w. Fills layout_read c.passed.0.now (check_order c.passed.0.now) (summary_of (layout_of c.passed.0.now), arguments_in c.passed.0.now) c.passed.1.0.now r w.1.0)
-  pub lay_out : Ensures cb_lay_out.ended (λ M. cb_lay_out.clauses {M = M})
+  pub lay_out : Ensures cb_lay_out.ended (λ M 𝓤 𝓛. cb_lay_out.clauses 𝓛)
       (λ c r w. LaysOutFlat c.passed.0.now c.passed.1.0.now c.passed.1.1.0.now r w.1.0 w.1.1.0)
-  pub write_listing : Ensures cb_write_listing.ended (λ M. cb_write_listing.clauses {M = M}) (λ c r w. Lists c.passed.0.now c.passed.1.0.now r w.1.0)
-  pub place_values : Ensures cb_place_values.ended (λ M. cb_place_values.clauses {M = M})
+  pub write_listing : Ensures cb_write_listing.ended (λ M 𝓤 𝓛. cb_write_listing.clauses 𝓛) (λ c r w. Lists c.passed.0.now c.passed.1.0.now r w.1.0)
+  pub place_values : Ensures cb_place_values.ended (λ M 𝓤 𝓛. cb_place_values.clauses 𝓛)
       (λ c r w. PlacesFlat c.passed.0.now c.passed.1.0 c.passed.1.1.0.now c.passed.1.1.1.0.now c.passed.1.1.1.1.0.now c.passed.1.1.1.1.1.0.now
       c.passed.1.1.1.1.1.1.0.now r w.1.1.1.1.1.1.0 w.1.1.1.0 w.1.1.1.1.0 w.1.1.1.1.1.0)
-  pub gather_values : Ensures cb_gather_values.ended (λ M. cb_gather_values.clauses {M = M})
+  pub gather_values : Ensures cb_gather_values.ended (λ M 𝓤 𝓛. cb_gather_values.clauses 𝓛)
       (λ c r w. GathersFlat c.passed.0.now c.passed.1.0.now c.passed.1.1.0.now c.passed.1.1.1.0.now c.passed.1.1.1.1.0.now c.passed.1.1.1.1.1.0.now
       r w.1.1.1.1.1.0 w.1.1.1.1.0)
-  pub put_returned : Ensures cb_put_returned.ended (λ M. cb_put_returned.clauses {M = M})
+  pub put_returned : Ensures cb_put_returned.ended (λ M 𝓤 𝓛. cb_put_returned.clauses 𝓛)
       (λ c r w. PutsFlat c.passed.0.now c.passed.1.0 c.passed.1.1.0.now c.passed.1.1.1.0.now c.passed.1.1.1.1.0.now r w.1.1.1.0 w.1.1.1.1.0)
-  pub take_returned : Ensures cb_take_returned.ended (λ M. cb_take_returned.clauses {M = M})
+  pub take_returned : Ensures cb_take_returned.ended (λ M 𝓤 𝓛. cb_take_returned.clauses 𝓛)
       (λ c r w. TakesFlat c.passed.0.now c.passed.1.0.now c.passed.1.1.0.now c.passed.1.1.1.0.now c.passed.1.1.1.1.0.now r w.1.1.1.1.0 w.1.1.1.0)
-  pub new_station_lem : Ensures cb_new_station.ended (λ M. cb_new_station.clauses {M = M}) (λ c r w. station_meant r ≡ new_station)
-  pub attach : Ensures cb_attach.ended (λ M. cb_attach.clauses {M = M})
+  pub new_station_lem : Ensures cb_new_station.ended (λ M 𝓤 𝓛. cb_new_station.clauses 𝓛) (λ c r w. station_meant r ≡ new_station)
+  pub attach : Ensures cb_attach.ended (λ M 𝓤 𝓛. cb_attach.clauses 𝓛)
       (λ c r w. AttachesFlat c.passed.0.now c.passed.1.0.now c.passed.1.1.0.now r w.0 w.1.0)
-  pub detach : Ensures cb_detach.ended (λ M. cb_detach.clauses {M = M}) (λ c r w. DetachesFlat c.passed.0.now c.passed.1.0.now r w.0 w.1.0)
-  pub change : Ensures cb_change.ended (λ M. cb_change.clauses {M = M})
+  pub detach : Ensures cb_detach.ended (λ M 𝓤 𝓛. cb_detach.clauses 𝓛) (λ c r w. DetachesFlat c.passed.0.now c.passed.1.0.now r w.0 w.1.0)
+  pub change : Ensures cb_change.ended (λ M 𝓤 𝓛. cb_change.clauses 𝓛)
       (λ c r w. ChangesFlat c.passed.0.now c.passed.1.0.now c.passed.1.1.0.now r w.0 w.1.0)
-  pub open_walk_lem : Ensures cb_open_walk.ended (λ M. cb_open_walk.clauses {M = M})
+  pub open_walk_lem : Ensures cb_open_walk.ended (λ M 𝓤 𝓛. cb_open_walk.clauses 𝓛)
       (λ c r w. OpensFlat c.passed.0.now c.passed.1.0.now c.passed.1.1.0.now r w.1.1.0)
-  pub step : Ensures cb_step.ended (λ M. cb_step.clauses {M = M})
+  pub step : Ensures cb_step.ended (λ M 𝓤 𝓛. cb_step.clauses 𝓛)
       (λ c r w. StepsFlat c.passed.0.now c.passed.1.0.now c.passed.1.1.0.now
       (asking c.passed.1.1.1.0.now c.passed.1.1.1.1.0.now c.passed.1.1.1.1.1.0 c.passed.1.1.1.1.1.1.0.now) r w.1.1.0 w.1.1.1.1.1.1.0)
-  pub show : Ensures cb_show.ended (λ M. cb_show.clauses {M = M})
+  pub show : Ensures cb_show.ended (λ M 𝓤 𝓛. cb_show.clauses 𝓛)
       (λ c r w. ShowsFlat c.passed.0.now c.passed.1.0.now c.passed.1.1.0.now
       (asking c.passed.1.1.1.0.now c.passed.1.1.1.1.0.now c.passed.1.1.1.1.1.0 []) r w.1.1.1.1.1.1.0)
 
@@ -271,9 +271,9 @@ pub record Back (c : Made cb_place_values.ended) (w : Lasts cb_place_values.ende
 abbrev pub GathersBack : Type 2
 GathersBack =
     (c : Made cb_place_values.ended) (r : Res (cb_place_values.ended).signature c.lifetimes) (w : Lasts cb_place_values.ended c.lifetimes c.passed)
-    → Admits cb_place_values.ended (λ M. cb_place_values.clauses {M = M}) c r w → r.number ≡ 0 → c.passed.1.0 < 2 ^ 64
+    → Admits cb_place_values.ended (λ M 𝓤 𝓛. cb_place_values.clauses 𝓛) c r w → r.number ≡ 0 → c.passed.1.0 < 2 ^ 64
     → (e : Made cb_gather_values.ended) (q : Res (cb_gather_values.ended).signature e.lifetimes) (v : Lasts cb_gather_values.ended e.lifetimes e.passed)
-    → Admits cb_gather_values.ended (λ M. cb_gather_values.clauses {M = M}) e q v → Back c w e
+    → Admits cb_gather_values.ended (λ M 𝓤 𝓛. cb_gather_values.clauses 𝓛) e q v → Back c w e
     → (q.number ≡ 0) × ((v.1.1.1.1.1.0.hidden ≡ cond (hidden c.passed.0.now) c.passed.1.0 0) × (v.1.1.1.1.0 ≡ c.passed.1.1.0.now))
 
 -- C4, "different lists never give the same register and stack images", nor the same with the upper image among them: two accepted calls of placing with one description and one hidden address
@@ -281,7 +281,7 @@ abbrev pub NeverTheSame : Type 2
 NeverTheSame =
     (c e : Made cb_place_values.ended) (r : Res (cb_place_values.ended).signature c.lifetimes) (w : Lasts cb_place_values.ended c.lifetimes c.passed)
     (q : Res (cb_place_values.ended).signature e.lifetimes) (v : Lasts cb_place_values.ended e.lifetimes e.passed)
-    → Admits cb_place_values.ended (λ M. cb_place_values.clauses {M = M}) c r w → Admits cb_place_values.ended (λ M. cb_place_values.clauses {M = M}) e q v
+    → Admits cb_place_values.ended (λ M 𝓤 𝓛. cb_place_values.clauses 𝓛) c r w → Admits cb_place_values.ended (λ M 𝓤 𝓛. cb_place_values.clauses 𝓛) e q v
     → r.number ≡ 0 → q.number ≡ 0 → e.passed.0.now ≡ c.passed.0.now → e.passed.1.0 ≡ c.passed.1.0
     → w.1.1.1.0 ≡ v.1.1.1.0 → w.1.1.1.1.0 ≡ v.1.1.1.1.0 → w.1.1.1.1.1.0 ≡ v.1.1.1.1.1.0 → c.passed.1.1.0.now ≡ e.passed.1.1.0.now
 
@@ -295,9 +295,9 @@ pub record TakenBack (c : Made cb_put_returned.ended) (w : Lasts cb_put_returned
 abbrev pub TakesBack : Type 2
 TakesBack =
     (c : Made cb_put_returned.ended) (r : Res (cb_put_returned.ended).signature c.lifetimes) (w : Lasts cb_put_returned.ended c.lifetimes c.passed)
-    → Admits cb_put_returned.ended (λ M. cb_put_returned.clauses {M = M}) c r w → r.number ≡ 0 → c.passed.1.0 < 2 ^ 64
+    → Admits cb_put_returned.ended (λ M 𝓤 𝓛. cb_put_returned.clauses 𝓛) c r w → r.number ≡ 0 → c.passed.1.0 < 2 ^ 64
     → (e : Made cb_take_returned.ended) (q : Res (cb_take_returned.ended).signature e.lifetimes) (v : Lasts cb_take_returned.ended e.lifetimes e.passed)
-    → Admits cb_take_returned.ended (λ M. cb_take_returned.clauses {M = M}) e q v → TakenBack c w e
+    → Admits cb_take_returned.ended (λ M 𝓤 𝓛. cb_take_returned.clauses 𝓛) e q v → TakenBack c w e
     → (q.number ≡ 0)
     × ((v.1.1.1.1.0.hidden ≡ cond (in_memory (return_place c.passed.0.now)) c.passed.1.0 0) × (v.1.1.1.0 ≡ trimmed (return_place c.passed.0.now) c.passed.1.1.0.now))
 
@@ -317,7 +317,7 @@ pub record AttachDone (k : HostDesk) (d : List ℕ) (n : ℕ) (l : HostDesk) : T
   pub made : Made cb_attach.ended
   pub result : Res (cb_attach.ended).signature made.lifetimes
   pub last : Lasts cb_attach.ended made.lifetimes made.passed
-  pub admitted : Admits cb_attach.ended (λ M. cb_attach.clauses {M = M}) made result last
+  pub admitted : Admits cb_attach.ended (λ M 𝓤 𝓛. cb_attach.clauses 𝓛) made result last
   pub station : made.passed.0.now ≡ k.station
   pub seat : made.passed.1.0.now ≡ k.seat
   pub description : made.passed.1.1.0.now ≡ d
@@ -328,7 +328,7 @@ pub record DetachDone (k : HostDesk) (n : ℕ) (l : HostDesk) : Type 2 where
   pub made : Made cb_detach.ended
   pub result : Res (cb_detach.ended).signature made.lifetimes
   pub last : Lasts cb_detach.ended made.lifetimes made.passed
-  pub admitted : Admits cb_detach.ended (λ M. cb_detach.clauses {M = M}) made result last
+  pub admitted : Admits cb_detach.ended (λ M 𝓤 𝓛. cb_detach.clauses 𝓛) made result last
   pub station : made.passed.0.now ≡ k.station
   pub seat : made.passed.1.0.now ≡ k.seat
   pub number : n ≡ result.number
@@ -338,7 +338,7 @@ pub record ChangeDone (k : HostDesk) (d : List ℕ) (n : ℕ) (l : HostDesk) : T
   pub made : Made cb_change.ended
   pub result : Res (cb_change.ended).signature made.lifetimes
   pub last : Lasts cb_change.ended made.lifetimes made.passed
-  pub admitted : Admits cb_change.ended (λ M. cb_change.clauses {M = M}) made result last
+  pub admitted : Admits cb_change.ended (λ M 𝓤 𝓛. cb_change.clauses 𝓛) made result last
   pub station : made.passed.0.now ≡ k.station
   pub seat : made.passed.1.0.now ≡ k.seat
   pub description : made.passed.1.1.0.now ≡ d
@@ -354,7 +354,7 @@ pub record OpenDone (k : HostDesk) (i n : ℕ) (l : HostDesk) : Type 2 where
   pub made : Made cb_open_walk.ended
   pub result : Res (cb_open_walk.ended).signature made.lifetimes
   pub last : Lasts cb_open_walk.ended made.lifetimes made.passed
-  pub admitted : Admits cb_open_walk.ended (λ M. cb_open_walk.clauses {M = M}) made result last
+  pub admitted : Admits cb_open_walk.ended (λ M 𝓤 𝓛. cb_open_walk.clauses 𝓛) made result last
   pub station : made.passed.0.now ≡ k.station
   pub seat : made.passed.1.0.now ≡ k.seat
   pub walk : made.passed.1.1.0.now ≡ k.walks i
@@ -365,7 +365,7 @@ pub record StepDone (k : HostDesk) (i : ℕ) (a : Ask) (n : ℕ) (l : HostDesk) 
   pub made : Made cb_step.ended
   pub result : Res (cb_step.ended).signature made.lifetimes
   pub last : Lasts cb_step.ended made.lifetimes made.passed
-  pub admitted : Admits cb_step.ended (λ M. cb_step.clauses {M = M}) made result last
+  pub admitted : Admits cb_step.ended (λ M 𝓤 𝓛. cb_step.clauses 𝓛) made result last
   pub station : made.passed.0.now ≡ k.station
   pub seat : made.passed.1.0.now ≡ k.seat
   pub walk : made.passed.1.1.0.now ≡ k.walks i
@@ -378,7 +378,7 @@ pub record ShowDone (k : HostDesk) (i : ℕ) (a : Ask) (n : ℕ) (l : HostDesk) 
   pub made : Made cb_show.ended
   pub result : Res (cb_show.ended).signature made.lifetimes
   pub last : Lasts cb_show.ended made.lifetimes made.passed
-  pub admitted : Admits cb_show.ended (λ M. cb_show.clauses {M = M}) made result last
+  pub admitted : Admits cb_show.ended (λ M 𝓤 𝓛. cb_show.clauses 𝓛) made result last
   pub station : made.passed.0.now ≡ k.station
   pub seat : made.passed.1.0.now ≡ k.seat
   pub walk : made.passed.1.1.0.now ≡ k.walks i

@@ -38,7 +38,7 @@ abbrev pub RecordsStay : Type 2
 RecordsStay =
     (c e : Made cb_lay_out.ended) (r : Res (cb_lay_out.ended).signature c.lifetimes) (w : Lasts cb_lay_out.ended c.lifetimes c.passed)
     (q : Res (cb_lay_out.ended).signature e.lifetimes) (v : Lasts cb_lay_out.ended e.lifetimes e.passed)
-    → Admits cb_lay_out.ended (λ M. cb_lay_out.clauses {M = M}) c r w → Admits cb_lay_out.ended (λ M. cb_lay_out.clauses {M = M}) e q v
+    → Admits cb_lay_out.ended (λ M 𝓤 𝓛. cb_lay_out.clauses 𝓛) c r w → Admits cb_lay_out.ended (λ M 𝓤 𝓛. cb_lay_out.clauses 𝓛) e q v
     → r.number ≡ 0 → q.number ≡ 0 → Extends c.passed.0.now e.passed.0.now
     → ((i : ℕ) (x y : Placement) → i < arguments_in c.passed.0.now → SamePlace (placement_meant (get_or w.1.1.0 i x)) (placement_meant (get_or v.1.1.0 i y))) × NoSmaller w.1.0 v.1.0
 
@@ -47,7 +47,7 @@ abbrev pub ImagesStay : Type 2
 ImagesStay =
     (c e : Made cb_place_values.ended) (r : Res (cb_place_values.ended).signature c.lifetimes) (w : Lasts cb_place_values.ended c.lifetimes c.passed)
     (q : Res (cb_place_values.ended).signature e.lifetimes) (v : Lasts cb_place_values.ended e.lifetimes e.passed)
-    → Admits cb_place_values.ended (λ M. cb_place_values.clauses {M = M}) c r w → Admits cb_place_values.ended (λ M. cb_place_values.clauses {M = M}) e q v
+    → Admits cb_place_values.ended (λ M 𝓤 𝓛. cb_place_values.clauses 𝓛) c r w → Admits cb_place_values.ended (λ M 𝓤 𝓛. cb_place_values.clauses 𝓛) e q v
     → r.number ≡ 0 → q.number ≡ 0 → Extends c.passed.0.now e.passed.0.now → e.passed.1.0 ≡ c.passed.1.0
     → take (length c.passed.1.1.0.now) e.passed.1.1.0.now ≡ c.passed.1.1.0.now
     → SameBytes (frame_of c.passed.0.now) (w.1.1.1.0 ++ (w.1.1.1.1.0 ++ w.1.1.1.1.1.0)) (v.1.1.1.0 ++ (v.1.1.1.1.0 ++ v.1.1.1.1.1.0))

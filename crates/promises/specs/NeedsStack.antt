@@ -37,7 +37,7 @@ TellsNeed d old r new = Fills need_read d (need_order d) ((stack_need d).needed,
 -- its refusal and the record that it leaves, beside those of cb_layout_of
 pub record Beside (r : Refusal) (need : StackNeed) (q : Refusal) (layout : Layout) : Type 0 where
   -- "It equals "area is not 0" of the full layout"
-  pub laid : q.number ≡ 0 → (r.number ≡ 0) × ((need_meant need).needed ≡ not (eqb (layout .area .0) 0))
+  pub laid : q.number ≡ 0 → (r.number ≡ 0) × ((need_meant need).needed ≡ not (eqb layout.area.0 0))
   -- "and is yes where only 10 would refuse"
   pub ten : q.number ≡ 10 → (r.number ≡ 0) × ((need_meant need).needed ≡ true)
   -- "1..9 as before"
@@ -48,13 +48,13 @@ abbrev pub BesideLayout : Type 2
 BesideLayout =
     (c : Made cb_needs_stack.ended) (r : Res (cb_needs_stack.ended).signature c.lifetimes) (w : Lasts cb_needs_stack.ended c.lifetimes c.passed)
     (e : Made cb_layout_of.ended) (q : Res (cb_layout_of.ended).signature e.lifetimes) (v : Lasts cb_layout_of.ended e.lifetimes e.passed)
-    → Admits cb_needs_stack.ended (λ M. cb_needs_stack.clauses {M = M}) c r w → Admits cb_layout_of.ended (λ M. cb_layout_of.clauses {M = M}) e q v
+    → Admits cb_needs_stack.ended (λ M 𝓤 𝓛. cb_needs_stack.clauses 𝓛) c r w → Admits cb_layout_of.ended (λ M 𝓤 𝓛. cb_layout_of.clauses 𝓛) e q v
     → e.passed.0.now ≡ c.passed.0.now → Beside r w.1.0 q v.1.0
 
 pub record NeedsStack : Type 2 where
   pub answered : (d : List ℕ) → Answered (of_need (stack_answer d)) (need_order d) ((stack_need d).needed, (stack_need d).looked)
   pub needed : (d : List ℕ) → NoneHolds (need_order d) → StackNeeded d
   -- the call
-  pub tells_need : Ensures cb_needs_stack.ended (λ M. cb_needs_stack.clauses {M = M}) (λ c r w. TellsNeed c.passed.0.now c.passed.1.0.now r w.1.0)
-  pub never_ten : Ensures cb_needs_stack.ended (λ M. cb_needs_stack.clauses {M = M}) (λ c r w. r.number ≢ 10)
+  pub tells_need : Ensures cb_needs_stack.ended (λ M 𝓤 𝓛. cb_needs_stack.clauses 𝓛) (λ c r w. TellsNeed c.passed.0.now c.passed.1.0.now r w.1.0)
+  pub never_ten : Ensures cb_needs_stack.ended (λ M 𝓤 𝓛. cb_needs_stack.clauses 𝓛) (λ c r w. r.number ≢ 10)
   pub beside_layout : BesideLayout

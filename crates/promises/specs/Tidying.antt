@@ -42,7 +42,7 @@ abbrev pub SameOut : Type 2
 SameOut =
     (c e : Made cb_tidy.ended) (r : Res (cb_tidy.ended).signature c.lifetimes) (w : Lasts cb_tidy.ended c.lifetimes c.passed)
     (q : Res (cb_tidy.ended).signature e.lifetimes) (v : Lasts cb_tidy.ended e.lifetimes e.passed)
-    → Admits cb_tidy.ended (λ M. cb_tidy.clauses {M = M}) c r w → Admits cb_tidy.ended (λ M. cb_tidy.clauses {M = M}) e q v → r.number ≡ 0 → q.number ≡ 0
+    → Admits cb_tidy.ended (λ M 𝓤 𝓛. cb_tidy.clauses 𝓛) c r w → Admits cb_tidy.ended (λ M 𝓤 𝓛. cb_tidy.clauses 𝓛) e q v → r.number ≡ 0 → q.number ≡ 0
     → (w.1.0 ≡ v.1.0) ↔ SameCall c.passed.0.now e.passed.0.now
 
 -- "Tidying twice changes nothing": a call that answers 0, and one with the bytes that it left and a buffer as long
@@ -50,7 +50,7 @@ abbrev pub TidiesTwice : Type 2
 TidiesTwice =
     (c e : Made cb_tidy.ended) (r : Res (cb_tidy.ended).signature c.lifetimes) (w : Lasts cb_tidy.ended c.lifetimes c.passed)
     (q : Res (cb_tidy.ended).signature e.lifetimes) (v : Lasts cb_tidy.ended e.lifetimes e.passed)
-    → Admits cb_tidy.ended (λ M. cb_tidy.clauses {M = M}) c r w → Admits cb_tidy.ended (λ M. cb_tidy.clauses {M = M}) e q v → r.number ≡ 0
+    → Admits cb_tidy.ended (λ M 𝓤 𝓛. cb_tidy.clauses 𝓛) c r w → Admits cb_tidy.ended (λ M 𝓤 𝓛. cb_tidy.clauses 𝓛) e q v → r.number ≡ 0
     → e.passed.0.now ≡ w.1.0 → length e.passed.1.0.now ≡ length w.1.0 → (q.number ≡ 0) × (v.1.0 ≡ w.1.0)
 
 -- a buffer of the length that was told is the right one
@@ -58,7 +58,7 @@ abbrev pub LengthSuits : Type 2
 LengthSuits =
     (c : Made cb_tidy_length.ended) (r : Res (cb_tidy_length.ended).signature c.lifetimes) (w : Lasts cb_tidy_length.ended c.lifetimes c.passed)
     (e : Made cb_tidy.ended) (q : Res (cb_tidy.ended).signature e.lifetimes) (v : Lasts cb_tidy.ended e.lifetimes e.passed)
-    → Admits cb_tidy_length.ended (λ M. cb_tidy_length.clauses {M = M}) c r w → Admits cb_tidy.ended (λ M. cb_tidy.clauses {M = M}) e q v → r.number ≡ 0
+    → Admits cb_tidy_length.ended (λ M 𝓤 𝓛. cb_tidy_length.clauses 𝓛) c r w → Admits cb_tidy.ended (λ M 𝓤 𝓛. cb_tidy.clauses 𝓛) e q v → r.number ≡ 0
     → e.passed.0.now ≡ c.passed.0.now → length e.passed.1.0.now ≡ w.1.0.length.0 → q.number ≡ 0
 
 -- the tidy form of each worked case, as the definitions give it
@@ -76,8 +76,8 @@ pub record Tidying : Type 2 where
   pub cases_hold : map formed tidy_cases ≡ tidy_cases
   pub wide_case : too_many wide_description ≡ true
   -- the calls
-  pub tells_length : Ensures cb_tidy_length.ended (λ M. cb_tidy_length.clauses {M = M}) (λ c r w. TellsLength c.passed.0.now c.passed.1.0.now r w.1.0)
-  pub tidies_flat : Ensures cb_tidy.ended (λ M. cb_tidy.clauses {M = M}) (λ c r w. TidiesFlat c.passed.0.now c.passed.1.0.now r w.1.0)
+  pub tells_length : Ensures cb_tidy_length.ended (λ M 𝓤 𝓛. cb_tidy_length.clauses 𝓛) (λ c r w. TellsLength c.passed.0.now c.passed.1.0.now r w.1.0)
+  pub tidies_flat : Ensures cb_tidy.ended (λ M 𝓤 𝓛. cb_tidy.clauses 𝓛) (λ c r w. TidiesFlat c.passed.0.now c.passed.1.0.now r w.1.0)
   pub same_out : SameOut
   pub tidies_twice : TidiesTwice
   pub length_suits : LengthSuits
