@@ -14,7 +14,7 @@ use Rattle.units.specs.Raise.{raise}
 use Rattle.units.proofs.Raise.{raise-not_below, raise-least}
 use Rattle.classes.specs.declared.Class.{Class}
 use Rattle.classes.specs.declared.Class.TheVariants.{NoClass, Integer, Sse, SseUp, X87, X87Up, ComplexX87, Memory}
-use Rattle.classes.specs.Classes.{same, there, is_x87, no_classes, merge_of, merge_all}
+use Rattle.classes.specs.Classes.{same, is_x87, no_classes, merge_of, merge_all}
 use Rattle.classes.specs.CleanUp.{up_alone, settled, memory_of, clean_up, all_ups, one_vector}
 use Rattle.classes.proofs.Laws.{each_two, if_left, all-at, or_cases, merge_commutes, merge_none}
 use Rattle.types.specs.Tree.{Ty, Tys, basic, array, struct, union, none, more}

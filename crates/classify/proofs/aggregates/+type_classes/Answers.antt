@@ -38,11 +38,10 @@ classify_elements-loop-left-smaller t c =
     omega (arith, c.loop-left-test.true)
 
 pub classify_elements-loop-left-preserved : goal.classify_elements-loop-left-preserved
-classify_elements-loop-left-preserved t c =
-    (
-      elements_ask c.args.d.now c.args.k c.loop-left.left c.args.size.0 c.loop-left.offset.0 c.loop-left.invariant.0 c.loop-left-test.true c.plus-offset.result.0 c.plus-offset.ensures,
-      λ r h. c.loop-left.invariant.1 r (elements_done (classes_at (model_in c.args.d.now) 2 (ty_at c.args.d.now c.args.k)) c.args.size.0 c.loop-left.left c.loop-left.offset.0 c.plus-offset.result.0 (pair_in c.loop-left.merged) (pair_in c.classify_type-classes.result) (pair_in c.merge_packed-merged.result) r c.loop-left-test.true c.classify_type-classes.ensures c.merge_packed-merged.ensures c.plus-offset.ensures h),
-    )
+classify_elements-loop-left-preserved t c = (
+  elements_ask c.args.d.now c.args.k c.loop-left.left c.args.size.0 c.loop-left.offset.0 c.loop-left.invariant.0 c.loop-left-test.true c.plus-offset.result.0 c.plus-offset.ensures,
+  λ r h. c.loop-left.invariant.1 r (elements_done (classes_at (model_in c.args.d.now) 2 (ty_at c.args.d.now c.args.k)) c.args.size.0 c.loop-left.left c.loop-left.offset.0 c.plus-offset.result.0 (pair_in c.loop-left.merged) (pair_in c.classify_type-classes.result) (pair_in c.merge_packed-merged.result) r c.loop-left-test.true c.classify_type-classes.ensures c.merge_packed-merged.ensures c.plus-offset.ensures h),
+)
 
 pub classify_elements-returns : goal.classify_elements-returns
 classify_elements-returns t c =

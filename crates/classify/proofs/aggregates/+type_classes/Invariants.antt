@@ -2,7 +2,7 @@
 -- all of them.
 use mathlib.Core.Path.{◌≡◌}
 use mathlib.Core.List.{List}
-use Prim.Native.Nat.{ℕ, ◌+◌, ◌*◌}
+use Prim.Native.Nat.{◌+◌, ◌*◌}
 use Rattle.classes.specs.Classes.{no_classes}
 use Rattle.classes.specs.declared.Class.{Class}
 use Rattle.classify.specs.Asks.{AskElements, AskMembers}

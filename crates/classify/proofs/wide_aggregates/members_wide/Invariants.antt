@@ -5,10 +5,8 @@ use mathlib.Core.Bool.{◌&&◌}
 use Rattle.classify.specs.Vectors.{each_fits, some_vector}
 use Rattle.classify.proofs.OverTwo.{together}
 use Rattle.description.specs.Description.{model_in}
-use Rattle.form.specs.Order.{first}
 use Rattle.types.specs.Asks.{SizedRun}
 use Rattle.types.specs.Decode.{tys_from, ty_at}
-use Rattle.types.specs.Offsets.{count}
 use Rattle.classify.proofs.wide_aggregates.members_wide.Given as goal
 
 abbrev pub invariant-loop-left : goal.invariant-loop-left

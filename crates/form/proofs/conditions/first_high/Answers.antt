@@ -4,7 +4,6 @@ use borrow.Author.Tests.{le-leb, lt-leb}
 use Rattle.description.specs.Description.{member_at}
 use Rattle.form.specs.Search.{first_from}
 use Rattle.form.specs.Conditions.{high_member}
-use Rattle.form.specs.Order.{first}
 use Rattle.form.proofs.Search.{search_stop, search_on, search_end}
 use Rattle.form.proofs.conditions.first_high.Goals as goal
 

@@ -4,7 +4,6 @@ use mathlib.Core.Path.{◌≡◌}
 use Prim.Native.Nat.{◌+◌, ◌-◌, ◌≤◌}
 use Rattle.form.specs.Search.{first_from}
 use Rattle.form.specs.Conditions.{high_member}
-use Rattle.form.specs.Order.{first}
 use Rattle.form.proofs.conditions.first_high.Given as goal
 
 abbrev pub invariant-loop-at : goal.invariant-loop-at

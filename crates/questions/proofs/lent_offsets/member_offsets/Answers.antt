@@ -4,9 +4,6 @@ use mathlib.Core.Path.{sym, ◌∙◌}
 use native.Mathlib.Omega.{arith}
 use Rattle.questions.proofs.Offsets.{ends-refused, ends-other, ends-short, ends-filled}
 use Rattle.questions.proofs.Questions.{question-judged, answered-sized}
-use Rattle.types.specs.Tree.{group}
-use Rattle.classify.specs.Cases.{long}
-use Rattle.classify.proofs.Table.{tabled}
 use Rattle.questions.proofs.lent_offsets.member_offsets.Goals as goal
 
 pub refusal_for-requires : goal.refusal_for-requires

@@ -4,7 +4,6 @@ use Rattle.description.specs.Description.{model_in}
 use Rattle.types.specs.declared.Extent.{Extent}
 use Rattle.types.specs.Asks.{SizedRun, IsRun}
 use Rattle.types.specs.Decode.{tys_from, ty_at}
-use Rattle.form.specs.Order.{first}
 use Rattle.types.proofs.extents.members_extent.Given as goal
 
 abbrev pub invariant-loop-left : goal.invariant-loop-left
