@@ -20,8 +20,7 @@ counted d was room r i e h = rw (ap (λ (b : ListBegun). b.count) e) at h
 pub loop-i-init : goal.loop-i-init
 loop-i-init c =
     let d = c.args.d.now in
-    let room = length c.args.list.now in
-    (
+    let room = length c.args.list.now in (
       omega arith,
       filled_none (flat_at d) c.args.list.now,
       ap (λ (b : ListBegun). b.before) c.begin_list-head.ensures.0 ∙ row_before d room c.args.layout.now,
@@ -42,8 +41,7 @@ loop-i-preserved c =
     let room = length c.args.list.now in
     let i = c.loop-i.i in
     let less = counted d was room c.begin_list-head.result i c.begin_list-head.ensures.0 c.loop-i-test.true in
-    let made : c.place_flat-step.result ≡ flat_step d (list_laying d room i) i = c.place_flat-step.ensures ∙ ap (λ (b : Laying). flat_step d b i) c.loop-i.invariant.2 in
-    (
+    let made : c.place_flat-step.result ≡ flat_step d (list_laying d room i) i = c.place_flat-step.ensures ∙ ap (λ (b : Laying). flat_step d b i) c.loop-i.invariant.2 in (
       omega arith,
       rw (made, row_record d room was i less, c.loop-i.invariant.1) (filled_next (flat_at d) i c.args.list.now),
       rw made (row_next d room was i less),
@@ -55,8 +53,7 @@ returns c =
     let was = c.args.layout.now in
     let room = length c.args.list.now in
     let head = c.begin_list-head.ensures.0 in
-    let last : c.loop-i.i ≡ list_count d room = omega (arith, count_is d was room c.begin_list-head.result head) in
-    (
+    let last : c.loop-i.i ≡ list_count d room = omega (arith, count_is d was room c.begin_list-head.result head) in (
       ap (λ (b : ListBegun). b.refusal) head ∙ row_refusal d room was,
       (
         ap (λ (b : ListBegun). b.layout) head ∙ row_layout d room was,
