@@ -9,7 +9,7 @@ use Rattle.places.specs.declared.Kind.{Kind}
 use Rattle.places.specs.declared.Kind.TheVariants.{General as general, Vector as vector, Upper as upper, Wide as wide}
 use Rattle.places.specs.declared.Used.{Used}
 use Rattle.places.specs.Shapes.{Shape, has_some, has_wide, widths, Led, Shaped}
-use Rattle.places.specs.Places.{eights, Place, in_registers, on_stack, generals, vectors, registers_for, fits, place_if, place, next}
+use Rattle.places.specs.Places.{eights, Place, in_registers, generals, vectors, registers_for, fits, place_if, place, next}
 use Rattle.places.specs.Recorded.{place_of, recorded}
 use Rattle.places.proofs.Fits.{fits-true}
 use Rattle.places.proofs.Apart.{stack-room}

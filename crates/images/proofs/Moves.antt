@@ -20,7 +20,7 @@ use Rattle.places.specs.declared.Register.{Register}
 use Rattle.places.specs.declared.Register.TheVariants.{General, Vector, Upper, Wide}
 use Rattle.places.specs.declared.Place.{Place}
 use Rattle.places.specs.declared.Place.TheVariants.{One, Two, Stack}
-use Rattle.places.specs.Images.{stack_at, address_of, slots_of, slots, spread, bytes_of}
+use Rattle.places.specs.Images.{stack_at, address_of, slots_of, spread, bytes_of}
 use Rattle.places.specs.Recorded.{place_of}
 use Rattle.places.proofs.Apart.{spread-adjoin}
 use Rattle.images.specs.Asks.{Known, Single, Alone, Inside, AskAlone, AskMove}

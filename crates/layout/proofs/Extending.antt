@@ -13,7 +13,7 @@ use Rattle.types.proofs.SameTables.{same-type}
 use Rattle.classify.specs.Classify.{classes_of}
 use Rattle.uses.proofs.Uses.{accepted-types}
 use Rattle.places.specs.Shapes.{Shape}
-use Rattle.places.specs.Places.{eights, after, area}
+use Rattle.places.specs.Places.{eights, after}
 use Rattle.places.specs.Images.{stack_at, addresses, total}
 use Rattle.places.specs.Returns.{hidden_for}
 use Rattle.places.proofs.Apart.{Grows}

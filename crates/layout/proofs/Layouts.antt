@@ -16,7 +16,6 @@ use Rattle.types.proofs.Wrong.{no_type}
 use Rattle.types.specs.Table.{filled, sizes_after}
 use Rattle.classify.specs.Table.{full_entry}
 use Rattle.uses.specs.Uses.{uses_refusal}
-use Rattle.uses.proofs.Uses.{accepted-typed}
 use Rattle.places.specs.declared.Used.{Used}
 use Rattle.places.specs.Places.{eights, fresh, after, area_align, area}
 use Rattle.places.specs.Images.{total}

@@ -15,7 +15,7 @@ use Rattle.form.proofs.Order.{never, none-till}
 use Rattle.form.proofs.Search.{first_holds, first-least}
 use Rattle.uses.specs.Uses.{uses_order, uses_refusal}
 use Rattle.places.specs.declared.Used.{Used}
-use Rattle.places.specs.Places.{eights, in_registers, on_stack, fits, start, registers_for, place, area}
+use Rattle.places.specs.Places.{eights, in_registers, on_stack, fits, start, registers_for, place}
 use Rattle.places.specs.Recorded.{place_of}
 use Rattle.places.proofs.Fits.{place-fits, place-not}
 use Rattle.places.proofs.Offsets.{area-rounded}

@@ -10,7 +10,7 @@ use Rattle.uses.specs.Uses.{uses_refusal}
 use Rattle.places.specs.declared.Kind.{Kind}
 use Rattle.places.specs.declared.Kind.TheVariants.{General as general, Vector as vector, Upper as upper, Wide as wide}
 use Rattle.places.specs.declared.Used.{Used}
-use Rattle.places.specs.Shapes.{Shape, Shaped, Led, has_some, widths}
+use Rattle.places.specs.Shapes.{Shape, Shaped, Led, widths}
 use Rattle.places.specs.Places.{eights, generals, vectors, fits, start, next}
 use Rattle.units.proofs.Raise.{raise-not_below}
 use Rattle.places.proofs.Fits.{clash, fits-true, next_fits, next-not}

@@ -11,7 +11,7 @@ use Rattle.types.proofs.Laws.{size_low, align-divides, type-filled}
 use Rattle.uses.specs.Uses.{uses_refusal}
 use Rattle.uses.proofs.Uses.{accepted-types}
 use Rattle.places.specs.declared.Used.{Used}
-use Rattle.places.specs.Places.{eights, Place, place, area}
+use Rattle.places.specs.Places.{eights, Place, place}
 use Rattle.places.specs.Images.{stack_at, bytes_of, addresses}
 use Rattle.places.specs.Recorded.{place_of}
 use Rattle.places.proofs.Records.{place-written}

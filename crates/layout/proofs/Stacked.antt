@@ -18,7 +18,7 @@ use Rattle.uses.specs.Uses.{uses_refusal}
 use Rattle.uses.proofs.Uses.{accepted-types}
 use Rattle.places.specs.declared.Used.{Used}
 use Rattle.places.specs.Shapes.{Shape, Shaped, shape_of}
-use Rattle.places.specs.Places.{eights, fits, start, next, after, area, fresh}
+use Rattle.places.specs.Places.{eights, fits, start, next, fresh}
 use Rattle.places.proofs.Fits.{place-not, next_fits}
 use Rattle.places.proofs.Offsets.{stack-lowest, stack-rounded}
 use Rattle.layout.specs.Arguments.{shape_at, used_at, hidden}

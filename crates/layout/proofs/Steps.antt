@@ -1,7 +1,7 @@
 -- What the functions answer, from what they call. Assumes nothing.
-use mathlib.Core.Path.{◌≡◌, refl, sym, ap, ◌∙◌}
+use mathlib.Core.Path.{◌≡◌, sym, ap, ◌∙◌}
 use mathlib.Core.Bool.{Bool, false}
-use mathlib.Core.List.{List, [], ◌∷◌}
+use mathlib.Core.List.{List}
 use Prim.Native.Nat.{ℕ, ◌+◌, ◌/◌, ◌^◌, ◌≤◌, ◌<◌}
 use native.Mathlib.Omega.{arith}
 use borrow.Author.Tests.{eq-eqb, ne_eqb}
@@ -38,7 +38,6 @@ use Rattle.layout.specs.Placements.{step_of, step_at, turn_at}
 use Rattle.layout.specs.declared.placements.Turn.{Turn}
 use Rattle.layout.specs.declared.placements.Laying.{Laying}
 use Rattle.layout.proofs.Bounds.{arguments-few, types-few, argument-known, argument-small, argument-some, argument-shaped, before-room}
-use Rattle.layout.specs.declared.placements.Step.{Step}
 
 -- what is returned
 module _ (d : List ℕ) where

@@ -9,10 +9,10 @@ use lib.ListN.{length, get_or}
 use Rattle.description.specs.declared.Model.{Model}
 use Rattle.description.specs.declared.Model.TheVariants.{Ilp32}
 use Rattle.description.specs.Description.{arguments_in, model_in, argument_at}
-use Rattle.addresses.specs.Addresses.{All, Absent}
+use Rattle.addresses.specs.Addresses.{Absent}
 use Rattle.addresses.proofs.Runs.{all-run}
-use Rattle.form.specs.Order.{rule, first, Without}
-use Rattle.form.proofs.Order.{first-behind, none-till, held, without-append, positive-append}
+use Rattle.form.specs.Order.{rule, first}
+use Rattle.form.proofs.Order.{first-behind, none-till, held, without-append}
 use Rattle.classes.specs.Classes.{same, is_x87, merge_of, merge_all}
 use Rattle.types.specs.Tree.{Ty, basic}
 use Rattle.types.specs.Basic.{basic_size, basic_align}
@@ -22,26 +22,23 @@ use Rattle.types.proofs.Large.{accepted-sized}
 use Rattle.types.proofs.Trees.{at-basic}
 use Rattle.classify.specs.Classify.{first_class, second_class, gap, one_class, basic_at, eightbytes_in, classes_at, eightbytes_of, shown, classes_of}
 use Rattle.uses.proofs.Uses.{accepted-types}
-use Rattle.places.specs.declared.Used.{Used}
-use Rattle.places.specs.Shapes.{Shape, Shaped, kinds_of, kinds_for, shape_of}
+use Rattle.places.specs.Shapes.{Shape, kinds_of, kinds_for, shape_of}
 use Rattle.places.specs.Places.{eights, place, next, after, fresh}
-use Rattle.places.specs.Images.{stack_at, bytes_of, addresses}
-use Rattle.places.specs.Statements.{Free, Seated}
+use Rattle.places.specs.Images.{stack_at, bytes_of}
+use Rattle.places.specs.Statements.{Free}
 use Rattle.places.proofs.Apart.{TakenBy, all-seated}
 use Rattle.places.proofs.Slots.{four, free-before, taken-alone, slot-taken, slot-unused}
 use Rattle.layout.specs.Arguments.{is_named, shape_at, shapes_from, shapes, hidden, used_first, used_at}
 use Rattle.layout.specs.Verdict.{check_order, verdict}
 use Rattle.layout.proofs.Arguments.{shapes-cons, shapes-split}
 use Rattle.layout.proofs.Bounds.{all-shaped, argument-known}
-use Rattle.layout.proofs.Verdict.{accepted-uses, check-positive}
+use Rattle.layout.proofs.Verdict.{accepted-uses}
 use Rattle.images.specs.Words.{rdi}
 use Rattle.images.proofs.Words.{upper-zero}
 use Rattle.moving.specs.Address.{wrong_address}
-use Rattle.moving.specs.Frames.{Unused}
 use Rattle.moving.specs.Images.{addresses_of, frame_of, amd64}
 use Rattle.moving.specs.Orders.{wrong_bool, gather_order, gather_refusal, place_refusal}
 use Rattle.moving.specs.Answers.{images_after}
-use Rattle.moving.specs.Asks.{Lent}
 use Rattle.moving.specs.Ilp32.{AddressRight, TooWide, TwentySevenExactly, PointerAt, slot_byte, PointerUpper, HiddenUpper}
 use Rattle.moving.proofs.Turns.{right}
 use Rattle.moving.proofs.Address.{address-wrong, address_right}

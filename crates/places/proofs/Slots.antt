@@ -1,12 +1,11 @@
 -- The eightbyte of a register and the slot of the stack are one argument's, whether or not its value fills them. Assumes nothing.
-use mathlib.Core.Path.{◌≡◌, refl, sym, ap, ◌∙◌}
+use mathlib.Core.Path.{◌≡◌, refl, ◌∙◌}
 use mathlib.Core.Logic.{◌≢◌}
 use mathlib.Core.Bool.{Bool, true, false}
 use mathlib.Core.List.{List, [], ◌∷◌, ◌++◌}
-use Prim.Native.Nat.{ℕ, zero, suc, ◌+◌, ◌*◌, ◌%◌, ◌≤◌, ◌<◌, max}
+use Prim.Native.Nat.{ℕ, zero, suc, ◌+◌, ◌*◌, ◌%◌, ◌≤◌, ◌<◌}
 use native.Mathlib.Omega.{arith}
 use lib.ListN.{get_or}
-use Rattle.units.specs.Raise.{raise}
 use Rattle.units.proofs.Raise.{raise-multiple, raise-not_below}
 use Rattle.addresses.specs.Addresses.{run, All, Absent}
 use Rattle.addresses.proofs.Lists.{all_append, all_map}

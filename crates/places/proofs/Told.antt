@@ -15,15 +15,14 @@ use Rattle.classes.specs.declared.Class.{Class}
 use Rattle.classes.specs.declared.Class.TheVariants.{Integer, Sse}
 use Rattle.classes.specs.Classes.{same, is_x87}
 use Rattle.classes.proofs.Laws.{each_two}
-use Rattle.classify.specs.Vectors.{vector as vector_classes}
 use Rattle.classify.specs.Table.{pair_in, wide_in, unpacked_of}
 use Rattle.places.specs.declared.Kind.{Kind}
 use Rattle.places.specs.declared.Kind.TheVariants.{General as general, Vector as vector, Upper as upper, Wide as wide}
 use Rattle.places.specs.declared.Register.{Register}
 use Rattle.places.specs.declared.Register.TheVariants.{General, Vector, Upper, Wide}
 use Rattle.places.specs.declared.Used.{Used}
-use Rattle.places.specs.Shapes.{Shape, kinds_of, kinds_for, shape_in, has_some, widths, Led, Shaped}
-use Rattle.places.specs.Places.{eights, Place, in_registers, on_stack, general_for, vector_for, register_for, registers_for, taking, fits, start, place, next}
+use Rattle.places.specs.Shapes.{Shape, kinds_of, kinds_for, shape_in, has_some, widths, Led}
+use Rattle.places.specs.Places.{eights, in_registers, on_stack, general_for, vector_for, register_for, registers_for, taking, fits, start, place, next}
 use Rattle.places.specs.Asked.{Between, first_kind, second_kind, last_for}
 use Rattle.places.proofs.Fits.{clash, fits-true, place-fits, place-not, next_fits, next-not}
 use Rattle.places.proofs.Records.{narrow_kinds}

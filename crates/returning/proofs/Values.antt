@@ -4,7 +4,6 @@ use mathlib.Core.Bool.{Bool, true, false, cond, not, ◌&&◌, false≢true}
 use mathlib.Core.List.{List, [], ◌∷◌}
 use Prim.Native.Nat.{ℕ, ◌<◌}
 use borrow.Author.Tests.{ne_eqb}
-use lib.ListN.{length}
 use mathlib.Core.Logic.{◌≢◌}
 use Rattle.description.specs.Description.{types_in, return_in, model_in, kind_at, a_at, Whole}
 use Rattle.description.specs.declared.Model.{Model}

@@ -1,22 +1,20 @@
 -- The tidy form of an accepted description is accepted. Assumes nothing.
 use mathlib.Core.Path.{◌≡◌, refl, sym, ap, subst, ◌∙◌}
-use mathlib.Core.Bool.{Bool, true, false, cond, not, ◌&&◌, ◌||◌, true≢false}
+use mathlib.Core.Bool.{Bool, true, false, cond, not, ◌&&◌, ◌||◌}
 use mathlib.Core.List.{List, [], ◌∷◌, ◌++◌, map}
 use Prim.Native.Nat.{ℕ, zero, suc, ◌+◌, ◌*◌, ◌-◌, ◌≤◌, ◌<◌}
 use native.Mathlib.Omega.{arith}
-use borrow.Author.Tests.{ltb-false, lt-ltb, le-ltb, lt-leb, eq-eqb, ne_eqb, eqb-false}
+use borrow.Author.Tests.{le-ltb, lt-leb, eq-eqb, ne_eqb}
 use lib.Dec.{eqb, ltb, leb}
-use lib.ListN.{length, get_or, take, length-append, length-map}
-use lib.Seq.{drop-cons}
+use lib.ListN.{length, length-append, length-map}
 use Rattle.description.specs.Description.{byte_at, types_in, flags_in, variadic_in, named_in, arguments_in, return_in, members_in, length_stated, kind_at, a_at, count_at, member_at, argument_at, model_in}
 use Rattle.form.specs.Search.{first_from}
 use Rattle.form.specs.Conditions.{too_short, wrong_mark, wrong_version, wrong_counts, wrong_length, wrong_record, broken_record, broken_basic, broken_array, broken_run, high_member}
-use Rattle.form.specs.Order.{form_refusal}
 use Rattle.form.proofs.Form.{or_none, accepted-exactly, accepted-counts}
 use Rattle.types.specs.Tree.{Ty, Tys, basic, array, struct, union, none, more, group}
 use Rattle.types.specs.Size.{size_ty}
 use Rattle.types.specs.Decode.{tys_from, ty_at}
-use Rattle.types.specs.Large.{large, too_large, types_refusal}
+use Rattle.types.specs.Large.{large, too_large}
 use Rattle.types.specs.Asks.{Sized}
 use Rattle.types.proofs.Records.{View, v0, v1, v2, view}
 use Rattle.types.proofs.Trees.{sized-ruled, at-basic, at-array, at-group}
@@ -28,14 +26,14 @@ use Rattle.layout.specs.Verdict.{verdict}
 use Rattle.layout.proofs.Verdict.{no_ten, accepted-uses, accepted-area}
 use Rattle.tidying.specs.Call.{Returned, void, returned, Call, returned_by, call_of}
 use Rattle.tidying.specs.Numbering.{index_of, table_of}
-use Rattle.tidying.specs.Ordered.{at, AllBelow, Below, Ordered}
+use Rattle.tidying.specs.Ordered.{at, AllBelow, Below}
 use Rattle.tidying.specs.Tidy.{members_of, many_of, separate, kind_of, second_of, count_of, records_of, numbers_of, runs_of, return_number, head_of, tidy_by, tidy_of}
 use Rattle.tidying.proofs.Tables.{at-index}
-use Rattle.tidying.proofs.Reached.{Numbered, ReturnNumbered, return_index, Table, table-right}
+use Rattle.tidying.proofs.Reached.{ReturnNumbered, return_index, table-right}
 use Rattle.tidying.proofs.Bytes.{start_of, length-records, length_runs, types-tidy, flags-tidy, named-tidy, arguments-tidy, return_tidy, members-tidy, kind-tidy, second-tidy, count-tidy, member-tidy, argument-tidy}
 use Rattle.tidying.proofs.Decoded.{type-said, numbered-at, call-said}
 use Rattle.tidying.proofs.Laid.{many-call, flags-call, named-call, argument-call, area-call, model-flags, model-call}
-use Rattle.tidying.proofs.Known.{Known, Every, table-known, table-no_more}
+use Rattle.tidying.proofs.Known.{Known, table-known, table-no_more}
 
 first-all : (f : ℕ → Bool) (k n : ℕ) → ((j : ℕ) → k ≤ j → j < k + n → f j ≡ false) → first_from f k n ≡ k + n
 unfolding first_from

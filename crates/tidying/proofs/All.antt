@@ -1,5 +1,5 @@
 -- All types of a call are numbered: what `reach_all` cites. Assumes nothing.
-use mathlib.Core.Path.{◌≡◌, refl, sym, ap, ◌∙◌}
+use mathlib.Core.Path.{◌≡◌, refl, sym, ◌∙◌}
 use mathlib.Core.List.{List, []}
 use Prim.Native.Nat.{ℕ, ◌≤◌, ◌<◌}
 use native.Mathlib.Omega.{arith}
@@ -13,7 +13,7 @@ use Rattle.types.proofs.Large.{accepted-form}
 use Rattle.uses.specs.Uses.{uses_refusal}
 use Rattle.uses.proofs.Uses.{accepted-types, accepted-return, right-below}
 use Rattle.layout.specs.Arguments.{is_void}
-use Rattle.tidying.specs.Call.{Returned, void, returned, trees_from, returned_by, call_of}
+use Rattle.tidying.specs.Call.{trees_from, returned_by, call_of}
 use Rattle.tidying.specs.Numbering.{reached, reached_by, reached_from, table_of}
 use Rattle.tidying.specs.Asks.{Has, tabled, Numbers, Numbered, AllNumbered}
 use Rattle.tidying.proofs.Reached.{ordered-none}

@@ -2,14 +2,14 @@
 use mathlib.Core.Path.{◌≡◌, refl, sym, ap, ◌∙◌}
 use mathlib.Core.Logic.{◌↔◌, ◌≢◌}
 use mathlib.Core.Bool.{Bool, true, false, cond}
-use mathlib.Core.List.{List, [], ◌∷◌, ◌++◌}
-use Prim.Native.Nat.{ℕ, zero, suc, ◌+◌, ◌*◌, ◌≤◌, ◌<◌}
+use mathlib.Core.List.{List, [], ◌∷◌}
+use Prim.Native.Nat.{ℕ, ◌+◌, ◌*◌, ◌≤◌, ◌<◌}
 use native.Mathlib.Omega.{arith}
 use borrow.Author.Tests.{eq-eqb, ne_eqb, eqb-true, eqb-false, lt-ltb, le-ltb, ltb-false}
 use lib.Dec.{eqb}
 use lib.ListN.{length, get_or, replicate, get_or-replicate}
 use Rattle.description.specs.Description.{arguments_in, return_in}
-use Rattle.form.specs.Order.{rule, first, NoneHolds, Answers, Positive}
+use Rattle.form.specs.Order.{rule, NoneHolds, Answers, Positive}
 use Rattle.form.specs.declared.Refusal.{Refusal}
 use Rattle.form.specs.Reading.{refusal_at, refusal_by, refusal_of}
 use Rattle.form.proofs.Order.{refuses-exactly, accepts-exactly, first-before, first-behind, first-both, positive-append}
@@ -20,18 +20,16 @@ use Rattle.types.proofs.Wrong.{no_type}
 use Rattle.layout.specs.Arguments.{is_void}
 use Rattle.layout.specs.Verdict.{check_order, verdict}
 use Rattle.layout.proofs.Verdict.{check-positive}
-use Rattle.tidying.specs.Call.{Returned, void, returned, returned_by, call_of}
+use Rattle.tidying.specs.Call.{void, returned, returned_by, call_of}
 use Rattle.tidying.specs.Numbering.{table_of}
 use Rattle.tidying.specs.Tidy.{separate, return_number, tidy_of}
-use Rattle.tidying.specs.Answers.{tidied, too_many, other_length, length_order, tidy_order, length_refusal, tidy_refusal, length_answer, tidy_after, count_answer, refusal_in}
+use Rattle.tidying.specs.Answers.{tidied, too_many, other_length, length_order, tidy_order, length_refusal, tidy_refusal, length_answer, tidy_after, count_answer}
 use Rattle.tidying.specs.Statements.{Tidiable}
-use Rattle.tidying.specs.Asks.{Has, AllNumbered, AskWrite, AskHead}
-use Rattle.tidying.specs.declared.LengthAnswer.{LengthAnswer}
+use Rattle.tidying.specs.Asks.{AllNumbered, AskWrite, AskHead}
 use Rattle.tidying.specs.declared.LengthAnswer.TheVariants.{Length, Refused}
-use Rattle.tidying.specs.declared.calls.Counting.{Counting}
 use Rattle.tidying.specs.declared.calls.Counting.TheVariants.{Counted, Refused as NoCount}
 use Rattle.tidying.proofs.All.{all-headed, return_low}
-use Rattle.tidying.proofs.Stores.{write_many, write_low, write_length, number_at, number_small}
+use Rattle.tidying.proofs.Stores.{write_many, write_low, write_length, number_at}
 
 -- ---- which number, exactly
 

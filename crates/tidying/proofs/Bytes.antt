@@ -3,9 +3,9 @@ use mathlib.Core.Path.{◌≡◌, refl, sym, ap, ◌∙◌}
 use mathlib.Core.List.{List, [], ◌∷◌, ◌++◌, append_assoc, map}
 use Prim.Native.Nat.{ℕ, zero, suc, ◌+◌, ◌*◌, ◌/◌, ◌%◌, ◌≤◌, ◌<◌}
 use native.Mathlib.Omega.{arith}
-use lib.ListN.{length, get_or, take, drop, length-append, length-map, get_or-append, get_or-map}
+use lib.ListN.{length, take, drop, length-append, get_or-append}
 use lib.Seq.{get_or-append-add, get_or-drop, drop-append-add, drop-append-le, drop-cons}
-use Rattle.description.specs.Description.{byte_at, word_at, types_in, flags_in, named_in, arguments_in, return_in, members_in, kind_at, a_at, count_at, member_at, argument_at}
+use Rattle.description.specs.Description.{byte_at, types_in, flags_in, named_in, arguments_in, return_in, members_in, kind_at, a_at, count_at, member_at, argument_at}
 use Rattle.types.specs.Tree.{Ty, Tys, basic, none, more}
 use Rattle.tidying.specs.Call.{Call}
 use Rattle.tidying.specs.Numbering.{index_of}

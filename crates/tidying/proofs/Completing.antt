@@ -1,39 +1,38 @@
 -- What the functions that number types cite, over plain values. Assumes nothing.
-use mathlib.Core.Path.{◌≡◌, refl, sym, ap, ap₂, ◌∙◌}
+use mathlib.Core.Path.{◌≡◌, refl, sym, ap, ◌∙◌}
 use mathlib.Core.Bool.{Bool, true, false, cond, ◌&&◌, true≢false}
-use mathlib.Core.List.{List, [], ◌∷◌, ◌++◌}
+use mathlib.Core.List.{List, [], ◌∷◌}
 use mathlib.Core.Logic.{◌⊎◌, inl, inr}
 use Prim.Native.Nat.{ℕ, zero, suc, ◌+◌, ◌-◌, ◌≤◌, ◌<◌}
 use native.Mathlib.Nat.{eq-or-lt_of_le}
-use native.Mathlib.Numerals.{add-one, sub-one}
+use native.Mathlib.Numerals.{add-one}
 use native.Mathlib.Omega.{arith}
 use borrow.Author.Tests.{eq-eqb, ne_eqb, eqb-true, eqb-false, leb-true}
-use lib.Dec.{eqb, leb, ltb}
+use lib.Dec.{eqb, leb}
 use lib.ListN.{length, get_or, set, length-append, length-set}
 use lib.Seq.{get_or-set_same, get_or-set_other}
-use Rattle.description.specs.Description.{types_in, members_in, arguments_in, argument_at, kind_at, a_at, count_at, member_at, Whole, model_in}
+use Rattle.description.specs.Description.{types_in, argument_at, kind_at, a_at, count_at, member_at, Whole, model_in}
 use Rattle.form.specs.Search.{first_from}
 use Rattle.form.proofs.Search.{first_holds, first-least}
 use Rattle.form.specs.Conditions.{broken_record, broken_run}
 use Rattle.form.proofs.Form.{accepted-counts, accepted-whole}
-use Rattle.types.specs.Tree.{Ty, Tys, basic, array, struct, union, none, more, group}
+use Rattle.types.specs.Tree.{Ty, Tys, group}
 use Rattle.types.specs.Decode.{tys_from, ty_at}
 use Rattle.types.specs.Asks.{Sized}
-use Rattle.types.proofs.Records.{View, v0, v1, v2, view, Ruled}
+use Rattle.types.proofs.Records.{View, v0, v1, v2, view}
 use Rattle.types.proofs.Trees.{sized-ruled, at-basic, at-array, at-group, tys_step}
 use Rattle.types.proofs.Large.{accepted-form, accepted-sized}
-use Rattle.uses.specs.Uses.{uses_refusal}
 use Rattle.uses.proofs.Uses.{accepted-types}
 use Rattle.tidying.specs.Same.{same_ty, same_tys}
 use Rattle.tidying.specs.Call.{trees_from}
 use Rattle.tidying.specs.Numbering.{index_of, completed, reached, reached_from}
 use Rattle.tidying.specs.Ordered.{at, Ordered}
-use Rattle.tidying.specs.Asks.{Has, tabled, Parts, Apart, Numbers, AskRuns, AskSame, AskComplete, Onward, unnumbered, AskMembers, NextPart, AskNew, Lowest, blanks, Numbered}
+use Rattle.tidying.specs.Asks.{Has, tabled, Parts, Numbers, AskRuns, AskSame, AskComplete, Onward, unnumbered, AskMembers, NextPart, AskNew, Lowest, blanks, Numbered}
 use Rattle.tidying.specs.Tidy.{kind_of, count_of, many_of}
 use Rattle.tidying.proofs.Accepted.{many-from}
 use Rattle.tidying.proofs.Same.{same_true, same_self}
-use Rattle.tidying.proofs.Tables.{at-index, index_bound, index_snoc, completed-old, completed-new, completed-grows, completed-there, Grows}
-use Rattle.tidying.proofs.Reached.{completed-ordered, ordered-none}
+use Rattle.tidying.proofs.Tables.{index_bound, index_snoc, completed-old, completed-new, completed-grows, Grows}
+use Rattle.tidying.proofs.Reached.{completed-ordered}
 use Rattle.tidying.proofs.Known.{table-few, every-completed}
 use Rattle.tidying.proofs.Walk.{reached-there, reached-first}
 use Rattle.tidying.proofs.Numbers.{tabled-length, tabled-at, tabled-same, index_found, index_none, numbers-every, numbers-few, numbers_apart, numbers-low, parts_below, onward, numbered_more, blanks-less}

@@ -1,14 +1,13 @@
 -- The tidy bytes of a call say that call again. Assumes nothing.
-use mathlib.Core.Path.{◌≡◌, refl, sym, ap, ap₂, ◌∙◌}
-use mathlib.Core.Bool.{Bool, true, false, cond}
-use mathlib.Core.List.{List, [], ◌∷◌, ◌++◌}
+use mathlib.Core.Path.{◌≡◌, refl, ap, ap₂, ◌∙◌}
+use mathlib.Core.List.{List, [], ◌∷◌}
 use Prim.Native.Nat.{ℕ, zero, suc, ◌+◌, ◌≤◌, ◌<◌}
 use native.Mathlib.Omega.{arith}
-use borrow.Author.Tests.{eq-eqb, ne_eqb}
+use borrow.Author.Tests.{ne_eqb}
 use lib.Dec.{eqb}
-use lib.ListN.{length, get_or}
-use Rattle.description.specs.Description.{byte_at, return_in, arguments_in, kind_at, a_at, count_at, member_at, argument_at}
-use Rattle.types.specs.Tree.{Ty, Tys, basic, array, struct, union, none, more, group}
+use lib.ListN.{length}
+use Rattle.description.specs.Description.{byte_at, return_in, kind_at, a_at, count_at, member_at, argument_at}
+use Rattle.types.specs.Tree.{Ty, Tys, basic, array, struct, union, none, more}
 use Rattle.types.specs.Decode.{tys_from, written_by, ty_by, ty_at}
 use Rattle.layout.specs.Arguments.{is_void}
 use Rattle.tidying.specs.Call.{Returned, void, returned, Call, trees_from, returned_by, call_of}
@@ -17,7 +16,7 @@ use Rattle.tidying.specs.Ordered.{at, AllBelow, Below, Ordered}
 use Rattle.tidying.specs.Tidy.{members_of, many_of, kind_of, second_of, count_of, numbers_of, return_number, tidy_by, tidy_of}
 use Rattle.tidying.proofs.Tables.{at-index}
 use Rattle.tidying.proofs.Reached.{Numbered, ReturnNumbered, return_index, Table, table-right}
-use Rattle.tidying.proofs.Bytes.{start_of, types-tidy, flags-tidy, named-tidy, arguments-tidy, return_tidy, kind-tidy, second-tidy, count-tidy, member-tidy, argument-tidy}
+use Rattle.tidying.proofs.Bytes.{start_of, flags-tidy, named-tidy, arguments-tidy, return_tidy, kind-tidy, second-tidy, count-tidy, member-tidy, argument-tidy}
 
 -- a run that holds the numbers of members says those members, where f says what is below k
 members-said : (table : List Ty) (f : ℕ → Ty) (d : List ℕ) (k : ℕ) → k ≤ length table → ((j : ℕ) → j < k → f j ≡ at table j) → (ts : Tys) (i : ℕ)

@@ -7,20 +7,20 @@ use Prim.Native.Nat.{ℕ, zero, suc, ◌+◌, ◌≤◌, ◌<◌}
 use native.Mathlib.Nat.{eq-or-lt_of_le}
 use native.Mathlib.Omega.{arith}
 use lib.Dec.{eqb}
-use lib.ListN.{length, get_or, length-append, get_or-append}
+use lib.ListN.{length, length-append, get_or-append}
 use lib.Seq.{get_or-append_seam}
 use Rattle.description.specs.Description.{types_in, return_in, arguments_in, argument_at, kind_at, a_at, count_at, member_at, model_in}
 use Rattle.types.specs.Tree.{Ty, Tys, basic, array, struct, union, none, more, group}
 use Rattle.types.specs.Decode.{tys_from, ty_at}
 use Rattle.types.specs.Large.{types_refusal}
 use Rattle.types.specs.Asks.{Sized}
-use Rattle.types.proofs.Records.{View, v0, v1, v2, view, Ruled}
+use Rattle.types.proofs.Records.{View, v0, v1, v2, view}
 use Rattle.types.proofs.Trees.{sized-ruled, at-basic, at-array, at-group}
 use Rattle.types.proofs.Large.{accepted-sized}
 use Rattle.uses.specs.Uses.{uses_refusal}
 use Rattle.uses.proofs.Uses.{accepted-types, accepted-typed, accepted-return, right-below}
 use Rattle.layout.specs.Arguments.{is_void}
-use Rattle.tidying.specs.Call.{Returned, void, returned, Call, trees_from, returned_by, call_of}
+use Rattle.tidying.specs.Call.{void, returned, trees_from, returned_by, call_of}
 use Rattle.tidying.specs.Numbering.{index_of, completed, reached, reached_all, reached_by, reached_from, table_of}
 use Rattle.tidying.specs.Ordered.{at, Ordered}
 use Rattle.tidying.proofs.Tables.{at-index, index_at, completed-old, completed-new, There, there, absent, look}

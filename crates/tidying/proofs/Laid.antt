@@ -1,25 +1,24 @@
 -- "the layout is the same apart from type numbers": a description's layout is that of the call that it says. Assumes nothing.
-use mathlib.Core.Path.{◌≡◌, refl, sym, ap, ap₂, ◌∙◌}
+use mathlib.Core.Path.{◌≡◌, refl, sym, ap, ◌∙◌}
 use mathlib.Core.Bool.{Bool, true, false, cond}
-use mathlib.Core.List.{List, [], ◌∷◌, ◌++◌}
+use mathlib.Core.List.{List, ◌∷◌}
 use Prim.Native.Nat.{ℕ, zero, suc, ◌+◌, ◌-◌, ◌/◌, ◌%◌, ◌≤◌, ◌<◌}
 use native.Mathlib.Omega.{arith}
 use lib.Dec.{eqb}
 use lib.ListN.{length, get_or, take}
-use lib.Seq.{take_at, take-length}
+use lib.Seq.{take_at}
 use Rattle.description.specs.declared.Model.TheVariants.{Lp64, Ilp32}
-use Rattle.description.specs.Description.{flags_in, model_in, arguments_in, named_in, return_in, argument_at}
-use Rattle.types.specs.Tree.{Ty, basic}
+use Rattle.description.specs.Description.{flags_in, model_in, arguments_in, named_in, argument_at}
+use Rattle.types.specs.Tree.{basic}
 use Rattle.types.specs.Decode.{ty_at}
-use Rattle.classify.specs.Classify.{classes_of}
 use Rattle.places.specs.Shapes.{Shape}
-use Rattle.places.specs.Places.{eights, fresh, after, area}
+use Rattle.places.specs.Places.{eights, fresh, area}
 use Rattle.places.specs.Images.{total}
 use Rattle.layout.specs.Arguments.{is_named, shape_at, shapes_from, shapes, is_void, return_place, returned_size, hidden, used_at, value_start, area_of}
 use Rattle.layout.specs.Placements.{laying_at, placement_at}
 use Rattle.layout.proofs.Arguments.{length-shapes, shapes-split}
 use Rattle.layout.specs.Layout.{values_of, layout_of}
-use Rattle.tidying.specs.Call.{Returned, void, returned, Call, trees_from, returned_by, call_of}
+use Rattle.tidying.specs.Call.{Call, trees_from, returned_by, call_of}
 use Rattle.tidying.specs.Laid.{hidden_in, place_in, size_in, shapes_by, shapes_in, used_in, layout_in, placement_in}
 
 pub length-trees : (d : List ℕ) (i n : ℕ) → length (trees_from d i n) ≡ n

@@ -2,13 +2,13 @@
 use mathlib.Core.Path.{◌≡◌, refl, sym, ap, ◌∙◌}
 use mathlib.Core.Bool.{Bool, true, false}
 use mathlib.Core.List.{List}
-use Prim.Native.Nat.{ℕ, zero, suc, ◌+◌, ◌-◌, ◌≤◌, ◌<◌}
+use Prim.Native.Nat.{ℕ, ◌+◌, ◌-◌, ◌≤◌, ◌<◌}
 use native.Mathlib.Omega.{arith}
 use borrow.Author.Tests.{eqb-true, eqb-false}
 use lib.Dec.{eqb}
 use lib.ListN.{length, get_or, set}
 use lib.Seq.{get_or-set_same, get_or-set_other}
-use Rattle.description.specs.Description.{types_in, members_in, kind_at, a_at, count_at, member_at, Whole, model_in}
+use Rattle.description.specs.Description.{types_in, kind_at, a_at, count_at, member_at, Whole, model_in}
 use Rattle.form.proofs.Form.{accepted-counts, accepted-whole}
 use Rattle.types.specs.Tree.{Ty, Tys, basic, array, struct, union, none, more, group}
 use Rattle.types.specs.Decode.{tys_from, ty_at}

@@ -1,34 +1,31 @@
 -- The numbers that types have, and how one is added. Assumes nothing.
 use mathlib.Core.Path.{◌≡◌, refl, sym, ap, ap₂, ◌∙◌}
-use mathlib.Core.Bool.{Bool, true, false, cond, true≢false}
+use mathlib.Core.Bool.{Bool, true, false}
 use mathlib.Core.List.{List, [], ◌∷◌, ◌++◌}
 use mathlib.Core.Logic.{◌⊎◌, inl, inr}
 use Prim.Native.Nat.{ℕ, zero, suc, ◌+◌, ◌-◌, ◌≤◌, ◌<◌}
 use native.Mathlib.Nat.{eq-or-lt_of_le}
-use native.Mathlib.Numerals.{add-one}
 use native.Mathlib.Omega.{arith}
-use borrow.Author.Tests.{eq-eqb, ne_eqb, eqb-true, eqb-false}
+use borrow.Author.Tests.{ne_eqb, eqb-true, eqb-false}
 use lib.Dec.{eqb}
 use lib.ListN.{length, get_or, set, length-append, length-set, get_or-append}
 use lib.Seq.{get_or-append_seam, get_or-set_same, get_or-set_other}
-use Rattle.description.specs.Description.{types_in, members_in, kind_at, a_at, count_at, member_at, model_in}
-use Rattle.form.proofs.Form.{accepted-counts, accepted-whole}
-use Rattle.types.specs.Tree.{Ty, Tys, basic, array, struct, union, none, more, group}
+use Rattle.description.specs.Description.{types_in, kind_at, a_at, count_at, member_at, model_in}
+use Rattle.form.proofs.Form.{accepted-counts}
+use Rattle.types.specs.Tree.{Ty, Tys, basic, more, group}
 use Rattle.types.specs.Decode.{tys_from, ty_at}
 use Rattle.types.specs.Asks.{Sized}
-use Rattle.types.proofs.Records.{View, v0, v1, v2, view, Ruled}
+use Rattle.types.proofs.Records.{View, v0, v1, v2, view}
 use Rattle.types.proofs.Trees.{sized-ruled, at-basic, at-array, at-group}
 use Rattle.types.proofs.Large.{accepted-form, accepted-sized}
-use Rattle.uses.specs.Uses.{uses_refusal}
 use Rattle.uses.proofs.Uses.{accepted-types}
 use Rattle.tidying.specs.Same.{same_ty}
 use Rattle.tidying.specs.Numbering.{index_of, completed, reached}
 use Rattle.tidying.specs.Ordered.{at, AllBelow, Below, Ordered}
-use Rattle.tidying.specs.Asks.{Has, tabled, Parts, Apart, Numbers, AskComplete, Onward, AskNew, blanks, Numbered}
-use Rattle.tidying.proofs.Same.{same_true, same_self}
-use Rattle.tidying.proofs.Tables.{at-index, index_bound, index_append, index_snoc, completed-old, completed-new, completed-grows, completed-there, There, there, absent, look, Grows}
-use Rattle.tidying.proofs.Reached.{completed-ordered, ordered-none}
-use Rattle.tidying.proofs.Known.{Known, Every, table-few}
+use Rattle.tidying.specs.Asks.{Has, tabled, Parts, Apart, Numbers, AskComplete, Onward, blanks, Numbered}
+use Rattle.tidying.proofs.Tables.{at-index, completed-grows, completed-there, Grows}
+use Rattle.tidying.proofs.Reached.{completed-ordered}
+use Rattle.tidying.proofs.Known.{Every, table-few}
 use Rattle.tidying.proofs.Walk.{AtPlace, element-on, group-on}
 
 pub tabled-length : (d old : List ℕ) (n : ℕ) → length (tabled d old n) ≡ n

@@ -1,17 +1,17 @@
 -- What is reached: the table grows, stays in order, and has the type. Assumes nothing.
-use mathlib.Core.Path.{◌≡◌, refl, sym, ap, ◌∙◌}
+use mathlib.Core.Path.{◌≡◌, ◌∙◌}
 use mathlib.Core.List.{List, [], ◌∷◌, ◌++◌}
 use mathlib.Core.Logic.{◌⊎◌, inl, inr}
-use Prim.Native.Nat.{ℕ, zero, suc, ◌+◌, ◌≤◌, ◌<◌}
-use native.Mathlib.Nat.{eq-or-lt_of_le, le_of_suc-le-suc}
+use Prim.Native.Nat.{ℕ, ◌≤◌, ◌<◌}
+use native.Mathlib.Nat.{eq-or-lt_of_le}
 use native.Mathlib.Omega.{arith}
-use lib.ListN.{length, get_or, length-append, get_or-append}
+use lib.ListN.{length, length-append, get_or-append}
 use lib.Seq.{get_or-append_seam}
 use Rattle.types.specs.Tree.{Ty, Tys, basic, array, struct, union, none, more}
 use Rattle.tidying.specs.Call.{Returned, void, returned, Call}
 use Rattle.tidying.specs.Numbering.{index_of, completed, reached, reached_all, reached_by, reached_from, table_of}
 use Rattle.tidying.specs.Ordered.{at, AllBelow, Below, Ordered}
-use Rattle.tidying.proofs.Tables.{index_at, index_append, index_snoc, completed-old, completed-new, There, there, absent, look, Grows, grows_self, grows_on, grows_snoc, completed-grows, completed-there}
+use Rattle.tidying.proofs.Tables.{index_append, index_snoc, completed-old, completed-new, There, there, absent, look, Grows, grows_self, grows_on, grows_snoc, completed-grows, completed-there}
 
 -- a number below k stays below it in a longer table
 module _ (a b : List Ty) (g : Grows a b) where

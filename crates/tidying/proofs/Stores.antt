@@ -1,16 +1,16 @@
 -- Writing the tidy bytes one after the other. Assumes nothing.
-use mathlib.Core.Path.{◌≡◌, refl, sym, ap, ap₂, subst, ◌∙◌}
-use mathlib.Core.Bool.{Bool, true, false, cond}
-use mathlib.Core.List.{List, [], ◌∷◌, ◌++◌}
+use mathlib.Core.Path.{◌≡◌, refl, sym, ap, ◌∙◌}
+use mathlib.Core.Bool.{Bool, true, false}
+use mathlib.Core.List.{List, [], ◌∷◌}
 use Prim.Native.Nat.{ℕ, zero, suc, ◌+◌, ◌*◌, ◌/◌, ◌%◌, ◌≤◌, ◌<◌}
 use native.Mathlib.Numerals.{add-one}
 use native.Mathlib.Omega.{arith}
-use borrow.Author.Tests.{eq-eqb, ne_eqb, eqb-true, not-false, lt-ltb, le-ltb}
+use borrow.Author.Tests.{eq-eqb, eqb-true, not-false, lt-ltb, le-ltb}
 use lib.Dec.{eqb, leb}
-use lib.ListN.{length, get_or, set, take, length-set}
+use lib.ListN.{length, get_or, set, length-set}
 use lib.Seq.{take-suc, take-suc-set, take_all}
-use Rattle.description.specs.Description.{byte_at, word_at, types_in, flags_in, named_in, arguments_in, return_in, members_in, kind_at, a_at, count_at, member_at, argument_at, Whole, model_in}
-use Rattle.types.specs.Tree.{Ty, Tys, basic, array, struct, union, none, more, group}
+use Rattle.description.specs.Description.{byte_at, types_in, arguments_in, kind_at, a_at, count_at, member_at, argument_at, Whole, model_in}
+use Rattle.types.specs.Tree.{Ty, Tys, basic, array, group}
 use Rattle.types.specs.Decode.{tys_from, ty_at}
 use Rattle.types.specs.Asks.{Sized}
 use Rattle.types.proofs.Records.{View, v0, v1, v2, view}
@@ -19,13 +19,12 @@ use Rattle.types.proofs.Large.{accepted-form, accepted-sized}
 use Rattle.form.specs.Conditions.{broken_record, broken_basic}
 use Rattle.form.proofs.Form.{or_none, accepted-counts, accepted-whole}
 use Rattle.uses.proofs.Uses.{accepted-types, accepted-typed}
-use Rattle.layout.specs.Arguments.{is_void}
-use Rattle.tidying.specs.Call.{Call, returned_by, call_of}
+use Rattle.tidying.specs.Call.{call_of}
 use Rattle.tidying.specs.Numbering.{index_of, table_of}
 use Rattle.tidying.specs.Ordered.{at}
-use Rattle.tidying.specs.Tidy.{members_of, many_of, separate, kind_of, second_of, count_of, records_of, numbers_of, return_number, tidy_by, tidy_of}
-use Rattle.tidying.specs.Asks.{Has, tabled, Numbers, AllNumbered, Written, run_length, AskSum, AskHead, AskRun, AskArguments, AskWrite, second_at, AskSecond, AskRecord}
-use Rattle.tidying.proofs.Bytes.{start_of, types-tidy, flags-tidy, named-tidy, arguments-tidy, return_tidy, members-tidy, kind-tidy, second-tidy, count-tidy, low-tidy, high-tidy, member-tidy, argument-tidy}
+use Rattle.tidying.specs.Tidy.{members_of, many_of, separate, kind_of, second_of, count_of, numbers_of, tidy_by, tidy_of}
+use Rattle.tidying.specs.Asks.{Has, Numbers, AllNumbered, Written, run_length, AskSum, AskHead, AskRun, AskArguments, AskWrite, second_at, AskSecond, AskRecord}
+use Rattle.tidying.proofs.Bytes.{start_of, types-tidy, members-tidy, kind-tidy, second-tidy, low-tidy, high-tidy, member-tidy, argument-tidy}
 use Rattle.tidying.proofs.Laid.{many-call, flags-call, named-call, argument-call}
 use Rattle.tidying.proofs.Accepted.{length-tidy, many-from, start-next}
 use Rattle.tidying.proofs.Numbers.{tabled-length, tabled-at, numbers-few, numbers-low}

@@ -1,14 +1,12 @@
 -- Tables of types: what `index_of` finds, and what is added. Assumes nothing.
-use mathlib.Core.Path.{◌≡◌, refl, sym, ap, ◌∙◌}
+use mathlib.Core.Path.{◌≡◌, refl, ap, ◌∙◌}
 use mathlib.Core.Bool.{Bool, true, false, cond}
 use mathlib.Core.List.{List, [], ◌∷◌, ◌++◌}
-use mathlib.Core.Logic.{◌⊎◌, inl, inr}
-use Prim.Native.Nat.{ℕ, zero, suc, ◌+◌, ◌≤◌, ◌<◌}
+use Prim.Native.Nat.{ℕ, zero, suc, ◌≤◌, ◌<◌}
 use native.Mathlib.Omega.{arith}
 use borrow.Author.Tests.{lt-ltb, le-ltb}
-use lib.ListN.{length, get_or, length-append, get_or-append}
-use lib.Seq.{get_or-append_seam}
-use Rattle.types.specs.Tree.{Ty, Tys, basic, array, struct, union, none, more}
+use lib.ListN.{length, length-append, get_or-append}
+use Rattle.types.specs.Tree.{Ty, basic}
 use Rattle.tidying.specs.Same.{same_ty}
 use Rattle.tidying.specs.Numbering.{index_of, completed}
 use Rattle.tidying.specs.Ordered.{at}

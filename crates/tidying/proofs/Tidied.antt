@@ -1,27 +1,23 @@
 -- What request 2026-03 asks of the tidy form. Assumes nothing.
 use mathlib.Core.Path.{◌≡◌, refl, sym, ap, ap₂, ◌∙◌}
 use mathlib.Core.Logic.{◌↔◌}
-use mathlib.Core.List.{List, [], ◌∷◌}
-use Prim.Native.Nat.{ℕ, zero, suc, ◌+◌, ◌≤◌, ◌<◌}
+use mathlib.Core.List.{List}
+use Prim.Native.Nat.{ℕ, ◌≤◌, ◌<◌}
 use native.Mathlib.Omega.{arith}
 use lib.ListN.{length, get_or}
 use lib.Seq.{ext_get_or}
 use Rattle.description.specs.declared.Model.{Model}
 use Rattle.description.specs.Description.{named_in, arguments_in, argument_at, model_in}
 use Rattle.types.specs.Tree.{Ty, basic}
-use Rattle.types.specs.Decode.{ty_at}
 use Rattle.uses.proofs.Uses.{accepted-typed}
-use Rattle.layout.specs.Verdict.{verdict}
-use Rattle.layout.specs.Layout.{layout_of}
 use Rattle.layout.proofs.Verdict.{accepted-uses}
 use Rattle.layout.specs.declared.placements.Placement.{Placement}
 use Rattle.layout.specs.Placements.{placement_at}
 use Rattle.tidying.specs.Call.{Returned, Call, returned_by, call_of}
-use Rattle.tidying.specs.Numbering.{table_of}
-use Rattle.tidying.specs.Tidy.{separate, tidy_of}
+use Rattle.tidying.specs.Tidy.{tidy_of}
 use Rattle.tidying.specs.Laid.{layout_in, placement_in}
 use Rattle.tidying.specs.Answers.{tidied}
-use Rattle.tidying.specs.Statements.{Tidiable, TidyBytes, SameTidyBytes, SameCall, TidyForm}
+use Rattle.tidying.specs.Statements.{Tidiable, SameTidyBytes, SameCall, TidyForm}
 use Rattle.tidying.proofs.Laid.{many-call, flags-call, named-call, argument-call, layout-call, placement_call, model-call}
 use Rattle.tidying.proofs.Accepted.{tidy-call, tidy-accepted}
 

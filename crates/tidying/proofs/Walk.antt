@@ -1,14 +1,14 @@
 -- Types that are there already are not reached anew. Assumes nothing.
-use mathlib.Core.Path.{◌≡◌, refl, sym, ap, ap₂, ◌∙◌}
-use mathlib.Core.Bool.{Bool, true, false, cond}
-use mathlib.Core.List.{List, [], ◌∷◌, ◌++◌}
-use Prim.Native.Nat.{ℕ, zero, suc, ◌+◌, ◌≤◌, ◌<◌}
+use mathlib.Core.Path.{◌≡◌, refl, sym, ap, ◌∙◌}
+use mathlib.Core.Bool.{Bool, true, false}
+use mathlib.Core.List.{List}
+use Prim.Native.Nat.{ℕ, zero, suc, ◌≤◌, ◌<◌}
 use native.Mathlib.Omega.{arith}
 use lib.ListN.{length}
 use Rattle.types.specs.Tree.{Ty, Tys, basic, array, struct, union, none, more, group}
 use Rattle.tidying.specs.Numbering.{index_of, completed, reached, reached_all}
-use Rattle.tidying.specs.Ordered.{at, AllBelow, Below, Ordered}
-use Rattle.tidying.proofs.Tables.{index_bound, at-index, completed-old, completed-there, Grows, completed-grows}
+use Rattle.tidying.specs.Ordered.{AllBelow, Below, Ordered}
+use Rattle.tidying.proofs.Tables.{at-index, completed-old, completed-there, Grows}
 use Rattle.tidying.proofs.Reached.{all-grows, below-grows, completed-ordered}
 
 pub grows_more : (a : List Ty) (k : ℕ) (ts : Tys) → k ≤ length a → AllBelow a k ts → AllBelow a (length a) ts

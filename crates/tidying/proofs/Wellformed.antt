@@ -7,14 +7,13 @@ use native.Mathlib.Omega.{arith}
 use borrow.Author.Tests.{eqb-true}
 use lib.Dec.{ltb, eqb}
 use lib.ListN.{length}
-use Rattle.description.specs.Description.{types_in, members_in, kind_at, a_at, count_at}
+use Rattle.description.specs.Description.{types_in, kind_at, a_at}
 use Rattle.form.proofs.Form.{accepted-counts}
 use Rattle.types.specs.Tree.{Ty, basic, array, struct, union}
 use Rattle.types.specs.Decode.{ty_at}
 use Rattle.types.specs.Wrong.{refusal_for}
 use Rattle.types.proofs.Large.{accepted-form}
 use Rattle.units.specs.declared.Bytes.{Bytes}
-use Rattle.uses.specs.Uses.{uses_refusal}
 use Rattle.uses.proofs.Uses.{accepted-types}
 use Rattle.layout.proofs.Verdict.{accepted-uses}
 use Rattle.tidying.specs.Call.{Call, call_of}
@@ -23,7 +22,6 @@ use Rattle.tidying.specs.Ordered.{at, Ordered}
 use Rattle.tidying.specs.Tidy.{members_of, many_of, separate, kind_of, second_of, count_of, tidy_by, tidy_of}
 use Rattle.tidying.specs.Asks.{run_length}
 use Rattle.tidying.specs.Answers.{tidied, length_refusal, length_answer}
-use Rattle.tidying.specs.declared.LengthAnswer.{LengthAnswer}
 use Rattle.tidying.specs.declared.LengthAnswer.TheVariants.{Length, Refused}
 use Rattle.tidying.specs.Statements.{runs_before, TidyTable, Tidiable}
 use Rattle.tidying.proofs.Reached.{table-right}

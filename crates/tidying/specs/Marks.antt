@@ -1,7 +1,7 @@
 -- A mark for each type: equal types have equal marks, so that types with different ones need not be compared part by part. How it is mixed matters for speed
 -- alone. Assumes nothing: these are definitions.
 use Rattle.std.specs.Prelude.{◌≡◌, List, ℕ, ◌+◌, ◌*◌, ◌%◌, ◌≤◌, ◌<◌, get_or}
-use Rattle.description.specs.Description.{types_in, members_in, member_at, Whole}
+use Rattle.description.specs.Description.{members_in, member_at, Whole}
 use Rattle.types.specs.Tree.{Ty, Tys, basic, array, struct, union, none, more}
 use Rattle.types.specs.Decode.{ty_at}
 

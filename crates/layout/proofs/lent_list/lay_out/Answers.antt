@@ -1,13 +1,10 @@
 -- The answers of `lay_out`: a turn fills one row more, and there are turns only where the list is filled.
 use Rattle.std.proofs.Common.{◌≡◌, ◌<◌, ℕ, List, length, arith, sym, ap, subst, ◌∙◌}
-
-use lib.ListN.{set}
 use Rattle.layout.specs.Lists.{list_count, list_laying, opened_of, filled}
 use Rattle.layout.specs.Asks.{AskRecord}
 use Rattle.layout.specs.Placements.{step_at, placement_at}
 use Rattle.layout.specs.declared.lent_list.Opened.{Opened}
 use Rattle.layout.specs.declared.placements.Laying.{Laying}
-use Rattle.layout.specs.declared.placements.Placement.{Placement}
 use Rattle.layout.proofs.Lists.{opened-answer, opened-count, opened-before, turn_accepted, turn_asks, turn_record, turn_after}
 use Rattle.types.proofs.Table.{filled_none, filled_next}
 use Rattle.layout.proofs.lent_list.lay_out.Goals as goal
@@ -39,8 +36,7 @@ loop-i-preserved c =
     let room = length c.args.list.now in
     let i = c.loop-i.i in
     let less = counted d room c.open_list-opened.result i c.open_list-opened.ensures.0 c.loop-i-test.true in
-    let made : c.place_by-step.result ≡ step_at d (list_laying d room i) i = c.place_by-step.ensures ∙ ap (λ (b : Laying). step_at d b i) c.loop-i.invariant.2 in
-    (
+    let made : c.place_by-step.result ≡ step_at d (list_laying d room i) i = c.place_by-step.ensures ∙ ap (λ (b : Laying). step_at d b i) c.loop-i.invariant.2 in (
       omega arith,
       rw (made, turn_record d room i less, c.loop-i.invariant.1) (filled_next (placement_at d) i c.args.list.now),
       rw made (turn_after d room i less),
@@ -51,8 +47,7 @@ returns c =
     let d = c.args.d.now in
     let room = length c.args.list.now in
     let opened = c.open_list-opened.ensures.0 in
-    let last : c.loop-i.i ≡ list_count d room = omega (arith, count_is d room c.open_list-opened.result opened) in
-    (
+    let last : c.loop-i.i ≡ list_count d room = omega (arith, count_is d room c.open_list-opened.result opened) in (
       ap (λ (o : Opened). o.answer) opened ∙ opened-answer d room,
       c.loop-i.invariant.1 ∙ ap (λ (k : ℕ). filled (placement_at d) k c.args.list.now) last,
     )

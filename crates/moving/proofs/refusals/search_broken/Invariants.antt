@@ -4,7 +4,6 @@ use mathlib.Core.Path.{◌≡◌}
 use Prim.Native.Nat.{◌-◌}
 use Rattle.moving.proofs.Searching.{Searching}
 use Rattle.description.specs.Description.{arguments_in}
-use Rattle.places.specs.Places.{start}
 use Rattle.moving.proofs.refusals.search_broken.Given as goal
 
 abbrev pub invariant-loop-i : goal.invariant-loop-i

@@ -21,7 +21,7 @@ returns c =
     let n = c.args.named in
     let e = get_or c.args.table.now c.args.k 0 in
     c.use_stack.ensures ∙ elim c.if-at_most.branch [
-      then-at_most+then-at_most-2+else-not-is_unnamed_wide w ↦ used-unnamed u n e (sym w.is_unnamed_wide.ensures ∙ w.if-not-is_unnamed_wide.false)
+      | then-at_most+then-at_most-2+else-not-is_unnamed_wide w ↦ used-unnamed u n e (sym w.is_unnamed_wide.ensures ∙ w.if-not-is_unnamed_wide.false)
       | then-at_most+else-at_most-2 w ↦ used-vector u n e c.requires.3 w.with_more-vectors.result.0 (w.with_more-vectors.ensures ∙ ap (λ (v : ℕ). u.vector.0 + v) c.asks_in-asks.ensures.1) (leb-false w.with_more-vectors.result.0 8 (sym w.at_most-then-at_most.ensures ∙ w.if-at_most-2.false))
       | else-at_most w ↦ used-general u n e c.requires.3 c.with_more-generals.result.0 (c.with_more-generals.ensures ∙ ap (λ (g : ℕ). u.general.0 + g) c.asks_in-asks.ensures.0) (leb-false c.with_more-generals.result.0 6 (sym c.at_most.ensures ∙ w.if-at_most.false))
     ]

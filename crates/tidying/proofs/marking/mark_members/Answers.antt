@@ -1,6 +1,5 @@
 use mathlib.Core.Path.{refl, sym, ◌∙◌}
 use native.Mathlib.Omega.{arith}
-use Rattle.tidying.specs.Ordered.{at}
 use Rattle.tidying.proofs.Marks.{run_none, run-low, run-mark, run_step, run-rest}
 use Rattle.tidying.proofs.marking.mark_members.Goals as goal
 

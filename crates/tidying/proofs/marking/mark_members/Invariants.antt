@@ -3,10 +3,7 @@
 use mathlib.Core.Path.{◌≡◌}
 use Prim.Native.Nat.{◌<◌}
 use Rattle.tidying.specs.Marks.{mark_tys, AskMarks}
-use Rattle.tidying.specs.Ordered.{at}
-use Rattle.form.specs.Order.{first}
 use Rattle.types.specs.Decode.{tys_from, ty_at}
-use Rattle.places.specs.Places.{start}
 use Rattle.tidying.proofs.marking.mark_members.Given as goal
 
 abbrev pub invariant-loop-left : goal.invariant-loop-left

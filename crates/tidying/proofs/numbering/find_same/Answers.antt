@@ -1,5 +1,4 @@
 use mathlib.Core.Path.{sym, ◌∙◌}
-use mathlib.Core.Bool.{false}
 use native.Mathlib.Omega.{arith}
 use Rattle.types.specs.Decode.{ty_at}
 use Rattle.tidying.proofs.Completing.{find-ask, find-here, find_none, find-on}

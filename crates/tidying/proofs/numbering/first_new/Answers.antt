@@ -3,7 +3,6 @@ use Prim.Native.Nat.{ℕ, ◌+◌, ◌-◌}
 use native.Mathlib.Omega.{arith}
 use borrow.Author.Tests.{eq-eqb, ne_eqb}
 use lib.ListN.{get_or}
-use Rattle.form.specs.Order.{first}
 use Rattle.form.proofs.Search.{search_stop, search_on, search_end}
 use Rattle.tidying.specs.Asks.{unnumbered}
 use Rattle.tidying.proofs.numbering.first_new.Goals as goal

@@ -2,7 +2,6 @@
 -- Assumes nothing.
 use mathlib.Core.Path.{◌≡◌}
 use Prim.Native.Nat.{◌+◌, ◌-◌, ◌≤◌}
-use Rattle.form.specs.Order.{first}
 use Rattle.form.specs.Search.{first_from}
 use Rattle.tidying.specs.Asks.{unnumbered}
 use Rattle.tidying.proofs.numbering.first_new.Given as goal

@@ -2,7 +2,6 @@ use mathlib.Core.Path.{◌≡◌, sym, ◌∙◌}
 use Prim.Native.Nat.{◌+◌, ◌*◌}
 use native.Mathlib.Omega.{arith}
 use Rattle.tidying.proofs.Stores.{write_low, sum-none, sum-next, ask-sum, second-ask, record_ask}
-use Rattle.places.specs.Places.{start}
 use Rattle.tidying.proofs.writing.write_records.Goals as goal
 
 pub loop-j-init : goal.loop-j-init

@@ -7,7 +7,6 @@ use Rattle.tidying.specs.Call.{call_of}
 use Rattle.tidying.specs.Numbering.{table_of}
 use Rattle.tidying.specs.Tidy.{tidy_of}
 use Rattle.tidying.proofs.Bytes.{start_of}
-use Rattle.places.specs.Places.{start}
 use Rattle.tidying.proofs.writing.write_records.Given as goal
 
 abbrev pub invariant-loop-j : goal.invariant-loop-j
