@@ -2,11 +2,11 @@
 use mathlib.Core.Path.{◌≡◌, refl, sym, ap, ap₂, ◌∙◌}
 use mathlib.Core.Bool.{Bool, true, false, cond, not, ◌&&◌, ◌||◌, and-eq-true_iff, or-true}
 use mathlib.Core.List.{List, [], ◌∷◌, ◌++◌}
-use Prim.Native.Nat.{ℕ, zero, suc, ◌+◌, ◌*◌, ◌-◌, ◌^◌, ◌≤◌, ◌<◌}
+use Prim.Native.Nat.{ℕ, ◌+◌, ◌*◌, ◌-◌, ◌≤◌, ◌<◌}
 use native.Mathlib.Omega.{arith}
 use borrow.Author.Tests.{le-leb, lt-leb, leb-true, eq-eqb, ne_eqb, eqb-true, not-true, not-false}
-use lib.Dec.{leb, ltb, eqb}
-use lib.ListN.{length, get_or, replicate, length-replicate, replicate-append-replicate}
+use lib.Dec.{leb, eqb}
+use lib.ListN.{length, get_or, replicate, length-replicate}
 use Rattle.form.specs.Order.{rule, first}
 use Rattle.addresses.specs.Addresses.{run, gather, scatter}
 use Rattle.addresses.specs.Copy.{cleared}
@@ -19,7 +19,7 @@ use Rattle.moving.specs.Images.{framed}
 use Rattle.moving.specs.declared.PlaceAnswer.{PlaceAnswer}
 use Rattle.moving.specs.declared.PlaceAnswer.TheVariants.{Placed, Refused as NotPlaced}
 use Rattle.plans.specs.Moves.{Move, move_all, all_fit, fits_in}
-use Rattle.plans.specs.Plans.{values_in, area_in, used_by, fours_at, parts_at, bools_at, end_of, pairs, triples, moves_in, bools_in, all_below, well_formed, wrong_lengths, wide_address, some_broken, place_refusal_by, placed_by, vectors_in, place_answer_by, image_after_by}
+use Rattle.plans.specs.Plans.{values_in, area_in, used_by, fours_at, parts_at, bools_at, end_of, pairs, triples, moves_in, bools_in, all_below, well_formed, wide_address, some_broken, place_refusal_by, placed_by, vectors_in, place_answer_by, image_after_by}
 use Rattle.plans.proofs.Moves.{move_all-append}
 use Rattle.by_plan.specs.Fitting.{Fitting}
 

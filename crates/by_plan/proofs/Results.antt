@@ -1,13 +1,13 @@
 -- Laws of putting and taking by a plan. Assumes nothing.
 use mathlib.Core.Path.{◌≡◌, refl, sym, ap, ap₂, ◌∙◌}
 use mathlib.Core.Bool.{Bool, true, false, cond, not, ◌&&◌, ◌||◌, and-eq-true_iff, or-true}
-use mathlib.Core.List.{List, [], ◌∷◌, ◌++◌}
+use mathlib.Core.List.{List, [], ◌∷◌}
 use Prim.Native.Nat.{ℕ, ◌+◌, ◌*◌, ◌≤◌, ◌<◌}
 use native.Mathlib.Omega.{arith}
 use borrow.Author.Tests.{le-leb, lt-leb, leb-true, le-ltb, eq-eqb, ne_eqb, eqb-true, not-true, not-false}
 use lib.Dec.{leb, ltb, eqb}
-use lib.ListN.{length, get_or, replicate, length-replicate, replicate-append-replicate}
-use Rattle.addresses.specs.Addresses.{run, gather, scatter}
+use lib.ListN.{length, get_or, replicate, length-replicate}
+use Rattle.addresses.specs.Addresses.{run, scatter}
 use Rattle.addresses.specs.Copy.{cleared}
 use Rattle.form.specs.declared.Refusal.{Refusal}
 use Rattle.form.specs.Order.{rule, first}

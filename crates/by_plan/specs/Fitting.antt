@@ -1,5 +1,5 @@
 -- What moving by a plan asks. Assumes nothing: these are definitions.
-use Rattle.std.specs.Prelude.{◌≡◌, true, List, ℕ, ◌+◌, ◌≤◌, length, get_or}
+use Rattle.std.specs.Prelude.{◌≡◌, true, List, ℕ, ◌≤◌, length, get_or}
 use Rattle.plans.specs.Moves.{all_fit}
 use Rattle.plans.specs.Plans.{pairs, triples, fours_at, parts_at, end_of}
 

@@ -29,7 +29,7 @@ use Rattle.returning.specs.Answers.{put_answer, take_answer}
 use Rattle.station.specs.declared.Station.{Station as Attached}
 use Rattle.station.specs.Paper.{kcb}
 use Rattle.station.specs.Outcome.{leaves}
-use Rattle.station.specs.Attachment.{described, attach_refusal, attach_station, detach_refusal, detach_station, detach_seat, change_refusal, change_station}
+use Rattle.station.specs.Attachment.{described, attach_refusal, attach_station, detach_refusal, detach_seat, change_refusal, change_station}
 use Rattle.station.proofs.Kcb.{kcb-refusal}
 use Rattle.walk.specs.Orders.{offsets_of, open_refusal, step_refusal, show_refusal}
 use Rattle.finishing.specs.Rest.{finish_refusal, finish_walk}

@@ -2,7 +2,7 @@
 use mathlib.Core.Path.{◌≡◌, refl, ap, ap₂}
 use mathlib.Core.Bool.{Bool, true, false, cond, not, ◌&&◌}
 use mathlib.Core.List.{List, [], ◌∷◌}
-use Prim.Native.Nat.{ℕ, ◌+◌, ◌-◌, ◌≤◌}
+use Prim.Native.Nat.{ℕ, ◌+◌, ◌≤◌}
 use native.Mathlib.Omega.{arith}
 use borrow.Author.Tests.{ne_eqb, ltb-false}
 use lib.Dec.{eqb}
@@ -17,13 +17,12 @@ use Rattle.places.specs.declared.Kind.{Kind}
 use Rattle.places.specs.declared.Kind.TheVariants.{General as general, Vector as vector, Upper as upper, Wide as wide}
 use Rattle.places.specs.declared.Register.{Register}
 use Rattle.places.specs.declared.Register.TheVariants.{General, Vector, Upper, Wide}
-use Rattle.places.specs.declared.Used.{Used}
 use Rattle.places.specs.declared.Place.{Place}
 use Rattle.places.specs.declared.Place.TheVariants.{One, Two, Stack}
 use Rattle.places.specs.declared.ReturnPlace.{ReturnPlace}
 use Rattle.places.specs.declared.ReturnPlace.TheVariants.{Void, Memory as InMemory, One as InOne, Two as InTwo, St0, St0St1}
 use Rattle.places.specs.Shapes.{kind_of, kinds_in, kinds_of}
-use Rattle.places.specs.Places.{eights, register_for, place, next, general_for, vector_for}
+use Rattle.places.specs.Places.{eights, register_for, next, general_for, vector_for}
 use Rattle.places.specs.Returns.{outside, return_by, return_of, hidden_by, hidden_for}
 use Rattle.classify.specs.Vectors.{is_vector}
 use Rattle.images.specs.Asks.{Known, Single, Alone, Inside}

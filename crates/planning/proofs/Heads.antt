@@ -1,22 +1,19 @@
 -- What stands before the lists of a plan, and the whole of it from what is written. Assumes nothing.
-use mathlib.Core.Path.{◌≡◌, refl, sym, ap, ap₂, ◌∙◌}
+use mathlib.Core.Path.{◌≡◌, sym, ap, ap₂, ◌∙◌}
 use mathlib.Core.Logic.{◌≢◌}
 use mathlib.Core.Bool.{Bool, true, false, cond, not, ◌&&◌}
 use mathlib.Core.List.{List, [], ◌∷◌, ◌++◌, append_assoc}
-use Prim.Native.Nat.{ℕ, ◌+◌, ◌*◌, ◌-◌, ◌/◌, ◌≤◌, ◌<◌}
+use Prim.Native.Nat.{ℕ, ◌+◌, ◌-◌, ◌/◌, ◌≤◌, ◌<◌}
 use native.Mathlib.Omega.{arith}
 use borrow.Author.Tests.{eq-eqb, ne_eqb, not-true, not-false}
-use lib.Dec.{eqb}
 use lib.ListN.{length, length-append}
 use Rattle.description.specs.declared.Model.{Model}
 use Rattle.description.specs.declared.Model.TheVariants.{Lp64, Ilp32}
 use Rattle.description.specs.Description.{types_in, arguments_in, return_in, model_in, Whole}
-use Rattle.addresses.specs.Addresses.{run, scatter}
-use Rattle.places.specs.declared.ReturnPlace.{ReturnPlace}
-use Rattle.places.specs.Places.{eights as eightbytes, after}
+use Rattle.places.specs.Places.{eights as eightbytes}
 use Rattle.places.proofs.Offsets.{area-rounded}
 use Rattle.layout.specs.declared.Layout.{Layout}
-use Rattle.layout.specs.Arguments.{shapes, hidden, is_void, return_place, used_first, used_at, area_of}
+use Rattle.layout.specs.Arguments.{shapes, hidden, is_void, return_place, used_first, area_of}
 use Rattle.layout.specs.Layout.{values_of, layout_of}
 use Rattle.layout.specs.Verdict.{verdict}
 use Rattle.layout.proofs.Bounds.{all-shaped}
@@ -29,9 +26,8 @@ use Rattle.returning.specs.Image.{length_for}
 use Rattle.returning.specs.ImageAsks.{Returnable}
 use Rattle.returning.specs.Returned.{return_length}
 use Rattle.returning.proofs.Values.{whole, returned-known, accepted-returnable}
-use Rattle.plans.specs.Moves.{Move, all_fit}
-use Rattle.plans.specs.Plans.{triples}
-use Rattle.plans.specs.Cuts.{cut, joined, halved, moves_of, eights, fours, parts, twos, threes, bools_from, address_kind, move_of, Head, head_of, plan_of}
+use Rattle.plans.specs.Moves.{Move}
+use Rattle.plans.specs.Cuts.{cut, joined, halved, moves_of, eights, fours, parts, twos, threes, bools_from, address_kind, move_of, head_of, plan_of}
 use Rattle.plans.proofs.Codes.{length-twos, length-threes}
 use Rattle.plans.proofs.Cuts.{within-cut, within-joined}
 use Rattle.plans.proofs.Rooms.{all-fit}

@@ -5,10 +5,10 @@ use mathlib.Core.List.{List, [], ◌∷◌}
 use Prim.Native.Nat.{ℕ, ◌≤◌, ◌<◌}
 use native.Mathlib.Omega.{arith}
 use borrow.Author.Tests.{eq-eqb, ne_eqb, lt-ltb, le-ltb}
-use lib.Dec.{ltb, eqb}
+use lib.Dec.{ltb}
 use lib.ListN.{length}
 use Rattle.form.specs.declared.Refusal.{Refusal}
-use Rattle.form.specs.Order.{rule, first}
+use Rattle.form.specs.Order.{rule}
 use Rattle.form.specs.Reading.{refusal_of}
 use Rattle.form.proofs.Order.{first-before, first-behind}
 use Rattle.types.specs.Wrong.{refusal_for}

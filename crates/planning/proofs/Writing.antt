@@ -1,18 +1,18 @@
 -- The lists of a plan, written one behind the other. Assumes nothing.
 use mathlib.Core.Path.{◌≡◌, refl, sym, ap, ap₂, ◌∙◌}
 use mathlib.Core.Logic.{◌≢◌}
-use mathlib.Core.Bool.{Bool, true, false, cond, not, ◌&&◌}
-use mathlib.Core.List.{List, [], ◌∷◌, ◌++◌, append-nil}
-use Prim.Native.Nat.{ℕ, zero, suc, ◌+◌, ◌*◌, ◌-◌, ◌≤◌, ◌<◌}
+use mathlib.Core.Bool.{Bool, true, false, cond, not}
+use mathlib.Core.List.{List, [], ◌∷◌, ◌++◌}
+use Prim.Native.Nat.{ℕ, suc, ◌+◌, ◌*◌, ◌-◌, ◌≤◌, ◌<◌}
 use native.Mathlib.Numerals.{add-one}
 use native.Mathlib.Omega.{arith}
 use borrow.Author.Tests.{eq-eqb, ne_eqb}
 use lib.Dec.{eqb}
 use lib.ListN.{length, get_or, set, length-append}
-use Rattle.addresses.specs.Addresses.{run, scatter, All, Absent}
+use Rattle.addresses.specs.Addresses.{run, scatter, Absent}
 use Rattle.addresses.proofs.Scatter.{scatter-append, length-scatter}
 use Rattle.addresses.proofs.Runs.{length_run, run-append, all-run}
-use Rattle.plans.specs.Moves.{Move, all_fit}
+use Rattle.plans.specs.Moves.{Move}
 use Rattle.plans.specs.Plans.{triples}
 use Rattle.plans.specs.Cuts.{select, is_long, low, high, halved, eights, others, fours, parts, twos, threes}
 use Rattle.plans.proofs.Orders.{scatter-comm}

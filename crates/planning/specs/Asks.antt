@@ -1,5 +1,5 @@
 -- What planning asks inside. Assumes nothing: these are definitions.
-use Rattle.std.specs.Prelude.{◌≡◌, true, List, ℕ, ◌+◌, ◌*◌, ◌≤◌, length}
+use Rattle.std.specs.Prelude.{◌≡◌, true, List, ℕ, ◌+◌, ◌≤◌}
 use Rattle.places.specs.declared.Register.{Register}
 use Rattle.places.specs.declared.Place.{Place}
 use Rattle.images.specs.Asks.{Alone, Inside}

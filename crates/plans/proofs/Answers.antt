@@ -1,8 +1,8 @@
 -- Placing and gathering by a plan of an accepted description answer and leave what the description does. Assumes nothing.
 use mathlib.Core.Path.{◌≡◌, refl, sym, ap, ap₂, ◌∙◌}
-use mathlib.Core.Bool.{Bool, true, false, cond, not, ◌&&◌, ◌||◌}
-use mathlib.Core.List.{List, [], ◌∷◌, ◌++◌}
-use Prim.Native.Nat.{ℕ, zero, suc, ◌+◌, ◌≤◌, ◌<◌}
+use mathlib.Core.Bool.{Bool, true, false, cond, ◌&&◌}
+use mathlib.Core.List.{List, ◌∷◌, ◌++◌}
+use Prim.Native.Nat.{ℕ, zero, suc, ◌+◌}
 use native.Mathlib.Nat.{zero-add}
 use native.Mathlib.Decide.{ℕ_discrete}
 use native.Mathlib.Omega.{arith}
@@ -10,28 +10,24 @@ use borrow.Author.Tests.{lt-ltb, le-ltb, eq-eqb, ne_eqb}
 use lib.Dec.{ltb, eqb}
 use lib.ListN.{length, get_or, take, drop, length-append, take-append-drop}
 use Rattle.description.specs.Description.{arguments_in, argument_at, model_in}
-use Rattle.form.specs.Order.{rule, first}
+use Rattle.form.specs.Order.{first}
 use Rattle.form.specs.declared.Refusal.{Refusal}
 use Rattle.form.specs.Reading.{refusal_of}
 use Rattle.form.specs.Search.{first_from}
-use Rattle.form.proofs.Order.{first-behind}
 use Rattle.types.specs.Wrong.{refusal_for}
 use Rattle.types.proofs.Wrong.{no_type}
 use Rattle.layout.specs.Arguments.{hidden, area_of, used_at}
 use Rattle.layout.specs.Layout.{values_of, layout_of}
-use Rattle.layout.specs.Verdict.{check_order, verdict}
-use Rattle.layout.proofs.Verdict.{check-positive}
+use Rattle.layout.specs.Verdict.{verdict}
 use Rattle.moving.specs.Address.{wrong_address}
 use Rattle.moving.specs.Frames.{placed_in, gathered_in, own_address}
 use Rattle.layout.specs.Arguments.{value_start}
 use Rattle.moving.specs.Images.{frame_of, amd64}
 use Rattle.moving.specs.Orders.{is_bool, broken_byte, broken_bool, first_broken, wrong_bool, wrong_length, place_refusal, gather_refusal}
 use Rattle.moving.specs.Answers.{place_answer, registers_after, upper_after, stack_after, images_after, gather_answer, values_after}
-use Rattle.moving.specs.declared.PlaceAnswer.{PlaceAnswer}
 use Rattle.moving.specs.declared.PlaceAnswer.TheVariants.{Placed, Refused as NotPlaced}
-use Rattle.moving.specs.declared.GatherAnswer.{GatherAnswer}
 use Rattle.moving.specs.declared.GatherAnswer.TheVariants.{Gathered, Refused as NotGathered}
-use Rattle.moving.proofs.Orders.{gather-behind, gather-positive, place-before, place-behind, place-stopped}
+use Rattle.moving.proofs.Orders.{gather-behind, place-before, place-behind, place-stopped}
 use Rattle.moving.proofs.Amd64.{amd64-ordered, right-lent, placed-lent}
 use Rattle.plans.specs.Plans.{bools_in, wrong_lengths, some_broken, place_refusal_by, gather_refusal_by, placed_by, gathered_by, place_answer_by, image_after_by, gather_answer_by, values_after_by}
 use Rattle.plans.specs.Cuts.{bools_from, plan_of}

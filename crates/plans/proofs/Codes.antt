@@ -2,12 +2,12 @@
 use mathlib.Core.Path.{◌≡◌, refl, sym, ap, ap₂, ◌∙◌}
 use mathlib.Core.List.{List, [], ◌∷◌, ◌++◌}
 use Prim.Native.Nat.{ℕ, zero, suc, ◌+◌, ◌*◌}
-use native.Mathlib.Nat.{zero-add, suc-add, add-zero}
+use native.Mathlib.Nat.{zero-add, suc-add}
 use native.Mathlib.Omega.{arith}
 use lib.ListN.{length, get_or, length-append}
 use Rattle.addresses.specs.Addresses.{run, gather, All}
 use Rattle.plans.specs.Moves.{Move}
-use Rattle.plans.specs.Plans.{pairs, triples, fours_at, parts_at, bools_at, end_of, moves_in, bools_in}
+use Rattle.plans.specs.Plans.{pairs, triples, end_of, moves_in, bools_in}
 use Rattle.plans.specs.Cuts.{twos, threes, Head, written}
 
 -- numbers before do not matter

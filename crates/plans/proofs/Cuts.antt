@@ -1,13 +1,13 @@
 -- The moves of a description: where they read and write, joined and by kind. Assumes nothing.
 use mathlib.Core.Path.{◌≡◌, refl, sym, ap, ap₂, ◌∙◌}
-use mathlib.Core.Bool.{Bool, true, false, cond, not, ◌&&◌, and-eq-true_iff}
+use mathlib.Core.Bool.{Bool, true, false, cond, not, and-eq-true_iff}
 use mathlib.Core.List.{List, [], ◌∷◌, ◌++◌, append-nil, append_assoc}
-use Prim.Native.Nat.{ℕ, zero, suc, ◌+◌, ◌*◌, ◌-◌, ◌≤◌, ◌<◌, min}
+use Prim.Native.Nat.{ℕ, suc, ◌+◌, ◌*◌, ◌-◌, ◌≤◌, ◌<◌, min}
 use native.Mathlib.Decide.{dec_lt}
 use native.Mathlib.Omega.{arith}
 use borrow.Author.Tests.{eqb-true}
 use lib.Dec.{eqb}
-use lib.ListN.{length, length-append}
+use lib.ListN.{length}
 use Rattle.addresses.specs.Addresses.{run, All}
 use Rattle.addresses.proofs.Runs.{run-append}
 use Rattle.places.specs.declared.Kind.{Kind}
@@ -15,14 +15,14 @@ use Rattle.places.specs.declared.Kind.TheVariants.{General as general, Vector as
 use Rattle.places.specs.declared.Register.{Register}
 use Rattle.places.specs.declared.Register.TheVariants.{General, Vector, Upper, Wide}
 use Rattle.places.specs.declared.Used.{Used}
-use Rattle.places.specs.Shapes.{Shape, Shaped, has_some, widths}
-use Rattle.places.specs.Places.{Place, in_registers, on_stack, eights as eightbytes, general_for, vector_for, registers_for, fits, start, place_if, place, next, after}
+use Rattle.places.specs.Shapes.{Shape, Shaped, widths}
+use Rattle.places.specs.Places.{Place, in_registers, on_stack, eights as eightbytes, general_for, vector_for, registers_for, fits, place_if, place, next, after}
 use Rattle.places.specs.Images.{stack_at, slots, spread, bytes_of, addresses, total}
 use Rattle.places.proofs.Fits.{fits-true}
 use Rattle.places.proofs.Apart.{all-seated, slots-inside, stack-room, after-grows}
-use Rattle.plans.specs.Moves.{Move, sources, targets, Reordered, none, keep, swap, both}
-use Rattle.plans.specs.Cuts.{Span, spans_of, spans, pieces, cut_one, cut, adjoin, longer, join_from, joined, low, high, halved, select, is_long, eights, others, fours, parts}
-use Rattle.plans.proofs.Orders.{reordered_same, reordered_later}
+use Rattle.plans.specs.Moves.{Move, sources, targets, Reordered, none, keep, both}
+use Rattle.plans.specs.Cuts.{Span, spans, pieces, cut_one, cut, adjoin, longer, join_from, joined, low, high, halved, select, is_long, eights, others, fours, parts}
+use Rattle.plans.proofs.Orders.{reordered_later}
 
 -- ---- where they write
 

@@ -1,40 +1,35 @@
 -- Putting and taking by a plan of an accepted description answer and leave what the description does. Assumes nothing.
 use mathlib.Core.Path.{◌≡◌, refl, sym, ap, ap₂, ◌∙◌}
-use mathlib.Core.Bool.{Bool, true, false, cond, not, ◌&&◌, ◌||◌}
+use mathlib.Core.Bool.{Bool, true, false, cond, not, ◌&&◌}
 use mathlib.Core.List.{List, [], ◌∷◌, ◌++◌, append-nil}
 use Prim.Native.Nat.{ℕ, ◌+◌}
 use native.Mathlib.Decide.{ℕ_discrete}
-use native.Mathlib.Omega.{arith}
 use borrow.Author.Tests.{eq-eqb, ne_eqb}
 use lib.Dec.{ltb, eqb}
 use lib.ListN.{length, get_or, take, drop, replicate, length-append, take-append-drop}
 use Rattle.addresses.specs.Addresses.{run, gather, scatter}
 use Rattle.description.specs.Description.{model_in, return_in}
 use Rattle.form.specs.declared.Refusal.{Refusal}
-use Rattle.form.specs.Order.{rule, first}
+use Rattle.form.specs.Order.{rule}
 use Rattle.form.specs.Reading.{refusal_of}
 use Rattle.form.proofs.Order.{first-behind}
 use Rattle.types.specs.Wrong.{refusal_for}
-use Rattle.images.specs.Words.{number}
 use Rattle.layout.specs.Arguments.{hidden, is_void, return_place}
 use Rattle.layout.specs.Verdict.{check_order, verdict}
 use Rattle.layout.proofs.Verdict.{check-positive}
 use Rattle.moving.specs.Address.{wrong_address}
 use Rattle.moving.specs.Orders.{is_bool, broken_byte}
 use Rattle.returning.specs.Moved.{parts_of, sources as sources_of, targets as targets_of}
-use Rattle.returning.specs.Image.{in_memory, rax, blank_return, return_image, return_value, returned_address}
+use Rattle.returning.specs.Image.{blank_return, return_image, return_value, returned_address}
 use Rattle.returning.specs.Returned.{return_length}
 use Rattle.returning.specs.Orders.{wrong_length, wrong_bool, put_refusal, take_refusal}
 use Rattle.returning.specs.Answers.{put_answer, image_after, upper_after, images_after, take_answer, value_after}
-use Rattle.returning.specs.declared.PutAnswer.{PutAnswer}
 use Rattle.returning.specs.declared.PutAnswer.TheVariants.{Put, Refused as NotPut}
-use Rattle.returning.specs.declared.TakeAnswer.{TakeAnswer}
 use Rattle.returning.specs.declared.TakeAnswer.TheVariants.{Taken, Refused as NotTaken}
 use Rattle.returning.proofs.Values.{memory_hidden}
 use Rattle.returning.proofs.Orders.{put-accepted, take-accepted}
-use Rattle.plans.specs.Moves.{Move, move_all, turned_all, sources, targets}
-use Rattle.plans.specs.Plans.{used_by}
-use Rattle.plans.specs.Returned.{return_moves_in, wrong_returned, broken_returned, put_refusal_by, take_refusal_by, put_by, taken_by, address_by, put_answer_by, return_image_by, take_answer_by, returned_after_by}
+use Rattle.plans.specs.Moves.{Move, turned_all, sources, targets}
+use Rattle.plans.specs.Returned.{wrong_returned, broken_returned, put_refusal_by, take_refusal_by, put_by, taken_by, address_by, put_answer_by, return_image_by, take_answer_by, returned_after_by}
 use Rattle.plans.specs.Cuts.{move_of, head_of, plan_of}
 use Rattle.plans.specs.Statements.{PutsByPlan, TakesByPlan}
 use Rattle.plans.proofs.Moves.{move_all-scatter, targets-turned, sources-turned}

@@ -1,8 +1,8 @@
 -- How much a plan takes: how many moves, how many bytes of values. Assumes nothing.
-use mathlib.Core.Path.{◌≡◌, refl, sym, ap, ◌∙◌}
-use mathlib.Core.Bool.{Bool, true, false, cond, true≢false, false≢true}
-use mathlib.Core.List.{List, [], ◌∷◌, ◌++◌}
-use Prim.Native.Nat.{ℕ, zero, suc, ◌+◌, ◌*◌, ◌-◌, ◌≤◌, ◌<◌, max}
+use mathlib.Core.Path.{◌≡◌, refl, ap}
+use mathlib.Core.Bool.{Bool, true, false, true≢false, false≢true}
+use mathlib.Core.List.{List, [], ◌∷◌}
+use Prim.Native.Nat.{ℕ, suc, ◌+◌, ◌*◌, ◌-◌, ◌≤◌, ◌<◌, max}
 use native.Mathlib.Omega.{arith}
 use borrow.Author.Tests.{le-leb}
 use lib.ListN.{length, length-append}
@@ -16,7 +16,7 @@ use Rattle.places.specs.Places.{eights as eightbytes, general_for, vector_for, r
 use Rattle.places.specs.Images.{total}
 use Rattle.places.proofs.Fits.{fits-true}
 use Rattle.places.proofs.Apart.{narrow-widths, stack-room, next_grows}
-use Rattle.plans.specs.Moves.{Move, fits_in, all_fit}
+use Rattle.plans.specs.Moves.{Move, all_fit}
 use Rattle.plans.specs.Cuts.{Span, spans, pieces, cut_one, cut, twos, threes}
 use Rattle.plans.proofs.Cuts.{Within}
 

@@ -1,12 +1,12 @@
 -- A plan made of an accepted description moves what the description says, is well formed, and has room in 392 numbers of 16 bits. Assumes nothing.
-use mathlib.Core.Path.{◌≡◌, refl, sym, ap, ap₂, ◌∙◌}
+use mathlib.Core.Path.{◌≡◌, refl, sym, ap, ◌∙◌}
 use mathlib.Core.Bool.{Bool, true, false, cond, not, ◌&&◌}
 use mathlib.Core.List.{List, [], ◌∷◌, ◌++◌}
-use Prim.Native.Nat.{ℕ, zero, suc, ◌+◌, ◌*◌, ◌≤◌, ◌<◌}
+use Prim.Native.Nat.{ℕ, zero, suc, ◌+◌, ◌≤◌, ◌<◌}
 use native.Mathlib.Omega.{arith}
 use borrow.Author.Tests.{le-leb, lt-ltb}
 use lib.Dec.{leb, eqb}
-use lib.ListN.{length, get_or}
+use lib.ListN.{length}
 use Rattle.description.specs.declared.Model.{Model}
 use Rattle.description.specs.declared.Model.TheVariants.{Lp64, Ilp32}
 use Rattle.description.specs.Description.{arguments_in, argument_at, model_in, return_in}
@@ -39,11 +39,11 @@ use Rattle.returning.specs.Moved.{parts_of}
 use Rattle.returning.specs.Returned.{return_length}
 use Rattle.returning.proofs.Room.{Room, returnable_room}
 use Rattle.returning.proofs.Values.{accepted-returnable}
-use Rattle.plans.specs.Moves.{Move, turned_all, sources, targets, all_fit, Apart}
+use Rattle.plans.specs.Moves.{turned_all, sources, targets, Apart}
 use Rattle.plans.specs.Plans.{values_in, area_in, vectors_in, used_by, moves_in, bools_in, end_of, all_below, well_formed, wide_address, frame_by, placed_by, gathered_by}
 use Rattle.plans.specs.Returned.{returned_in, return_moves_in, returns_formed}
-use Rattle.plans.specs.Cuts.{cut, joined, moves_of, is_long, eights, others, fours, parts, twos, threes, address_kind, move_of, head_of, written, bools_from, plan_of}
-use Rattle.plans.specs.Statements.{Planned, AllPlanned}
+use Rattle.plans.specs.Cuts.{cut, joined, moves_of, is_long, eights, others, fours, parts, twos, threes, address_kind, move_of, head_of, bools_from, plan_of}
+use Rattle.plans.specs.Statements.{AllPlanned}
 use Rattle.plans.proofs.Moves.{moves-place, moves-gather, targets-turned}
 use Rattle.plans.proofs.Orders.{moves-reordered, turned-reordered, once-apart}
 use Rattle.plans.proofs.Codes.{moves_read, bools-read, length-written}

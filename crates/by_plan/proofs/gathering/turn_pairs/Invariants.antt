@@ -4,7 +4,6 @@ use mathlib.Core.Path.{◌≡◌}
 use mathlib.Core.Bool.{true}
 use Prim.Native.Nat.{◌+◌, ◌*◌, ◌≤◌}
 use lib.ListN.{length}
-use Rattle.form.specs.Order.{first}
 use Rattle.plans.specs.Moves.{move_all, turned_all, all_fit}
 use Rattle.plans.specs.Plans.{pairs}
 use Rattle.by_plan.proofs.gathering.turn_pairs.Given as goal

@@ -3,7 +3,6 @@
 use mathlib.Core.Path.{◌≡◌}
 use Prim.Native.Nat.{◌+◌, ◌≤◌}
 use lib.ListN.{length}
-use Rattle.form.specs.Order.{first}
 use Rattle.addresses.specs.Addresses.{run, gather}
 use Rattle.plans.specs.Plans.{all_below}
 use Rattle.by_plan.proofs.judging.bools_below.Given as goal

@@ -3,7 +3,6 @@
 use mathlib.Core.Path.{◌≡◌}
 use Prim.Native.Nat.{◌+◌, ◌*◌, ◌≤◌}
 use lib.ListN.{length}
-use Rattle.form.specs.Order.{first}
 use Rattle.plans.specs.Moves.{all_fit}
 use Rattle.plans.specs.Plans.{pairs}
 use Rattle.by_plan.proofs.judging.pairs_fit.Given as goal

@@ -1,5 +1,4 @@
 use mathlib.Core.Path.{refl}
-use mathlib.Core.Bool.{true}
 use native.Mathlib.Omega.{arith}
 use Rattle.by_plan.proofs.Loops.{bools-step, bools-none, below_both, broken-end, broken-yes, broken-on}
 use Rattle.by_plan.proofs.judging.some_broken.Goals as goal

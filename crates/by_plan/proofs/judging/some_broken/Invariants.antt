@@ -4,7 +4,6 @@ use mathlib.Core.Path.{◌≡◌}
 use mathlib.Core.Bool.{true}
 use Prim.Native.Nat.{◌+◌, ◌≤◌}
 use lib.ListN.{length}
-use Rattle.form.specs.Order.{first}
 use Rattle.addresses.specs.Addresses.{run, gather}
 use Rattle.plans.specs.Plans.{all_below, some_broken}
 use Rattle.by_plan.proofs.judging.some_broken.Given as goal

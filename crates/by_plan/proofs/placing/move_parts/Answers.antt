@@ -1,5 +1,4 @@
 use mathlib.Core.Path.{refl}
-use mathlib.Core.Bool.{true}
 use native.Mathlib.Omega.{arith}
 use Rattle.plans.proofs.Steps.{triples_step, triples_none, move-room, move-rest}
 use Rattle.by_plan.proofs.Loops.{move-on, move-end}
