@@ -1,6 +1,6 @@
 -- What adding a row cites. Assumes nothing.
-use mathlib.Core.Path.{◌≡◌, refl, sym, ap, ap₂, ◌∙◌, subst}
-use mathlib.Core.Bool.{Bool, true, false, cond, ◌&&◌, ◌||◌, true≢false}
+use mathlib.Core.Path.{◌≡◌, refl, sym, ap, ap₂, ◌∙◌}
+use mathlib.Core.Bool.{Bool, true, false, cond, ◌||◌, true≢false}
 use mathlib.Core.List.{List, [], ◌∷◌, ◌++◌, append_assoc}
 use mathlib.Core.Logic.{◌⊎◌, inl, inr}
 use Prim.Native.Nat.{ℕ, zero, suc, ◌+◌, ◌-◌, ◌≤◌, ◌<◌}
@@ -8,13 +8,13 @@ use native.Mathlib.Nat.{eq-or-lt_of_le}
 use native.Mathlib.Numerals.{add-one}
 use native.Mathlib.Omega.{arith}
 use borrow.Author.Tests.{lt-ltb, le-ltb, ltb-false}
-use lib.Dec.{eqb, ltb}
+use lib.Dec.{ltb}
 use lib.ListN.{length, get_or, take, drop, set, length-append, length-set, drop_of_length-le}
 use lib.Seq.{length-take-le, take-suc, take-suc-set, take-take, take-length, take-append_seam, drop-append_seam, get_or-set_same, get_or-set_other, get_or-take, drop-cons}
 use Rattle.collecting.specs.Rows.{Row, basic_row, array_row, group_row, run_of, same_row, find, members_in, beyond}
 use Rattle.collecting.specs.Bounded.{Kept, keep, find_if, add_if, raise}
 use Rattle.collecting.proofs.Bounds.{members-append}
-use Rattle.collecting.specs.Arrays.{row_by, row_at, rows_at, Held, Given, Offered, Standing, Keeps, kept_by}
+use Rattle.collecting.specs.Arrays.{row_by, row_at, rows_at, Offered, Standing, Keeps, kept_by}
 use Rattle.collecting.proofs.Rows.{part, part_length, rows-length}
 
 -- ---- a run is copied

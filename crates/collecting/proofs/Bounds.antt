@@ -1,20 +1,20 @@
 -- Numbers in a room follow the numbers without bounds. Assumes nothing.
-use mathlib.Core.Path.{◌≡◌, refl, sym, ap, ap₂, ◌∙◌, subst}
+use mathlib.Core.Path.{◌≡◌, refl, sym, ap, ap₂, ◌∙◌}
 use mathlib.Core.Bool.{Bool, true, false, cond, ◌||◌, true≢false}
 use mathlib.Core.List.{List, [], ◌∷◌, ◌++◌, append_assoc, append-nil}
-use Prim.Native.Nat.{ℕ, zero, suc, ◌+◌, ◌≤◌, ◌<◌}
+use Prim.Native.Nat.{ℕ, suc, ◌+◌, ◌≤◌, ◌<◌}
 use native.Mathlib.Omega.{arith}
-use borrow.Author.Tests.{lt-ltb, le-ltb, ltb-true, eq-eqb}
+use borrow.Author.Tests.{lt-ltb, ltb-true}
 use lib.Dec.{ltb}
 use lib.ListN.{length, take, drop, length-append, take-append-drop}
-use lib.Seq.{take-append-le, take-take, take-length, length-take-le, take-append_seam}
+use lib.Seq.{take-append-le, take-take, take-length, length-take-le}
 use Rattle.grammar.specs.Grammar.{Event}
 use Rattle.grammar.specs.Grammar as event
 use Rattle.grammar.specs.Meaning.{clamped}
-use Rattle.collecting.specs.Rows.{Row, basic_row, array_row, group_row, run_of, find, Made, intern, tower, members_in, beyond}
+use Rattle.collecting.specs.Rows.{Row, basic_row, array_row, group_row, find, Made, intern, tower, members_in, beyond}
 use Rattle.collecting.specs.Count.{Hand, Open, State, let_go, used, resulting, alone, step, steps, start, put}
 use Rattle.collecting.specs.Count as count
-use Rattle.collecting.specs.Bounded.{Grip, code, held, Pending, Store, Kept, add_if, find_if, keep, raise, raise_if, raised, back_if, back, mark, take_up, lay, single, giving, move, moves, vacant}
+use Rattle.collecting.specs.Bounded.{Grip, code, held, Pending, Store, Kept, add_if, find_if, keep, raise, raise_if, raised, back, mark, take_up, single, giving, move}
 use Rattle.collecting.specs.Near.{Fits, Framed, Levels, room, Alike, Used, Near}
 
 -- ---- more rows are not fewer

@@ -1,22 +1,22 @@
 -- Each piece of a sentence keeps the numbers the image of the types. Assumes nothing.
-use mathlib.Core.Path.{◌≡◌, refl, sym, ap, ap₂, ◌∙◌, subst}
-use mathlib.Core.Bool.{Bool, true, false, cond, ◌&&◌}
+use mathlib.Core.Path.{◌≡◌, refl, sym, ap, ap₂, ◌∙◌}
+use mathlib.Core.Bool.{Bool, true, false, cond}
 use mathlib.Core.List.{List, [], ◌∷◌, ◌++◌, map}
-use Prim.Native.Nat.{ℕ, zero, suc, ◌+◌, ◌≤◌, ◌<◌}
+use Prim.Native.Nat.{ℕ}
 use native.Mathlib.Omega.{arith}
-use lib.ListN.{length, get_or, take, length-append}
-use Rattle.types.specs.Tree.{Ty, Tys, basic, array, struct, union, none, more, group}
+use lib.ListN.{length, take}
+use Rattle.types.specs.Tree.{Ty, Tys, basic, group}
 use Rattle.tidying.specs.Call.{Returned, returned}
 use Rattle.tidying.specs.Call as call
 use Rattle.tidying.specs.Numbering.{index_of, completed, reached, reached_all, reached_by, reached_from}
-use Rattle.tidying.specs.Ordered.{at, AllBelow, Below, Ordered}
+use Rattle.tidying.specs.Ordered.{AllBelow, Below, Ordered}
 use Rattle.tidying.specs.Tidy.{numbers_of, return_number}
-use Rattle.tidying.proofs.Tables.{Grows, grows_self, grows_on}
-use Rattle.tidying.proofs.Reached.{reach, reach_by, reach_from, Numbered, ReturnNumbered, return_index, ordered-none, Table, table-right}
+use Rattle.tidying.proofs.Tables.{Grows}
+use Rattle.tidying.proofs.Reached.{reach, reach_by, reach_from, Numbered, ReturnNumbered, return_index, ordered-none}
 use Rattle.grammar.specs.Grammar.{Event}
 use Rattle.grammar.specs.Grammar as event
 use Rattle.grammar.specs.Meaning.{Result, void, gives, Frame, Read, mean, meaning, blank, arrays, listed, plain, clamped}
-use Rattle.collecting.specs.Rows.{Row, basic_row, array_row, struct_row, union_row, group_row, Made, intern, tower}
+use Rattle.collecting.specs.Rows.{Row, basic_row, group_row, Made, intern, tower}
 use Rattle.collecting.specs.Count.{Hand, code, held, Open, State, let_go, used, resulting, alone, step, steps, start}
 use Rattle.collecting.specs.Image.{row_of, rows_of, image, returned_of, outside, under, Frames, InHand, Image, Timely, AllTimely}
 use Rattle.collecting.proofs.Extends.{image-back, rows-length}

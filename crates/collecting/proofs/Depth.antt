@@ -1,14 +1,14 @@
 -- How many groups are open along a sentence: a test of the grammar's table, and what it says of every derivation. Assumes nothing.
-use mathlib.Core.Path.{◌≡◌, refl, sym, ap, ap₂, ◌∙◌, subst}
+use mathlib.Core.Path.{◌≡◌, refl, sym, ap, ◌∙◌, subst}
 use mathlib.Core.Bool.{Bool, true, false, cond, ◌&&◌, true≢false}
 use mathlib.Core.List.{List, [], ◌∷◌, ◌++◌, append_assoc}
-use Prim.Native.Nat.{ℕ, zero, suc, ◌+◌, ◌-◌, ◌≤◌, ◌<◌}
+use Prim.Native.Nat.{ℕ, zero, suc, ◌+◌, ◌-◌, ◌≤◌}
 use native.Mathlib.Omega.{arith}
 use borrow.Author.Tests.{eqb-true, leb-true, le-leb}
 use lib.Dec.{eqb, leb}
 use lib.ListN.{length, get_or}
 use Rattle.grammar.specs.Grammar.{Event, basic, long, pointer, nothing, opened, close, size, item, result, variadic, Rest, stop, goes, Absence, required, optional, Grammar, kind_of, is_number, decimal, said, Derives, done, take, skip}
-use Rattle.grammar.specs.Table.{Alternative, ◌⟶◌, Entry, entry, pick, alternatives_of, absence_of, nowhere, grammar_of}
+use Rattle.grammar.specs.Table.{Alternative, ◌⟶◌, Entry, pick, alternatives_of, absence_of, nowhere, grammar_of}
 
 -- groups that are open, or nowhere
 pub data End : Type 0 where

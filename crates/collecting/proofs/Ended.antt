@@ -1,18 +1,16 @@
 -- The bytes that the numbers say are the tidy bytes of the call that was read. Assumes nothing.
-use mathlib.Core.Path.{◌≡◌, refl, sym, ap, ap₂, ◌∙◌, subst}
-use mathlib.Core.Bool.{Bool, true, false, cond}
+use mathlib.Core.Path.{◌≡◌, refl, ap, ap₂, ◌∙◌}
 use mathlib.Core.List.{List, [], ◌∷◌, ◌++◌, map}
-use Prim.Native.Nat.{ℕ, zero, suc, ◌+◌, ◌≤◌, ◌<◌, ◌/◌, ◌%◌}
-use native.Mathlib.Omega.{arith}
+use Prim.Native.Nat.{ℕ, suc, ◌+◌}
 use lib.ListN.{length}
 use Rattle.types.specs.Tree.{Ty, Tys, basic, array, struct, union, none, more}
 use Rattle.tidying.specs.Numbering.{index_of, table_of}
 use Rattle.tidying.specs.Tidy.{members_of, many_of, separate, kind_of, second_of, count_of, records_of, numbers_of, runs_of, tidy_by, tidy_of}
 use Rattle.grammar.specs.Grammar.{Event}
 use Rattle.grammar.specs.Meaning.{Read, meaning, blank, Frame}
-use Rattle.collecting.specs.Rows.{Row, basic_row, array_row, struct_row, union_row, run_of, members_in, kind_in, second_in, count_in, records_in, runs_in}
+use Rattle.collecting.specs.Rows.{Row, run_of, members_in, kind_in, second_in, count_in, records_in, runs_in}
 use Rattle.collecting.specs.Count.{State, let_go, steps, start, bytes_by, bytes_of}
-use Rattle.collecting.specs.Image.{row_of, rows_of, image, returned_of, call_from, outside, under, Image, AllTimely}
+use Rattle.collecting.specs.Image.{row_of, rows_of, image, call_from, outside, under, Image, AllTimely}
 use Rattle.collecting.proofs.Extends.{rows-length}
 use Rattle.collecting.proofs.Counted.{ordered-outside, ordered-under, let_go_lem, steps-right, start_right}
 

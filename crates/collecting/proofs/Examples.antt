@@ -1,15 +1,14 @@
 -- Worked examples. Assumes nothing.
 use mathlib.Core.Path.{◌≡◌, refl}
-use mathlib.Core.Bool.{true, false}
 use mathlib.Core.List.{List, [], ◌∷◌}
 use Prim.Native.Nat.{ℕ}
 use Rattle.listing.specs.Characters.{bytes}
 use Rattle.grammar.specs.Tokens.{class_of}
-use Rattle.grammar.specs.Grammar.{Event, kind_of, said, pointer, opened, close, basic, item, size}
+use Rattle.grammar.specs.Grammar.{kind_of, said}
 use Rattle.grammar.specs.Machine.{possible, Outcome, accepted, refused_at, read_text}
 use Rattle.grammar.specs.Prototype.{spellings, table, declarations, prototype}
 use Rattle.collecting.specs.Rows.{same_numbers, same_row, find, members_in, records_in, runs_in, beyond}
-use Rattle.collecting.specs.Bounded.{raise, moves, vacant, written, too_much}
+use Rattle.collecting.specs.Bounded.{raise, moves, vacant, written}
 
 abbrev describes : Outcome → List ℕ
 describes (accepted es) = written 0 (moves 4 vacant es)

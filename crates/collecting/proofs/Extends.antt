@@ -1,18 +1,17 @@
 -- Numbering is a prefix order: what is reached stands behind what was there. Assumes nothing.
 use mathlib.Core.Path.{◌≡◌, refl, sym, ap, ap₂, ◌∙◌}
-use mathlib.Core.Bool.{Bool, true, false, cond}
-use mathlib.Core.List.{List, [], ◌∷◌, ◌++◌, map, append_assoc, append-nil}
-use Prim.Native.Nat.{ℕ, zero, suc, ◌+◌, ◌≤◌, ◌<◌}
+use mathlib.Core.List.{List, [], ◌∷◌, ◌++◌, append_assoc, append-nil}
+use Prim.Native.Nat.{ℕ, suc, ◌<◌}
 use native.Mathlib.Omega.{arith}
-use lib.ListN.{length, get_or, take, length-append}
+use lib.ListN.{length, get_or, take}
 use lib.Seq.{take-append_seam}
 use Rattle.types.specs.Tree.{Ty, Tys, basic, array, struct, union, none, more}
-use Rattle.tidying.specs.Numbering.{index_of, completed, reached, reached_all, reached_from}
+use Rattle.tidying.specs.Numbering.{completed, reached, reached_all}
 use Rattle.tidying.specs.Ordered.{at, AllBelow, Below, Ordered}
 use Rattle.tidying.specs.Tidy.{numbers_of}
-use Rattle.tidying.proofs.Tables.{There, there, absent, look, completed-old, completed-new, Grows, grows_self, grows_on, index_append}
-use Rattle.tidying.proofs.Reached.{below-grows, Reach, ReachAll, reach, reach_from, ReachFrom, Numbered}
-use Rattle.collecting.specs.Rows.{Row, basic_row, array_row, struct_row, union_row}
+use Rattle.tidying.proofs.Tables.{There, there, absent, look, completed-old, completed-new, Grows, grows_self}
+use Rattle.tidying.proofs.Reached.{below-grows, reach}
+use Rattle.collecting.specs.Rows.{Row, array_row, struct_row, union_row}
 use Rattle.collecting.specs.Image.{row_of, rows_of, image}
 
 -- b is a with more behind it

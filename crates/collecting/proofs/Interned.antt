@@ -1,23 +1,22 @@
 -- Completing a type by rows is completing it by trees. Assumes nothing.
 use mathlib.Core.Path.{◌≡◌, refl, sym, ap, ap₂, ◌∙◌}
 use mathlib.Core.Bool.{Bool, true, false, cond, ◌&&◌}
-use mathlib.Core.List.{List, [], ◌∷◌, ◌++◌, map}
-use Prim.Native.Nat.{ℕ, zero, suc, ◌+◌, ◌≤◌, ◌<◌}
+use mathlib.Core.List.{List, [], ◌∷◌, ◌++◌}
+use Prim.Native.Nat.{ℕ, suc, ◌<◌}
 use native.Mathlib.Omega.{arith}
-use borrow.Author.Tests.{eq-eqb, eqb-true, eqb-false, ne_eqb, lt-ltb, le-ltb}
+use borrow.Author.Tests.{eq-eqb, ne_eqb, lt-ltb, le-ltb}
 use lib.Dec.{eqb, ltb}
-use lib.ListN.{length, get_or, length-append}
+use lib.ListN.{length}
 use Rattle.types.specs.Tree.{Ty, Tys, basic, array, struct, union, none, more}
 use Rattle.tidying.specs.Same.{same_ty, same_tys}
 use Rattle.tidying.specs.Numbering.{index_of, completed, reached}
 use Rattle.tidying.specs.Ordered.{at, AllBelow, Below, Ordered}
 use Rattle.tidying.specs.Tidy.{numbers_of}
 use Rattle.tidying.proofs.Same.{same_true, same_self}
-use Rattle.tidying.proofs.Tables.{at-index, index_bound, index_append, index_snoc, There, there, absent, look, completed-old, completed-new, grows_snoc}
+use Rattle.tidying.proofs.Tables.{at-index, index_bound, index_snoc, There, there, absent, look, completed-old, completed-new, grows_snoc}
 use Rattle.tidying.proofs.Reached.{reach}
-use Rattle.tidying.proofs.Completing.{other-types}
 use Rattle.grammar.specs.Meaning.{arrays}
-use Rattle.collecting.specs.Rows.{Row, basic_row, array_row, struct_row, union_row, same_numbers, same_row, find, Made, intern, tower}
+use Rattle.collecting.specs.Rows.{Row, array_row, same_numbers, same_row, find, Made, intern, tower}
 use Rattle.collecting.specs.Image.{row_of, rows_of, image}
 use Rattle.collecting.proofs.Extends.{Known, known-all, rows_grow, row_grows, rows-length, rows_append}
 

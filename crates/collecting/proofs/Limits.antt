@@ -1,16 +1,15 @@
 -- What is read in a room of 64 types and 255 members: the tidy bytes, or the mark where these need more. Assumes nothing.
-use mathlib.Core.Path.{◌≡◌, refl, sym, ap, ap₂, ◌∙◌, subst}
-use mathlib.Core.Bool.{Bool, true, false, cond, ◌||◌, true≢false}
-use mathlib.Core.List.{List, [], ◌∷◌, ◌++◌, map}
-use Prim.Native.Nat.{ℕ, zero, suc, ◌+◌, ◌≤◌, ◌<◌}
+use mathlib.Core.Path.{◌≡◌, refl, ap, ap₂, ◌∙◌}
+use mathlib.Core.Bool.{Bool, true, false, ◌||◌, true≢false}
+use mathlib.Core.List.{List, [], ◌∷◌, map}
+use Prim.Native.Nat.{ℕ, suc, ◌≤◌, ◌<◌}
 use native.Mathlib.Omega.{arith}
 use borrow.Author.Tests.{lt-ltb}
 use lib.Dec.{ltb}
 use lib.ListN.{length}
-use Rattle.types.specs.Tree.{Ty, Tys, basic, array, struct, union, none, more}
-use Rattle.tidying.specs.Call.{Call}
+use Rattle.types.specs.Tree.{Ty, array}
 use Rattle.tidying.specs.Numbering.{index_of, completed, table_of, reached}
-use Rattle.tidying.specs.Ordered.{Ordered, Below, at}
+use Rattle.tidying.specs.Ordered.{Ordered, Below}
 use Rattle.tidying.specs.Tidy.{separate, tidy_of}
 use Rattle.tidying.proofs.Reached.{reach, completed-ordered}
 use Rattle.tidying.proofs.Tables.{at-index, completed-grows, completed-there}
@@ -18,11 +17,11 @@ use Rattle.grammar.specs.Grammar.{Event}
 use Rattle.grammar.specs.Grammar as event
 use Rattle.grammar.specs.Meaning.{Read, mean, meaning, blank, Frame, arrays}
 use Rattle.collecting.specs.Rows.{Row, Made, tower, members_in, beyond}
-use Rattle.collecting.specs.Count.{Hand, Open, State, let_go, used, step, steps, start, bytes_by, bytes_of}
-use Rattle.collecting.specs.Image.{rows_of, image, call_from, outside, under, Frames, Image, Timely, AllTimely}
-use Rattle.collecting.specs.Bounded.{Grip, code, held, Pending, Store, back, mark, move, moves, vacant, written_by, written, too_much}
+use Rattle.collecting.specs.Count.{Open, State, let_go, used, step, steps, start, bytes_of}
+use Rattle.collecting.specs.Image.{image, call_from, outside, under, Frames, Image, Timely, AllTimely}
+use Rattle.collecting.specs.Bounded.{Pending, Store, mark, move, moves, vacant, written_by, written, too_much}
 use Rattle.collecting.specs.Statements.{over_limits}
-use Rattle.collecting.specs.Near.{Fits, Levels, room, Alike, Used, Near}
+use Rattle.collecting.specs.Near.{Levels, Alike, Near}
 use Rattle.collecting.proofs.Extends.{rows-length}
 use Rattle.collecting.proofs.Interned.{made_in}
 use Rattle.collecting.proofs.Counted.{ordered-outside, ordered-under, item-right, step_right, steps-right, start_right}

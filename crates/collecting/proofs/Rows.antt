@@ -1,16 +1,16 @@
 -- What the functions over rows cite. Assumes nothing.
-use mathlib.Core.Path.{◌≡◌, refl, sym, ap, ap₂, ◌∙◌, subst}
-use mathlib.Core.Bool.{Bool, true, false, cond, ◌&&◌, true≢false}
+use mathlib.Core.Path.{◌≡◌, refl, sym, ap, ap₂, ◌∙◌}
+use mathlib.Core.Bool.{Bool, true, false, cond, ◌&&◌}
 use mathlib.Core.List.{List, [], ◌∷◌, ◌++◌}
 use mathlib.Core.Logic.{◌⊎◌, inl, inr}
-use Prim.Native.Nat.{ℕ, zero, suc, ◌+◌, ◌-◌, ◌≤◌, ◌<◌}
+use Prim.Native.Nat.{ℕ, zero, suc, ◌+◌, ◌≤◌, ◌<◌}
 use native.Mathlib.Nat.{eq-or-lt_of_le}
 use native.Mathlib.Omega.{arith}
-use borrow.Author.Tests.{eq-eqb, ne_eqb, eqb-true, eqb-false}
+use borrow.Author.Tests.{eq-eqb, ne_eqb}
 use lib.Dec.{eqb}
 use lib.ListN.{length, get_or, take, drop, length-append, length-drop, drop_of_length-le}
-use lib.Seq.{drop-cons, length-take-le, get_or-take, get_or-drop, take-append_seam, take-append-le, take-take, take-length}
-use Rattle.collecting.specs.Rows.{Row, basic_row, array_row, struct_row, union_row, group_row, same_numbers, same_row, find}
+use lib.Seq.{drop-cons, length-take-le, get_or-take, get_or-drop, take-append-le, take-length}
+use Rattle.collecting.specs.Rows.{Row, same_numbers, same_row, find}
 use Rattle.collecting.specs.Arrays.{row_by, row_at, rows_at, Held, Given}
 
 -- ---- runs

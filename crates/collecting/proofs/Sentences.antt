@@ -1,25 +1,23 @@
 -- Every sentence is read in time, and nothing stays open: so its numbers are the tidy bytes of its call. Assumes nothing.
-use mathlib.Core.Path.{◌≡◌, refl, sym, ap, ap₂, ◌∙◌, subst}
-use mathlib.Core.Bool.{Bool, true, false, cond, ◌||◌, true≢false}
-use mathlib.Core.List.{List, [], ◌∷◌, ◌++◌, append_assoc, append-nil}
-use Prim.Native.Nat.{ℕ, zero, suc, ◌+◌, ◌/◌, ◌%◌, ◌≤◌, ◌<◌}
+use mathlib.Core.Path.{◌≡◌, refl, sym, ap, ◌∙◌, subst}
+use mathlib.Core.Bool.{Bool, true, false, cond, true≢false}
+use mathlib.Core.List.{List, [], ◌∷◌, ◌++◌, append-nil}
+use Prim.Native.Nat.{ℕ, suc, ◌/◌, ◌%◌}
 use native.Mathlib.Omega.{arith}
 use lib.Dec.{eqb}
-use lib.ListN.{length, length-append}
-use Rattle.types.specs.Tree.{Ty}
+use lib.ListN.{length}
 use Rattle.tidying.specs.Tidy.{tidy_by, tidy_of}
 use Rattle.description.specs.Description.{model_in}
 use Rattle.description.specs.declared.Model.{Model}
 use Rattle.description.specs.declared.Model.TheVariants.{Lp64, Ilp32}
 use Rattle.grammar.specs.Grammar.{Event, Grammar, Derives, done, take, skip, Sentence, required, optional, stop, goes, kind_of, said}
 use Rattle.grammar.specs.Grammar as event
-use Rattle.grammar.specs.Table.{grammar_of}
 use Rattle.grammar.specs.Prototype.{spellings, table, declarations, prototype, types, ⟨external⟩, ⟨returned⟩, ⟨result⟩, ⟨functionName⟩, ⟨called0⟩, ⟨end⟩}
-use Rattle.grammar.specs.Meaning.{Read, Frame, Result, void, mean, meaning, blank, arrays}
+use Rattle.grammar.specs.Meaning.{Read, Frame, mean, meaning, blank}
 use Rattle.collecting.specs.Count.{flags_of}
 use Rattle.collecting.specs.Image.{Timely, AllTimely}
 use Rattle.collecting.specs.Statements.{long_in, bit_of, declared_call, Numbered}
-use Rattle.collecting.proofs.Depth.{End, stuck, at, Way, next, next_of, run, run-stuck, chain, ways_test, derived-run, Parted, part}
+use Rattle.collecting.proofs.Depth.{End, stuck, at, next, run, run-stuck, chain, ways_test, derived-run, part}
 use Rattle.collecting.proofs.Ways.{quiet, free}
 use Rattle.collecting.proofs.Limits.{mark-right, bytes-right}
 

@@ -1,5 +1,5 @@
 -- Written by tools/grammar: from how many open groups to how many each symbol of the grammar leads, at least, in the order of its table; that they are right is tested. Assumes nothing.
-use Rattle.std.specs.Prelude.{List, [], ◌∷◌, ℕ}
+use Rattle.std.specs.Prelude.{List, [], ◌∷◌}
 use Rattle.collecting.proofs.Depth.{Way, none, way}
 
 -- before the result: no item outside of groups

@@ -1,6 +1,6 @@
 -- Rows as code holds them: their kinds, second bytes and counts, and the members of all of them, one run behind the other. Assumes nothing:
 -- these are definitions.
-use Rattle.std.specs.Prelude.{◌≡◌, Bool, true, false, cond, List, [], ◌∷◌, ◌++◌, ℕ, zero, suc, ◌+◌, ◌≤◌, ◌<◌, eqb, length, get_or, take, drop}
+use Rattle.std.specs.Prelude.{◌≡◌, Bool, cond, List, [], ◌∷◌, ◌++◌, ℕ, zero, suc, ◌+◌, ◌≤◌, ◌<◌, eqb, length, get_or, take, drop}
 use Rattle.collecting.specs.Rows.{Row, basic_row, array_row, group_row, members_in}
 use Rattle.collecting.specs.Bounded.{Kept}
 

@@ -1,6 +1,6 @@
 -- The same in a room of 64 types and 255 members: what does not fit leaves the mark `over`, and the step back takes the mark away with the
 -- types. Assumes nothing: these are definitions.
-use Rattle.std.specs.Prelude.{Bool, true, false, cond, ◌||◌, List, [], ◌∷◌, ◌++◌, ℕ, suc, ◌+◌, ltb, length, take}
+use Rattle.std.specs.Prelude.{Bool, true, false, ◌||◌, List, [], ◌∷◌, ◌++◌, ℕ, ltb, length, take}
 use Rattle.grammar.specs.Grammar.{Event, basic, long, pointer, nothing, opened, close, size, item, result, variadic}
 use Rattle.grammar.specs.Meaning.{clamped}
 use Rattle.collecting.specs.Rows.{Row, basic_row, array_row, group_row, find, beyond, members_in, records_in, runs_in}

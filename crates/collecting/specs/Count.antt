@@ -1,5 +1,5 @@
 -- What the pieces of a sentence do to numbers: no type is written out here. Assumes nothing: these are definitions.
-use Rattle.std.specs.Prelude.{Bool, true, false, cond, List, [], ◌∷◌, ◌++◌, ℕ, suc, ◌+◌, length, take}
+use Rattle.std.specs.Prelude.{Bool, true, false, cond, List, [], ◌∷◌, ◌++◌, ℕ, ◌+◌, length, take}
 use Rattle.grammar.specs.Grammar.{Event, basic, long, pointer, nothing, opened, close, size, item, result, variadic}
 use Rattle.grammar.specs.Meaning.{clamped}
 use Rattle.collecting.specs.Rows.{Row, basic_row, group_row, Made, intern, tower, members_in, records_in, runs_in}

@@ -1,9 +1,9 @@
 -- Numbers are the image of types written out. Assumes nothing: these are definitions.
-use Rattle.std.specs.Prelude.{◌≡◌, Bool, List, [], ◌∷◌, ◌++◌, map, ℕ, length}
-use Rattle.types.specs.Tree.{Ty, Tys, basic, array, struct, union, none, more}
+use Rattle.std.specs.Prelude.{◌≡◌, List, [], ◌∷◌, map, ℕ, length}
+use Rattle.types.specs.Tree.{Ty, basic, array, struct, union}
 use Rattle.tidying.specs.Call.{Returned, returned, Call}
 use Rattle.tidying.specs.Call as call
-use Rattle.tidying.specs.Numbering.{index_of, reached, reached_by, reached_from, table_of}
+use Rattle.tidying.specs.Numbering.{index_of, reached, reached_by, reached_from}
 use Rattle.tidying.specs.Tidy.{numbers_of, return_number}
 use Rattle.grammar.specs.Grammar.{Event}
 use Rattle.grammar.specs.Grammar as event

@@ -1,5 +1,5 @@
 -- Numbers in a room are the numbers without bounds, where these fit. Assumes nothing: these are definitions.
-use Rattle.std.specs.Prelude.{◌≡◌, Bool, false, List, [], ◌∷◌, ◌++◌, ℕ, ◌≤◌, length, take}
+use Rattle.std.specs.Prelude.{◌≡◌, Bool, false, List, [], ◌∷◌, ℕ, ◌≤◌, length, take}
 use Rattle.collecting.specs.Rows.{Row, beyond}
 use Rattle.collecting.specs.Count.{Hand, Open, State}
 use Rattle.collecting.specs.Count as count

@@ -1,11 +1,8 @@
 -- A written declaration is read back: request 2026-08, "reading that gives the tidy form of that part". Assumes nothing.
-use mathlib.Core.Path.{◌≡◌, refl, sym, ap, ◌∙◌, subst}
-use mathlib.Core.List.{List}
-use Prim.Native.Nat.{ℕ}
-use Rattle.grammar.specs.Grammar.{Event, Derives, Sentence}
+use Rattle.grammar.specs.Grammar.{Sentence}
 use Rattle.grammar.specs.Prototype.{declarations, prototype}
 use Rattle.grammar.proofs.Prototype.{prototype-promises}
-use Rattle.declaring.specs.Writing.{Declaration, declaration_tokens, declaration_text}
+use Rattle.declaring.specs.Writing.{Declaration, declaration_text}
 use Rattle.declaring.specs.Written.{Declarable, ReadBack}
 use Rattle.declaring.proofs.Derived.{declaration_events, declaration_derived}
 use Rattle.declaring.proofs.Held.{declaration_cut}

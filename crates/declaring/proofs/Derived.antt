@@ -1,25 +1,24 @@
 -- The tokens of a declaration are derived: parts of the derivation, by the type. Assumes nothing.
-use mathlib.Core.Path.{◌≡◌, refl, sym, ap, ◌∙◌, subst}
+use mathlib.Core.Path.{◌≡◌, refl}
 use mathlib.Core.Bool.{Bool, true, false, cond, not}
-use mathlib.Core.List.{List, [], ◌∷◌, ◌++◌, append_assoc, append-nil}
-use Prim.Native.Nat.{ℕ, zero, suc, ◌+◌, ◌<◌}
+use mathlib.Core.List.{List, [], ◌∷◌, ◌++◌, append-nil}
+use Prim.Native.Nat.{ℕ, suc, ◌<◌}
 use native.Mathlib.Omega.{arith}
 use lib.Dec.{eqb}
 use lib.ListN.{get_or}
 use Rattle.types.specs.Tree.{Ty, Tys, array, struct, union, none, more}
 use Rattle.types.specs.Tree as tree
-use Rattle.listing.specs.Decimal as dec
 use Rattle.listing.specs.Characters.{bytes}
 use Rattle.grammar.specs.Tokens.{class_of}
 use Rattle.grammar.specs.Grammar.{Event, basic, pointer, nothing, opened, close, size, item, result, variadic, optional, kind_of, said, Derives, done, skip}
 use Rattle.grammar.specs.Machine.{fed}
-use Rattle.grammar.specs.Prototype.{spellings, table, declarations, prototype, ⟨afterGroup⟩, ⟨firstMember⟩, ⟨moreMembers⟩, ⟨closed⟩, ⟨field⟩, ⟨fieldEnd⟩, ⟨fieldsEnd⟩, ⟨item⟩, ⟨dims⟩, ⟨parameters⟩, ⟨moreParameters⟩, ⟨nextParameter⟩, ⟨declared⟩, ⟨returned⟩, ⟨result⟩, ⟨functionName⟩, ⟨called0⟩, ⟨closing⟩, ⟨end⟩}
+use Rattle.grammar.specs.Prototype.{spellings, table, declarations, prototype, ⟨afterGroup⟩, ⟨firstMember⟩, ⟨moreMembers⟩, ⟨field⟩, ⟨fieldEnd⟩, ⟨fieldsEnd⟩, ⟨item⟩, ⟨dims⟩, ⟨parameters⟩, ⟨moreParameters⟩, ⟨nextParameter⟩, ⟨declared⟩, ⟨returned⟩, ⟨result⟩, ⟨functionName⟩, ⟨called0⟩, ⟨closing⟩, ⟨end⟩}
 use Rattle.grammar.specs.Meaning.{Result, void, gives}
 use Rattle.declaring.specs.Writing.{words, words_of, member_name, sizes_of, type_tokens, member_tokens, Declaration, result_tokens, further_tokens, parameter_tokens, declaration_tokens}
-use Rattle.declaring.specs.Written.{Some, Writable, AllWritable, NoArray, Passed, AllPassed, PassedBack, Declarable}
+use Rattle.declaring.specs.Written.{Some, Writable, AllWritable, AllPassed, PassedBack, Declarable}
 use Rattle.declaring.proofs.Cases.{each}
 use Rattle.declaring.proofs.Numerals.{number-kind, number-said}
-use Rattle.declaring.proofs.Paths.{Reads, reads_none, reads-join, reads-behind, reads-token, reads-skip, Move, eat, leave, goes_to, Kinds, end, token, without, way}
+use Rattle.declaring.proofs.Paths.{Reads, reads_none, reads-join, reads-behind, reads-token, Move, eat, leave, goes_to, Kinds, end, token, without, way}
 
 -- ---- what the tokens say
 

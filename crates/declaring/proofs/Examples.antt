@@ -2,7 +2,6 @@
 use mathlib.Core.Path.{◌≡◌, refl}
 use mathlib.Core.Bool.{true, false}
 use mathlib.Core.List.{[], ◌∷◌}
-use lib.ListN.{length}
 use Rattle.types.specs.Tree.{basic, array, struct, union, none, more}
 use Rattle.listing.specs.Decimal.{digits, decimal}
 use Rattle.listing.specs.Characters.{bytes}

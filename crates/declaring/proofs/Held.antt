@@ -1,17 +1,17 @@
 -- Each token of a declaration holds together, so that its text is cut into these tokens. Assumes nothing.
 use mathlib.Core.Path.{◌≡◌, refl}
-use mathlib.Core.Bool.{Bool, true, false, ◌&&◌}
+use mathlib.Core.Bool.{Bool, true, false}
 use mathlib.Core.List.{List, [], ◌∷◌, ◌++◌}
 use Prim.Native.Nat.{ℕ, suc, ◌<◌}
 use native.Mathlib.Omega.{arith}
 use Rattle.types.specs.Tree.{Ty, Tys, basic, array, struct, union, none, more}
 use Rattle.listing.specs.Decimal.{decimal}
 use Rattle.listing.specs.Characters.{bytes}
-use Rattle.grammar.specs.Tokens.{class_of, cut, spaced}
+use Rattle.grammar.specs.Tokens.{class_of, cut}
 use Rattle.grammar.specs.Meaning.{Result, void, gives}
 use Rattle.grammar.proofs.Live.{holds, all_hold, hold-append, cut-spaced}
 use Rattle.declaring.specs.Writing.{words, words_of, member_name, sizes_of, type_tokens, member_tokens, Declaration, result_tokens, further_tokens, parameter_tokens, declaration_tokens, declaration_text}
-use Rattle.declaring.specs.Written.{Some, Writable, AllWritable, Passed, AllPassed, PassedBack, Declarable}
+use Rattle.declaring.specs.Written.{Writable, AllWritable, AllPassed, PassedBack, Declarable}
 use Rattle.declaring.proofs.Cases.{each}
 use Rattle.declaring.proofs.Numerals.{number-holds, name_holds}
 

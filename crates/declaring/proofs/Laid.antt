@@ -1,8 +1,8 @@
 -- The tidy form of a description's named part says that part, and lays it out as the description does. Assumes nothing.
-use mathlib.Core.Path.{◌≡◌, refl, sym, ap, ap₂, ◌∙◌}
+use mathlib.Core.Path.{◌≡◌, refl, sym, ap, ◌∙◌}
 use mathlib.Core.Bool.{Bool, true, false, cond}
-use mathlib.Core.List.{List, [], ◌∷◌, ◌++◌, map}
-use Prim.Native.Nat.{ℕ, zero, suc, ◌+◌, ◌≤◌, ◌<◌, min}
+use mathlib.Core.List.{List, [], ◌∷◌, ◌++◌}
+use Prim.Native.Nat.{ℕ, zero, suc, ◌+◌, ◌≤◌, ◌<◌}
 use native.Mathlib.Omega.{arith}
 use lib.Dec.{ltb}
 use lib.ListN.{length, get_or, take, length-append, length-take}
@@ -12,13 +12,11 @@ use Rattle.types.specs.Tree.{Ty, Tys, basic, array, struct, union, none, more}
 use Rattle.uses.specs.Uses.{uses_refusal}
 use Rattle.uses.proofs.Uses.{accepted-typed}
 use Rattle.places.specs.Shapes.{Shape, shape_of}
-use Rattle.places.specs.Places.{eights, fresh, place, after}
-use Rattle.places.specs.Recorded.{recorded}
-use Rattle.layout.specs.Arguments.{used_at, return_place}
+use Rattle.places.specs.Places.{eights, fresh, after}
 use Rattle.layout.specs.Placements.{placement_at}
 use Rattle.layout.specs.Verdict.{verdict}
 use Rattle.layout.proofs.Verdict.{accepted-uses}
-use Rattle.tidying.specs.Call.{Returned, void, returned, Call, call_of}
+use Rattle.tidying.specs.Call.{Call, call_of}
 use Rattle.tidying.specs.Numbering.{index_of, completed, reached, reached_all, reached_by, reached_from, table_of}
 use Rattle.tidying.specs.Tidy.{tidy_of}
 use Rattle.tidying.specs.Laid.{hidden_in, place_in, shapes_by, shapes_in, used_in, placement_in}

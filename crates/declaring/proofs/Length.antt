@@ -1,11 +1,9 @@
 -- The length of the text of a declaration is what the definition without the text says. Assumes nothing.
-use mathlib.Core.Path.{◌≡◌, refl, sym, ap, ◌∙◌}
-use mathlib.Core.Bool.{Bool, true, false, cond}
+use mathlib.Core.Path.{◌≡◌, refl, ap}
+use mathlib.Core.Bool.{Bool, true, false}
 use mathlib.Core.List.{List, [], ◌∷◌, ◌++◌}
-use Prim.Native.Nat.{ℕ, zero, suc, ◌+◌, ◌≤◌, ◌<◌}
+use Prim.Native.Nat.{ℕ, suc, ◌+◌, ◌<◌}
 use native.Mathlib.Omega.{arith}
-use borrow.Author.Tests.{ltb-true, ltb-false, lt-ltb, le-ltb}
-use lib.Dec.{ltb}
 use lib.ListN.{length, length-append}
 use Rattle.types.specs.Tree.{Ty, Tys, basic, array, struct, union, none, more}
 use Rattle.listing.specs.Decimal.{decimal}
@@ -13,8 +11,8 @@ use Rattle.listing.specs.Characters.{bytes}
 use Rattle.grammar.specs.Tokens.{spaced}
 use Rattle.grammar.specs.Meaning.{Result, void, gives}
 use Rattle.declaring.specs.Writing.{words, words_of, member_name, sizes_of, type_tokens, member_tokens, Declaration, result_tokens, further_tokens, parameter_tokens, declaration_tokens, declaration_text}
-use Rattle.declaring.specs.Written.{Some, Writable, AllWritable, NoArray, Passed, AllPassed, PassedBack, Declarable}
-use Rattle.declaring.specs.Length.{words_length, braces_length, name_length, size_length, type_length, members_length, result_length, further_length, parameters_length, declaration_length, capped}
+use Rattle.declaring.specs.Written.{Writable, AllWritable, NoArray, Passed, AllPassed, PassedBack, Declarable}
+use Rattle.declaring.specs.Length.{words_length, name_length, size_length, type_length, members_length, result_length, further_length, parameters_length, declaration_length}
 use Rattle.declaring.proofs.Cases.{each}
 
 -- the length of tokens

@@ -1,20 +1,19 @@
 -- The lengths that are worked out from number 0 upward are those of the text. Assumes nothing.
-use mathlib.Core.Path.{◌≡◌, refl, sym, ap, subst, ◌∙◌}
+use mathlib.Core.Path.{◌≡◌, refl, sym, ap, ◌∙◌}
 use mathlib.Core.Bool.{Bool, true, false, cond}
 use mathlib.Core.List.{List, [], ◌∷◌}
-use Prim.Native.Nat.{ℕ, zero, suc, ◌+◌, ◌≤◌, ◌<◌, min}
+use Prim.Native.Nat.{ℕ, zero, suc, ◌+◌, ◌≤◌, ◌<◌}
 use native.Mathlib.Omega.{arith}
 use borrow.Author.Tests.{eqb-true, eqb-false, eq-eqb, ne_eqb}
 use lib.Dec.{eqb}
 use lib.ListN.{length}
-use Rattle.description.specs.Description.{model_in, kind_at, a_at, count_at, member_at, argument_at, return_in, variadic_in, named_in, arguments_in}
-use Rattle.types.specs.Tree.{Ty, Tys, basic, array, struct, union, none, more, group}
+use Rattle.description.specs.Description.{model_in, kind_at, a_at, count_at, member_at, argument_at, return_in, variadic_in, named_in}
+use Rattle.types.specs.Tree.{Ty, Tys, basic, array, group}
 use Rattle.types.specs.Decode.{tys_from, ty_at}
 use Rattle.types.specs.Asks.{Sized}
 use Rattle.types.proofs.Records.{View, v0, v1, v2, view}
 use Rattle.types.proofs.Trees.{sized-ruled, at-basic, at-array, at-group}
 use Rattle.uses.specs.Uses.{uses_refusal}
-use Rattle.uses.proofs.Uses.{accepted-typed}
 use Rattle.layout.specs.Arguments.{is_void}
 use Rattle.declaring.specs.Length.{words_length, braces_length, name_length, size_length, type_length, members_length, result_length, further_length, parameters_length, declaration_length, capped}
 use Rattle.declaring.proofs.Cases.{each}

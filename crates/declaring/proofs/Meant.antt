@@ -1,5 +1,5 @@
 -- What the tokens of a declaration say means the declaration. Assumes nothing.
-use mathlib.Core.Path.{◌≡◌, refl, sym, ap, ◌∙◌, subst}
+use mathlib.Core.Path.{◌≡◌, refl, sym, ap, ◌∙◌}
 use mathlib.Core.Bool.{Bool, true, false, cond}
 use mathlib.Core.List.{List, [], ◌∷◌, ◌++◌, append_assoc, append-nil}
 use Prim.Native.Nat.{ℕ, ◌≤◌}
@@ -9,7 +9,7 @@ use Rattle.types.specs.Tree.{Ty, Tys, basic, array, struct, union, none, more, g
 use Rattle.grammar.specs.Grammar.{Event, opened, close, item, result}
 use Rattle.grammar.specs.Meaning.{Result, void, gives, Frame, Read, listed, arrays, clamped, mean, meaning, blank}
 use Rattle.declaring.specs.Writing.{Declaration}
-use Rattle.declaring.specs.Written.{Writable, AllWritable, NoArray, Passed, AllPassed, PassedBack, Declarable, declares}
+use Rattle.declaring.specs.Written.{Writable, AllWritable, Passed, AllPassed, PassedBack, Declarable, declares}
 use Rattle.declaring.proofs.Derived.{event_of, size_events, type_events, member_events, result_events, further_events, declaration_events}
 
 -- the type within the arrays, their sizes, and the members of a struct or a union

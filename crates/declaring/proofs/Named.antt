@@ -1,20 +1,20 @@
 -- An accepted description's named part is written and read back. Assumes nothing.
-use mathlib.Core.Path.{◌≡◌, refl, sym, ap, ap₂, subst, ◌∙◌}
-use mathlib.Core.Bool.{Bool, true, false, cond, true≢false, ◌||◌}
-use mathlib.Core.List.{List, [], ◌∷◌}
+use mathlib.Core.Path.{◌≡◌, refl, ap}
+use mathlib.Core.Bool.{Bool, true, false, cond}
+use mathlib.Core.List.{List, ◌∷◌}
 use Prim.Native.Nat.{ℕ, zero, suc, ◌+◌, ◌/◌, ◌%◌, ◌≤◌, ◌<◌}
 use native.Mathlib.Omega.{arith}
-use borrow.Author.Tests.{eqb-true, eqb-false, ltb-true, leb-false, eq-eqb, ne_eqb}
-use lib.Dec.{eqb, leb, ltb}
-use lib.ListN.{length, take}
+use borrow.Author.Tests.{eqb-false, leb-false}
+use lib.Dec.{eqb, leb}
+use lib.ListN.{take}
 use Rattle.description.specs.Description.{flags_in, variadic_in, model_in, named_in, arguments_in, return_in, argument_at, types_in, kind_at, a_at, count_at, member_at}
 use Rattle.description.specs.declared.Model.{Model}
 use Rattle.description.specs.declared.Model.TheVariants.{Lp64, Ilp32}
 use Rattle.form.proofs.Form.{or_none, accepted-counts}
-use Rattle.types.specs.Tree.{Ty, Tys, basic, array, struct, union, none, more, group}
+use Rattle.types.specs.Tree.{Ty, Tys, group}
 use Rattle.types.specs.Decode.{tys_from, ty_at}
 use Rattle.types.specs.Asks.{Sized}
-use Rattle.types.proofs.Records.{View, v0, v1, v2, view, Ruled}
+use Rattle.types.proofs.Records.{View, v0, v1, v2, view}
 use Rattle.types.proofs.Trees.{sized-ruled, sized-below, at-basic, at-array, at-group}
 use Rattle.types.proofs.Large.{accepted-form, accepted-sized}
 use Rattle.uses.specs.Uses.{wrong_number, uses_refusal}
@@ -22,12 +22,11 @@ use Rattle.uses.proofs.Uses.{accepted-types, accepted-typed, accepted-argument, 
 use Rattle.layout.specs.Arguments.{is_void}
 use Rattle.layout.specs.Verdict.{verdict}
 use Rattle.layout.proofs.Verdict.{accepted-uses}
-use Rattle.grammar.specs.Meaning.{Result, Read, meaning, blank}
-use Rattle.grammar.specs.Meaning as read
+use Rattle.grammar.specs.Meaning.{Read, meaning, blank}
 use Rattle.declaring.specs.Writing.{Declaration}
-use Rattle.declaring.specs.Written.{Some, Writable, AllWritable, NoArray, Passed, AllPassed, PassedBack, Declarable, declares}
+use Rattle.declaring.specs.Written.{Writable, AllWritable, NoArray, Passed, AllPassed, PassedBack, Declarable, declares}
 use Rattle.declaring.proofs.Back.{read_back}
-use Rattle.tidying.specs.Call.{Returned, void, returned, Call, trees_from, returned_by, call_of}
+use Rattle.tidying.specs.Call.{Returned, void, returned, trees_from, returned_by, call_of}
 use Rattle.tidying.specs.Tidy.{tidy_of}
 use Rattle.tidying.proofs.Laid.{length-trees}
 use Rattle.declaring.specs.Named.{result_of, named_part, declaration_of, written_text, GivesBack}

@@ -1,6 +1,6 @@
 -- Decimal digits are a number token that says the number. Assumes nothing.
 use mathlib.Core.Path.{◌≡◌, refl, sym, ap, ◌∙◌}
-use mathlib.Core.Bool.{Bool, true, false, cond, true≢false, not, ◌&&◌, ◌||◌}
+use mathlib.Core.Bool.{Bool, true, false, true≢false, not, ◌||◌}
 use mathlib.Core.List.{List, [], ◌∷◌, ◌++◌}
 use Prim.Native.Nat.{ℕ, zero, suc, ◌+◌, ◌*◌, ◌-◌, ◌/◌, ◌%◌, ◌≤◌, ◌<◌}
 use native.Mathlib.Omega.{arith}
@@ -9,8 +9,7 @@ use lib.Dec.{eqb, ltb}
 use Rattle.listing.specs.Decimal as dec
 use Rattle.listing.proofs.Decimal.{decimal-small, decimal-large, decimal-says}
 use Rattle.grammar.specs.Tokens.{Class, blank, letter, digit, dot, alone, class_of, is_digit}
-use Rattle.grammar.specs.Grammar.{Event, size, all_digits, is_none, is_number, decimal, kind_of, said}
-use Rattle.grammar.specs.Prototype.{spellings}
+use Rattle.grammar.specs.Grammar.{size, all_digits, is_none, is_number, decimal, kind_of, said}
 use Rattle.grammar.proofs.Possible.{and_both}
 use Rattle.grammar.proofs.Live.{holds}
 use Rattle.declaring.proofs.Cases.{each}

@@ -1,12 +1,12 @@
 -- The named part as a description of its own says that part, and is accepted where the whole is. Assumes nothing.
 use mathlib.Core.Path.{◌≡◌, refl, sym, ap, ap₂, ◌∙◌}
-use mathlib.Core.Bool.{Bool, true, false, cond, not, ◌&&◌, ◌||◌, true≢false}
+use mathlib.Core.Bool.{Bool, true, false, cond, not, ◌&&◌}
 use mathlib.Core.List.{List, [], ◌∷◌, ◌++◌}
-use Prim.Native.Nat.{ℕ, zero, suc, ◌+◌, ◌-◌, ◌*◌, ◌≤◌, ◌<◌, min}
+use Prim.Native.Nat.{ℕ, zero, suc, ◌+◌, ◌-◌, ◌≤◌, ◌<◌}
 use native.Mathlib.Omega.{arith}
-use borrow.Author.Tests.{eq-eqb, ne_eqb, le-ltb, eqb-true, eqb-false}
+use borrow.Author.Tests.{eq-eqb, ne_eqb, le-ltb}
 use lib.Dec.{eqb, leb, ltb}
-use lib.ListN.{length, get_or, set, take, drop, length-set, length-take}
+use lib.ListN.{length, set, take, drop, length-set, length-take}
 use lib.Seq.{get_or-take, get_or-set_same, get_or-set_other}
 use Rattle.description.specs.Description.{byte_at, word_at, types_in, flags_in, variadic_in, model_in, named_in, arguments_in, return_in, members_in, member_start, argument_start, length_stated, record_start, kind_at, a_at, count_at, member_at, argument_at, Whole}
 use Rattle.description.specs.declared.Model.{Model}
@@ -18,7 +18,7 @@ use Rattle.form.proofs.Form.{accepted-counts, accepted-whole, accepted-records}
 use Rattle.types.specs.Tree.{Ty}
 use Rattle.types.specs.Decode.{ty_at}
 use Rattle.types.specs.Size.{size_ty}
-use Rattle.types.specs.Large.{large, too_large, types_refusal}
+use Rattle.types.specs.Large.{large, too_large}
 use Rattle.types.specs.SameTables.{SameTable}
 use Rattle.types.proofs.Records.{View, v0, v1, v2, view, Ruled, ruled}
 use Rattle.types.proofs.SameTables.{same-type}
@@ -31,7 +31,7 @@ use Rattle.places.proofs.Growing.{area-more}
 use Rattle.layout.specs.Arguments.{is_void, area_of}
 use Rattle.layout.specs.Verdict.{wide_area, verdict}
 use Rattle.layout.proofs.Verdict.{accepted-exactly, accepted-uses, accepted-area}
-use Rattle.tidying.specs.Call.{Returned, void, returned, Call, trees_from, returned_by, call_of}
+use Rattle.tidying.specs.Call.{void, returned, Call, trees_from, returned_by, call_of}
 use Rattle.tidying.specs.Laid.{hidden_in, shapes_by, shapes_in}
 use Rattle.tidying.specs.Tidy.{tidy_of}
 use Rattle.tidying.proofs.Accepted.{tidy-accepted}

@@ -1,5 +1,5 @@
 -- How long the text of a declaration is, without the text: request 2026-08, "25 text too long, the writer's included". Assumes nothing: these are definitions.
-use Rattle.std.specs.Prelude.{Bool, true, false, cond, List, [], ◌∷◌, ℕ, zero, suc, ◌+◌, min, length, get_or}
+use Rattle.std.specs.Prelude.{Bool, true, false, cond, List, [], ◌∷◌, ℕ, suc, ◌+◌, min, length, get_or}
 use Rattle.types.specs.Tree.{Ty, Tys, basic, array, struct, union, none, more}
 use Rattle.listing.specs.Decimal.{decimal}
 use Rattle.grammar.specs.Meaning.{Result, void, gives}

@@ -1,10 +1,9 @@
 -- The length of the text of each type of a description, worked out from number 0 upward, at most 4,097. Assumes nothing: these are definitions.
-use Rattle.std.specs.Prelude.{◌≡◌, Bool, cond, List, ℕ, zero, suc, ◌+◌, ◌≤◌, ◌<◌, eqb, ltb, get_or}
+use Rattle.std.specs.Prelude.{cond, List, ℕ, zero, suc, ◌+◌, eqb}
 use Rattle.description.specs.Description.{kind_at, a_at, count_at, member_at, argument_at, return_in, variadic_in, named_in}
 use Rattle.types.specs.Decode.{ty_at}
 use Rattle.layout.specs.Arguments.{is_void}
-use Rattle.declaring.specs.Length.{words_length, braces_length, name_length, size_length, type_length, capped, declaration_length}
-use Rattle.declaring.specs.Named.{declaration_of}
+use Rattle.declaring.specs.Length.{words_length, braces_length, name_length, size_length, type_length, capped}
 
 -- `f` says the length of each lower type; x is the length so far, of n members from place j of the member list on, the first of them called m with i
 unfoldable pub members_from : (ℕ → ℕ) → List ℕ → ℕ → ℕ → ℕ → ℕ → ℕ

@@ -1,6 +1,6 @@
 -- A declaration as text: request 2026-08, "a writer turns a description's named part back into a declaration". The tokens, each with a space
 -- behind it. Assumes nothing: these are definitions.
-use Rattle.std.specs.Prelude.{Bool, true, false, cond, List, [], ◌∷◌, ◌++◌, ℕ, suc, get_or}
+use Rattle.std.specs.Prelude.{Bool, cond, List, [], ◌∷◌, ◌++◌, ℕ, suc, get_or}
 use Rattle.types.specs.Tree.{Ty, Tys, basic, array, struct, union, none, more}
 use Rattle.listing.specs.Decimal.{decimal}
 use Rattle.listing.specs.Characters.{bytes}

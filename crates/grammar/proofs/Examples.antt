@@ -1,15 +1,14 @@
 -- Worked examples: what makers paste, what it means, and where what is no prototype is refused. Assumes nothing.
 use mathlib.Core.Path.{◌≡◌, refl}
-use mathlib.Core.Bool.{true, false}
-use mathlib.Core.List.{List, [], ◌∷◌}
+use mathlib.Core.List.{[], ◌∷◌}
 use Prim.Native.Nat.{ℕ}
 use Rattle.listing.specs.Characters.{bytes}
-use Rattle.types.specs.Tree.{Ty, Tys, basic, array, struct, none, more}
+use Rattle.types.specs.Tree.{basic, array, struct, none, more}
 use Rattle.grammar.specs.Tokens.{class_of}
-use Rattle.grammar.specs.Grammar.{Event, kind_of, said}
+use Rattle.grammar.specs.Grammar.{kind_of, said}
 use Rattle.grammar.specs.Machine.{possible, Outcome, accepted, refused_at, read_text}
 use Rattle.grammar.specs.Prototype.{spellings, table, declarations, prototype, types}
-use Rattle.grammar.specs.Meaning.{Read, Result, gives, meaning, blank}
+use Rattle.grammar.specs.Meaning.{Read, meaning, blank}
 
 -- the code of long is 4
 abbrev says_in : Outcome → Read

@@ -2,14 +2,13 @@
 use mathlib.Core.Path.{◌≡◌, refl, sym, ap, ◌∙◌}
 use mathlib.Core.Bool.{Bool, true, false, cond, true≢false, not, ◌&&◌, ◌||◌}
 use mathlib.Core.List.{List, [], ◌∷◌, ◌++◌, append_assoc, append-nil}
-use mathlib.Core.Logic.{◌↔◌}
-use Prim.Native.Nat.{ℕ, zero, suc, ◌+◌, ◌≤◌, ◌<◌}
+use Prim.Native.Nat.{ℕ, zero, suc, ◌≤◌, ◌<◌}
 use native.Mathlib.Omega.{arith}
 use lib.Dec.{eqb, ltb}
-use lib.ListN.{length, replicate, length-append, length-replicate}
+use lib.ListN.{length, replicate, length-append}
 use borrow.Author.Tests.{eqb-true, ltb-true}
 use Rattle.grammar.specs.Tokens.{Class, blank, letter, digit, dot, alone, class_of, is_blank, is_letter, is_digit, joins, joins_first, cut, spaced}
-use Rattle.grammar.specs.Grammar.{Event, Grammar, same, all_digits, is_none, is_number, is_name, word_kind, kind_of, said, Derives, done, Sentence, Viable}
+use Rattle.grammar.specs.Grammar.{Event, Grammar, same, is_number, is_name, word_kind, kind_of, said, Derives, done, Viable}
 use Rattle.grammar.specs.Machine.{Fed, dead, fed, feed, live, begins, some_fixed, possible, State, lost, at, is_lost, run, first}
 use Rattle.grammar.proofs.Tokens.{Run, one, more, run-snoc, cut-run}
 use Rattle.grammar.proofs.Derive.{join, sound}

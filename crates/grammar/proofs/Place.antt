@@ -3,13 +3,12 @@ use mathlib.Core.Path.{◌≡◌, refl, sym, ap, ◌∙◌}
 use mathlib.Core.Bool.{Bool, true, false, cond, true≢false}
 use mathlib.Core.List.{List, [], ◌∷◌, ◌++◌, append_assoc}
 use mathlib.Core.Logic.{◌↔◌}
-use Prim.Native.Nat.{ℕ, zero, suc, ◌+◌, ◌-◌, ◌≤◌, ◌<◌}
-use native.Mathlib.Nat.{add-zero, add-suc}
+use Prim.Native.Nat.{ℕ, suc, ◌+◌, ◌≤◌, ◌<◌}
 use native.Mathlib.Omega.{arith}
 use lib.ListN.{length, take, drop, take-append-drop}
 use lib.Dec.{ltb}
 use borrow.Author.Tests.{ltb-true, ltb-false}
-use lib.Seq.{take-length, take-take}
+use lib.Seq.{take-take}
 use Rattle.grammar.specs.Grammar.{Event, Grammar, Sentence, Viable}
 use Rattle.grammar.specs.Machine.{State, lost, at, is_lost, step, run, first, End, short, ended, close, Outcome, accepted, refused_at, ending, read_from, read_text}
 use Rattle.grammar.specs.Statements.{FirstWrong, Promises}

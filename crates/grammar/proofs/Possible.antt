@@ -1,11 +1,11 @@
 -- Which tokens a part of a token can become. Assumes nothing.
-use mathlib.Core.Path.{◌≡◌, refl, sym, ap, ◌∙◌}
+use mathlib.Core.Path.{◌≡◌, refl, sym, ◌∙◌}
 use mathlib.Core.Bool.{Bool, true, false, cond, true≢false, not, ◌&&◌, ◌||◌}
 use mathlib.Core.List.{List, [], ◌∷◌, ◌++◌}
 use Prim.Native.Nat.{ℕ, suc}
 use lib.Dec.{eqb}
 use Rattle.grammar.specs.Tokens.{class_of, is_digit}
-use Rattle.grammar.specs.Grammar.{Event, Rest, stop, goes, Absence, required, optional, Grammar, same, all_digits, is_none, is_number, is_name, word_kind, kind_of}
+use Rattle.grammar.specs.Grammar.{Rest, stop, goes, Absence, required, optional, Grammar, same, all_digits, is_none, is_number, is_name, word_kind, kind_of}
 use Rattle.grammar.specs.Machine.{Fed, dead, fed, feed_by, feed, live, begins, some_fixed, possible}
 use Rattle.grammar.proofs.Derive.{is_goes}
 use Rattle.grammar.proofs.Follow.{Fine}

@@ -1,7 +1,6 @@
 -- The reader of prototypes keeps its promises: the tests of its table are computed. Assumes nothing.
 use mathlib.Core.Path.{◌≡◌, refl}
 use mathlib.Core.Bool.{true}
-use mathlib.Core.List.{List, [], ◌∷◌}
 use Rattle.grammar.specs.Tokens.{class_of}
 use Rattle.grammar.specs.Grammar.{kind_of}
 use Rattle.grammar.specs.Statements.{Promises}

@@ -3,9 +3,9 @@ use mathlib.Core.Path.{◌≡◌, refl, sym, ap, ◌∙◌}
 use mathlib.Core.Bool.{Bool, true, false, cond, true≢false}
 use mathlib.Core.List.{List, [], ◌∷◌, ◌++◌, append_assoc, append-nil}
 use mathlib.Core.Logic.{◌↔◌}
-use Prim.Native.Nat.{ℕ, suc}
+use Prim.Native.Nat.{ℕ}
 use native.Mathlib.Omega.{arith}
-use Rattle.grammar.specs.Tokens.{class_of, is_blank, joins, joins_first, cut}
+use Rattle.grammar.specs.Tokens.{class_of, is_blank, joins_first, cut}
 use Rattle.grammar.specs.Grammar.{Event, Grammar, kind_of, said, Derives, Sentence}
 use Rattle.grammar.specs.Machine.{Fed, dead, fed, feed, End, short, ended, finish, live, possible, State, lost, at, keep, flushed, flush, begin, joins_run, step, run, closing, closed, close, first}
 use Rattle.grammar.proofs.Tokens.{Run, one, run-snoc, cut-run, first-token}

@@ -6,13 +6,13 @@ use Prim.Native.Nat.{ℕ, zero, suc, ◌+◌, ◌≤◌, ◌<◌}
 use native.Mathlib.Omega.{arith}
 use lib.Dec.{eqb, ltb}
 use lib.ListN.{length, get_or, get_or-eq_default}
-use borrow.Author.Tests.{eqb-true, eq-eqb, not-true, ltb-true, ltb-false}
-use Rattle.grammar.specs.Grammar.{Event, Rest, stop, goes, Absence, required, optional, Grammar, kind_of, said, Derives, done, skip}
+use borrow.Author.Tests.{eqb-true, not-true, ltb-true, ltb-false}
+use Rattle.grammar.specs.Grammar.{Event, goes, Grammar, kind_of, said, Derives, done, skip}
 use Rattle.grammar.specs.Table.{Alternative, ◌⟶◌, Entry, entry, pick, alternatives_of, absence_of, nowhere, grammar_of}
 use Rattle.grammar.specs.Machine.{Fed, dead, fed, feed, End, short, ended, is_ended, finish}
 use Rattle.grammar.proofs.Derive.{is_goes, is_optional, starts, sound, end_sound}
 use Rattle.grammar.proofs.Follow.{all_optional, Chain, Inside, Fine}
-use Rattle.grammar.proofs.Possible.{and_both, or_left, or_right}
+use Rattle.grammar.proofs.Possible.{and_both, or_right}
 use Rattle.grammar.proofs.Live.{all_hold, spelled, Fruitful}
 
 abbrev mem : ℕ → List ℕ → Bool

@@ -1,10 +1,9 @@
 -- How tokens are cut. Assumes nothing.
 use mathlib.Core.Path.{◌≡◌, refl, sym, ap, ◌∙◌}
-use mathlib.Core.Bool.{Bool, true, false, cond, true≢false}
+use mathlib.Core.Bool.{Bool, true, false, true≢false}
 use mathlib.Core.List.{List, [], ◌∷◌, ◌++◌, append_assoc, append-nil}
 use Prim.Native.Nat.{ℕ}
-use Rattle.grammar.specs.Tokens.{Class, blank, letter, digit, dot, alone, class_of, is_blank, joins, joins_first, glue, cut}
-use Rattle.grammar.specs.Machine.{joins_run}
+use Rattle.grammar.specs.Tokens.{Class, blank, letter, digit, dot, alone, class_of, is_blank, joins, joins_first, cut}
 
 -- a part of a token, or a whole one: each byte joins the next
 pub data Run : List ℕ → Type 0 where

@@ -1,5 +1,5 @@
 -- What a grammar is, which texts are its sentences, and which texts can still become one. Assumes nothing: these are definitions.
-use Rattle.std.specs.Prelude.{◌≡◌, Bool, true, false, cond, not, ◌&&◌, ◌||◌, List, [], ◌∷◌, ◌++◌, ℕ, zero, suc, ◌+◌, ◌*◌, ◌-◌, eqb}
+use Rattle.std.specs.Prelude.{◌≡◌, Bool, true, false, cond, not, ◌&&◌, ◌||◌, List, [], ◌∷◌, ◌++◌, ℕ, suc, ◌+◌, ◌*◌, ◌-◌, eqb}
 use Rattle.grammar.specs.Tokens.{class_of, is_letter, is_digit, cut}
 
 -- what a sentence says, piece by piece

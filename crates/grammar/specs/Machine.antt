@@ -1,7 +1,7 @@
 -- How a text is read, byte by byte: the part of a token that is being read, and the symbols that are still to come.
 -- Assumes nothing: these are definitions.
-use Rattle.std.specs.Prelude.{Bool, true, false, cond, ◌&&◌, ◌||◌, List, [], ◌∷◌, ◌++◌, ℕ, zero, suc, eqb}
-use Rattle.grammar.specs.Tokens.{Class, class_of, is_blank, joins}
+use Rattle.std.specs.Prelude.{Bool, true, false, cond, ◌&&◌, ◌||◌, List, [], ◌∷◌, ◌++◌, ℕ, suc, eqb}
+use Rattle.grammar.specs.Tokens.{class_of, is_blank, joins}
 use Rattle.grammar.specs.Grammar.{Event, Rest, stop, goes, Absence, required, optional, Grammar, kind_of, said, is_number, is_name}
 
 -- what a token leads to: nowhere, or these symbols, behind what was left out

@@ -3,7 +3,7 @@
 -- need of it. Assumes nothing: these are definitions.
 use Rattle.std.specs.Prelude.{true, false, List, [], ◌∷◌, ◌++◌, ℕ}
 use Rattle.listing.specs.Characters.{bytes}
-use Rattle.grammar.specs.Grammar.{Absence, required, optional, Grammar, basic, long, pointer, nothing, opened, close, size, item, result, variadic}
+use Rattle.grammar.specs.Grammar.{required, optional, Grammar, basic, long, pointer, nothing, opened, close, item, result, variadic}
 use Rattle.grammar.specs.Table.{Alternative, ◌⟶◌, Entry, entry, behind, grammar_of}
 
 -- the fixed tokens

@@ -1,7 +1,7 @@
 -- What is promised of the reader's answers. Assumes nothing: these are definitions.
 use Rattle.std.specs.Prelude.{◌≡◌, List, ◌↔◌, ℕ, suc, ◌≤◌, ◌<◌, length, take}
 use Rattle.grammar.specs.Grammar.{Event, Grammar, Sentence, Viable}
-use Rattle.grammar.specs.Machine.{Outcome, accepted, refused_at, read_text}
+use Rattle.grammar.specs.Machine.{accepted, refused_at, read_text}
 
 -- the place of a refused text: what stands before it can become a sentence, and with the byte there it cannot; or all of it can, and it is none
 pub record FirstWrong (g : Grammar) (start t : List ℕ) (p : ℕ) : Type 0 where

@@ -1,6 +1,6 @@
 -- A grammar given as a table: of each symbol, in order, whether it may be left out and what it then says, and its alternatives.
 -- Assumes nothing: these are definitions.
-use Rattle.std.specs.Prelude.{cond, List, [], ◌∷◌, ◌++◌, map, ℕ, eqb, get_or}
+use Rattle.std.specs.Prelude.{cond, List, [], ◌∷◌, ◌++◌, ℕ, eqb, get_or}
 use Rattle.grammar.specs.Grammar.{Rest, stop, goes, Absence, optional, Grammar}
 
 -- the kind of the first token, and the symbols behind it

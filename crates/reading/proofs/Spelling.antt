@@ -1,8 +1,8 @@
 -- Tokens, byte by byte. Assumes nothing.
 use mathlib.Core.Path.{◌≡◌, refl, sym, ap, ◌∙◌}
-use mathlib.Core.Bool.{Bool, true, false, cond, true≢false, not, ◌&&◌, ◌||◌}
-use mathlib.Core.List.{List, [], ◌∷◌, ◌++◌}
-use Prim.Native.Nat.{ℕ, zero, suc, ◌+◌, ◌-◌, ◌≤◌, ◌<◌}
+use mathlib.Core.Bool.{Bool, true, false, ◌&&◌, ◌||◌}
+use mathlib.Core.List.{List, [], ◌∷◌}
+use Prim.Native.Nat.{ℕ, suc, ◌+◌, ◌-◌, ◌≤◌, ◌<◌}
 use native.Mathlib.Omega.{arith}
 use lib.Dec.{eqb, ltb}
 use lib.ListN.{length, get_or, drop, take, drop_of_length-le}
@@ -11,7 +11,7 @@ use borrow.Author.Tests.{ne_eqb, eq-eqb, eqb-true, eqb-false, ltb-true, ltb-fals
 use Rattle.grammar.specs.Tokens.{Class, blank, letter, digit, dot, alone, class_of, is_blank, is_letter, is_digit, joins}
 use Rattle.grammar.specs.Grammar.{Grammar, same, all_digits, is_none, is_number, is_name, word_kind, kind_of}
 use Rattle.grammar.specs.Machine.{feed, live, begins, some_fixed, possible, joins_run}
-use Rattle.grammar.specs.Prototype.{declarations, prototype, spellings}
+use Rattle.grammar.specs.Prototype.{spellings}
 use Rattle.reading.specs.Coded.{class_code}
 
 pub slice_at : (f t : ℕ) (l : List ℕ) (j : ℕ) → f + j < t → get_or (slice f t l) j 0 ≡ get_or l (f + j) 0

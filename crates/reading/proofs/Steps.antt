@@ -2,14 +2,14 @@
 use mathlib.Core.Path.{◌≡◌, refl, sym, ap, ◌∙◌}
 use mathlib.Core.Bool.{Bool, true, false, cond, true≢false}
 use mathlib.Core.List.{List, [], ◌∷◌, ◌++◌}
-use Prim.Native.Nat.{ℕ, zero, suc, ◌+◌, ◌-◌, ◌*◌, ◌≤◌, ◌<◌}
+use Prim.Native.Nat.{ℕ, suc, ◌+◌, ◌-◌, ◌*◌, ◌≤◌, ◌<◌}
 use native.Mathlib.Omega.{arith}
-use lib.ListN.{length, get_or, drop, take, drop_of_length-le}
+use lib.ListN.{length, get_or, drop, take}
 use lib.Seq.{slice, slice-cons, slice_empty, take-suc, drop-append-le, length-take-le, drop-cons, drop-length}
 use Rattle.grammar.specs.Tokens.{class_of, is_blank}
-use Rattle.grammar.specs.Grammar.{Event, Grammar, kind_of}
-use Rattle.grammar.specs.Machine.{Fed, dead, fed, feed, flushed, flush, begin, keep, possible, joins_run, step, State, lost, at, is_lost, End, short, ended, is_ended, finish, closing, closed, close, Outcome, accepted, refused_at, ending, read_from, read_text, first}
-use Rattle.grammar.specs.Prototype.{declarations, prototype, spellings}
+use Rattle.grammar.specs.Grammar.{Event, kind_of}
+use Rattle.grammar.specs.Machine.{Fed, dead, fed, feed, flushed, flush, begin, keep, possible, joins_run, step, State, lost, at, is_lost, End, short, ended, is_ended, finish, closing, closed, close, refused_at, ending, read_from, read_text}
+use Rattle.grammar.specs.Prototype.{declarations, spellings}
 use Rattle.reading.specs.Coded.{class_code}
 use Rattle.reading.specs.Code.{tops, LeadsTo, Holds, answer_of}
 use Rattle.reading.specs.declared.Reading.{Reading}

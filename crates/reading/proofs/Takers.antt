@@ -1,6 +1,6 @@
 -- The symbols to come, as the code holds them. Assumes nothing.
 use mathlib.Core.Path.{◌≡◌, refl, sym, ap, ◌∙◌}
-use mathlib.Core.Bool.{Bool, true, false, cond, true≢false, not}
+use mathlib.Core.Bool.{true, false, not}
 use mathlib.Core.List.{List, [], ◌∷◌, ◌++◌}
 use Prim.Native.Nat.{ℕ, zero, suc, ◌+◌, ◌-◌, ◌≤◌, ◌<◌}
 use native.Mathlib.Omega.{arith}
@@ -9,8 +9,8 @@ use lib.ListN.{length, get_or, set, drop}
 use lib.Seq.{get_or-set_same, get_or-set_other, drop-cons, drop-length}
 use borrow.Author.Tests.{ne_eqb}
 use Rattle.grammar.specs.Grammar.{Event, Rest, stop, goes, Absence, required, optional, Grammar}
-use Rattle.grammar.specs.Machine.{Fed, dead, fed, feed_by, feed, live, End, short, ended, is_ended, finish_by, finish}
-use Rattle.grammar.specs.Prototype.{declarations, prototype, types}
+use Rattle.grammar.specs.Machine.{dead, fed, feed_by, feed, live, End, short, ended, is_ended, finish_by, finish}
+use Rattle.grammar.specs.Prototype.{prototype, types}
 use Rattle.reading.specs.Productions.{productions}
 use Rattle.reading.specs.Coded.{rest_at, absent_code}
 use Rattle.reading.specs.Code.{tops, takes_by, takes, LeadsTo}

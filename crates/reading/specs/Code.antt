@@ -1,7 +1,7 @@
 -- How the code holds the reader's state. Assumes nothing: these are definitions.
 use Rattle.std.specs.Prelude.{◌≡◌, Bool, true, false, cond, List, [], ◌∷◌, ℕ, zero, suc, ◌+◌, ◌-◌, ◌*◌, ◌≤◌, ◌<◌, ltb, length, get_or}
 use Rattle.std.proofs.Math.Seq.{slice}
-use Rattle.grammar.specs.Grammar.{Event, Rest, stop, goes, Absence, required, optional, Grammar}
+use Rattle.grammar.specs.Grammar.{Rest, stop, goes, Absence, required, optional, Grammar}
 use Rattle.grammar.specs.Machine.{Fed, dead, fed, State, lost, at, Outcome, accepted, refused_at, read_text}
 use Rattle.grammar.specs.Prototype.{declarations}
 use Rattle.reading.specs.declared.Reading.{Reading}

@@ -1,5 +1,5 @@
 -- How the tables hold the grammar: classes, alternatives and absences as numbers. Assumes nothing: these are definitions.
-use Rattle.std.specs.Prelude.{List, [], ◌∷◌, ℕ, zero, suc, get_or}
+use Rattle.std.specs.Prelude.{[], ℕ, zero, suc, get_or}
 use Rattle.grammar.specs.Tokens.{Class, blank, letter, digit, dot, alone}
 use Rattle.grammar.specs.Grammar.{Rest, stop, goes, Absence, required, optional}
 use Rattle.reading.specs.Productions.{productions}

@@ -1,11 +1,11 @@
 -- Over 4,096 nothing is written, else the text. Assumes nothing.
-use mathlib.Core.Path.{◌≡◌, refl, sym, ap, ◌∙◌}
+use mathlib.Core.Path.{◌≡◌, refl}
 use mathlib.Core.List.{List}
-use Prim.Native.Nat.{ℕ, ◌≤◌, ◌<◌, min}
+use Prim.Native.Nat.{ℕ, ◌≤◌, ◌<◌}
 use native.Mathlib.Omega.{arith}
 use borrow.Author.Tests.{lt-ltb, le-ltb}
 use lib.ListN.{length}
-use Rattle.listing.specs.Written.{Wrote, written}
+use Rattle.listing.specs.Written.{Wrote}
 use Rattle.declaring.specs.Length.{capped}
 use Rattle.declaring.specs.Named.{written_text}
 use Rattle.writing.specs.After.{text_after}

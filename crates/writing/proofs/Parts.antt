@@ -1,15 +1,14 @@
 -- The text of a description's named part, part by part. Assumes nothing.
-use mathlib.Core.Path.{◌≡◌, refl, sym, ap, ap₂, ◌∙◌}
-use mathlib.Core.Bool.{Bool, true, false, cond, ◌||◌}
-use mathlib.Core.List.{List, [], ◌∷◌, ◌++◌, append_assoc, append-nil}
-use Prim.Native.Nat.{ℕ, zero, suc, ◌+◌, ◌-◌, ◌≤◌, ◌<◌}
+use mathlib.Core.Path.{◌≡◌, refl, sym, ap, ◌∙◌}
+use mathlib.Core.Bool.{Bool, true, false}
+use mathlib.Core.List.{List, [], ◌∷◌, ◌++◌}
+use Prim.Native.Nat.{ℕ, suc, ◌+◌, ◌-◌, ◌≤◌, ◌<◌}
 use native.Mathlib.Omega.{arith}
 use borrow.Author.Tests.{eq-eqb, ne_eqb, leb-false}
 use lib.Dec.{eqb, leb}
 use lib.ListN.{length, length-append}
-use Rattle.description.specs.Description.{model_in, types_in, variadic_in, named_in, arguments_in, return_in, argument_at, kind_at, Whole}
+use Rattle.description.specs.Description.{model_in, types_in, variadic_in, named_in, arguments_in, return_in, argument_at, kind_at}
 use Rattle.form.proofs.Form.{or_none, accepted-headed}
-use Rattle.types.specs.Tree.{Ty}
 use Rattle.types.specs.Decode.{ty_at}
 use Rattle.types.specs.Asks.{Sized}
 use Rattle.types.proofs.Large.{accepted-form, accepted-sized}
@@ -17,11 +16,11 @@ use Rattle.uses.specs.Uses.{wrong_number, uses_refusal}
 use Rattle.uses.proofs.Uses.{accepted-types, accepted-typed, accepted-return}
 use Rattle.layout.specs.Arguments.{is_void}
 use Rattle.listing.specs.Written.{Wrote}
-use Rattle.listing.proofs.Written.{wrote_none, wrote_join, wrote_exact, wrote_same}
+use Rattle.listing.proofs.Written.{wrote_join, wrote_exact, wrote_same}
 use Rattle.listing.specs.Characters.{bytes}
 use Rattle.grammar.specs.Tokens.{spaced}
 use Rattle.declaring.specs.Writing.{type_tokens, result_tokens, further_tokens, parameter_tokens, declaration_tokens, declaration_text}
-use Rattle.tidying.specs.Call.{void, returned, trees_from, returned_by}
+use Rattle.tidying.specs.Call.{trees_from, returned_by}
 use Rattle.declaring.specs.Named.{result_of, declaration_of, written_text}
 use Rattle.writing.specs.Texts.{type_text}
 use Rattle.writing.proofs.Texts.{spaced-append}

@@ -1,14 +1,14 @@
 -- The steps of the table of lengths. Assumes nothing.
 use mathlib.Core.Path.{◌≡◌, refl, sym, ap, ◌∙◌}
-use mathlib.Core.Bool.{Bool, true, false, cond, ◌||◌}
+use mathlib.Core.Bool.{Bool, true, false, cond}
 use mathlib.Core.List.{List, [], ◌∷◌}
-use Prim.Native.Nat.{ℕ, zero, suc, ◌+◌, ◌-◌, ◌/◌, ◌≤◌, ◌<◌, min}
+use Prim.Native.Nat.{ℕ, suc, ◌+◌, ◌-◌, ◌/◌, ◌≤◌, ◌<◌}
 use native.Mathlib.Omega.{arith}
 use borrow.Author.Tests.{eq-eqb, ne_eqb, leb-false, eqb-true, eqb-false}
 use lib.Dec.{eqb, leb}
 use lib.ListN.{length, get_or, set, length-append}
 use lib.Seq.{get_or-set_same, get_or-set_other}
-use Rattle.description.specs.Description.{model_in, types_in, variadic_in, named_in, arguments_in, return_in, argument_at, kind_at, a_at, count_at, member_at}
+use Rattle.description.specs.Description.{model_in, types_in, variadic_in, named_in, return_in, argument_at, kind_at, a_at, count_at, member_at}
 use Rattle.form.proofs.Form.{or_none, accepted-headed, accepted-counts}
 use Rattle.types.specs.Asks.{Sized}
 use Rattle.types.proofs.Trees.{sized-ruled}
@@ -18,7 +18,7 @@ use Rattle.uses.proofs.Uses.{accepted-types, accepted-typed, accepted-return}
 use Rattle.layout.specs.Arguments.{is_void}
 use Rattle.listing.specs.Decimal.{decimal}
 use Rattle.listing.proofs.Decimal.{decimal-small, decimal-large}
-use Rattle.declaring.specs.Length.{words_length, braces_length, name_length, size_length, type_length, capped}
+use Rattle.declaring.specs.Length.{words_length, braces_length, name_length, capped}
 use Rattle.declaring.proofs.Cases.{each}
 use Rattle.declaring.specs.Named.{written_text}
 use Rattle.declaring.specs.Lengths.{members_from, length_from, length_at, arguments_from, whole_from}

@@ -1,14 +1,13 @@
 -- The text of a type, part by part. Assumes nothing.
 use mathlib.Core.Path.{◌≡◌, refl, sym, ap, ap₂, ◌∙◌}
-use mathlib.Core.Bool.{Bool, true, false, cond}
-use mathlib.Core.List.{List, [], ◌∷◌, ◌++◌, append_assoc, append-nil}
-use Prim.Native.Nat.{ℕ, zero, suc, ◌+◌, ◌-◌, ◌≤◌, ◌<◌}
+use mathlib.Core.Bool.{Bool, true, false}
+use mathlib.Core.List.{List, [], ◌∷◌, ◌++◌, append_assoc}
+use Prim.Native.Nat.{ℕ, suc, ◌+◌, ◌-◌, ◌≤◌, ◌<◌}
 use native.Mathlib.Omega.{arith}
-use borrow.Author.Tests.{eq-eqb, ne_eqb}
 use lib.Dec.{eqb}
 use lib.ListN.{length, length-append}
-use Rattle.description.specs.Description.{model_in, kind_at, a_at, count_at, member_at, members_in}
-use Rattle.types.specs.Tree.{Ty, Tys, basic, array, struct, union, none, more, group}
+use Rattle.description.specs.Description.{model_in, kind_at, a_at, count_at, member_at}
+use Rattle.types.specs.Tree.{Tys, basic, group}
 use Rattle.types.specs.Decode.{tys_from, ty_at}
 use Rattle.types.specs.Asks.{Sized}
 use Rattle.types.proofs.Records.{View, v0, v1, v2, view}
@@ -18,7 +17,7 @@ use Rattle.listing.specs.Written.{Wrote}
 use Rattle.listing.proofs.Written.{wrote_none, wrote_join, wrote_exact, wrote_same}
 use Rattle.listing.specs.Characters.{bytes}
 use Rattle.grammar.specs.Tokens.{spaced}
-use Rattle.declaring.specs.Writing.{words, words_of, member_name, sizes_of, type_tokens, member_tokens}
+use Rattle.declaring.specs.Writing.{member_name, sizes_of, type_tokens, member_tokens}
 use Rattle.writing.specs.Texts.{words_text, type_text, sizes_text, members_text, group_text, AskMembers}
 
 -- ---- words

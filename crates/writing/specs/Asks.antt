@@ -1,5 +1,5 @@
 -- The table of lengths. Assumes nothing: these are definitions.
-use Rattle.std.specs.Prelude.{◌≡◌, List, ℕ, ◌≤◌, ◌<◌, length, get_or}
+use Rattle.std.specs.Prelude.{◌≡◌, List, ℕ, ◌≤◌, ◌<◌, get_or}
 use Rattle.declaring.specs.Lengths.{length_at}
 
 -- the entries of the types below n are there

@@ -1,5 +1,5 @@
 -- The parts of the text of a description's named part. Assumes nothing: these are definitions.
-use Rattle.std.specs.Prelude.{Bool, true, false, cond, List, [], ℕ, ◌-◌, eqb}
+use Rattle.std.specs.Prelude.{Bool, true, false, List, [], ℕ, eqb}
 use Rattle.description.specs.Description.{variadic_in, named_in}
 use Rattle.listing.specs.Characters.{bytes}
 use Rattle.grammar.specs.Tokens.{spaced}

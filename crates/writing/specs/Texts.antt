@@ -1,5 +1,5 @@
 -- The texts of a description's types, and what the functions that write them ask. Assumes nothing: these are definitions.
-use Rattle.std.specs.Prelude.{Bool, true, false, List, ℕ, ◌+◌, ◌≤◌, ◌<◌, length}
+use Rattle.std.specs.Prelude.{Bool, true, false, List, ℕ, ◌+◌, ◌≤◌, ◌<◌}
 use Rattle.description.specs.Description.{model_in, members_in, member_at}
 use Rattle.types.specs.Decode.{tys_from, ty_at}
 use Rattle.types.specs.Asks.{Sized}

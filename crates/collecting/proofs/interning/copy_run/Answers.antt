@@ -1,7 +1,7 @@
 use mathlib.Core.Path.{refl, ◌∙◌}
 use Prim.Native.Nat.{◌+◌}
 use native.Mathlib.Omega.{arith}
-use lib.ListN.{length, get_or, length-set}
+use lib.ListN.{get_or, length-set}
 use Rattle.collecting.proofs.Adding.{copy_on, copy_start, copy_end}
 use Rattle.collecting.proofs.interning.copy_run.Goals as goal
 

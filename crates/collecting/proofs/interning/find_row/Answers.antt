@@ -1,9 +1,7 @@
 use mathlib.Core.Path.{sym, ◌∙◌}
-use mathlib.Core.Bool.{false}
 use native.Mathlib.Omega.{arith}
 use Rattle.collecting.specs.Arrays.{row_by}
 use Rattle.collecting.proofs.Rows.{find-here, none-on, find-end}
-use Rattle.collecting.specs.Rows.{same_row}
 use Rattle.collecting.proofs.interning.find_row.Goals as goal
 
 pub loop-j-init : goal.loop-j-init

@@ -1,9 +1,7 @@
 use mathlib.Core.Path.{refl}
-use Rattle.collecting.specs.Bounded.{raise}
 use native.Mathlib.Omega.{arith}
 use borrow.Author.Rules.{rules}
 use Rattle.collecting.proofs.Adding.{keeps_low, array-offered, raise-on, raise-start, raise-end}
-use Rattle.types.specs.Basic.{sizes}
 use Rattle.collecting.proofs.interning.raise_all.Goals as goal
 
 pub loop-i-init : goal.loop-i-init

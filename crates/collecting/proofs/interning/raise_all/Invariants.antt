@@ -5,7 +5,6 @@ use Prim.Native.Nat.{◌≤◌}
 use lib.ListN.{length, take, drop}
 use Rattle.collecting.specs.Bounded.{raise}
 use Rattle.collecting.specs.Arrays.{Keeps, kept_by}
-use Rattle.types.specs.Basic.{sizes}
 use Rattle.collecting.proofs.interning.raise_all.Given as goal
 
 abbrev pub invariant-loop-i : goal.invariant-loop-i

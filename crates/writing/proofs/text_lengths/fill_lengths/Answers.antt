@@ -1,6 +1,6 @@
 use mathlib.Core.Path.{sym, ◌∙◌}
 use native.Mathlib.Omega.{arith}
-use lib.ListN.{length, length-set}
+use lib.ListN.{length-set}
 use Rattle.writing.proofs.Steps.{entry-low, lengths_none, lengths-next, headed, few-types, type-sized, table_done}
 use Rattle.writing.proofs.text_lengths.fill_lengths.Goals as goal
 

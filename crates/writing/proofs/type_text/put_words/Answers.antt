@@ -1,8 +1,6 @@
 -- `put_words` meets its contract: the words of each code.
 -- Assumes nothing.
-use mathlib.Core.Path.{◌≡◌, refl}
 use native.Mathlib.Omega.{arith}
-use Rattle.declaring.proofs.Cases.{each}
 use Rattle.declaring.specs.Writing.{words, words_of}
 use Rattle.writing.specs.Texts.{words_text}
 use Rattle.writing.proofs.Texts.{words-room, words-is}
