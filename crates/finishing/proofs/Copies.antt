@@ -1,7 +1,7 @@
 -- Argument after argument into its part of the buffer, and the record on behind it. Assumes nothing.
-use mathlib.Core.Path.{◌≡◌, refl, sym, ap, ap₂, subst, ◌∙◌}
+use mathlib.Core.Path.{◌≡◌, refl, sym, ap, ap₂, ◌∙◌}
 use mathlib.Core.Bool.{false}
-use mathlib.Core.List.{List, [], ◌∷◌, ◌++◌, append-nil, append_assoc}
+use mathlib.Core.List.{List, [], ◌++◌, append-nil, append_assoc}
 use Prim.Native.Nat.{ℕ, suc, ◌+◌, ◌-◌, ◌≤◌, ◌<◌}
 use native.Mathlib.Omega.{arith}
 use lib.ListN.{length, get_or, take, drop, length-append, length-drop}
@@ -21,14 +21,14 @@ use Rattle.station.proofs.Kcb.{kcb-arguments}
 use Rattle.walk.specs.declared.Walk.{Walk}
 use Rattle.walk.specs.declared.Fetch.{Fetch}
 use Rattle.walk.specs.Offsets.{Source, read_at, step, bytes_from, source_of}
-use Rattle.walk.specs.Orders.{Ask, asking, offsets_of, with_offsets, astray}
+use Rattle.walk.specs.Orders.{Ask, asking, offsets_of, with_offsets}
 use Rattle.walk.specs.Steps.{bytes_at, moved_on}
 use Rattle.walk.specs.Asks.{InBounds, Within}
 use Rattle.walk.proofs.Checks.{Genuine, astray-not, on-unnamed, shape_here}
 use Rattle.walk.proofs.Passes.{Fetchable, fetchable}
 use Rattle.finishing.specs.Rest.{remaining, sizes_from, bytes_over, moved_over}
 use Rattle.finishing.specs.Asks.{Judged}
-use Rattle.finishing.proofs.Moves.{genuine_moves, moved-number, remaining-next, remaining-none, moved-next, sizes-rest}
+use Rattle.finishing.proofs.Moves.{genuine_moves, remaining-next, remaining-none, moved-next, sizes-rest}
 use Rattle.finishing.proofs.Equal.{genuine_right}
 
 -- the part that is lent for one argument is as long as the argument

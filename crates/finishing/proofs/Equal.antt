@@ -1,8 +1,8 @@
 -- "Where it accepts, its answer, end record and bytes equal stepping one by one". Assumes nothing.
 use mathlib.Core.Path.{◌≡◌, refl, sym, ap, ap₂, subst, ◌∙◌}
-use mathlib.Core.Bool.{Bool, true, false, not, ◌||◌}
+use mathlib.Core.Bool.{true, false, not}
 use mathlib.Core.List.{List, [], ◌∷◌, ◌++◌}
-use Prim.Native.Nat.{ℕ, zero, suc, ◌%◌, ◌≤◌, ◌<◌}
+use Prim.Native.Nat.{ℕ, zero, suc, ◌%◌, ◌<◌}
 use native.Mathlib.Omega.{arith}
 use lib.Dec.{eqb}
 use lib.ListN.{length, get_or, replicate}
@@ -17,12 +17,12 @@ use Rattle.station.proofs.Orders.{or-false}
 use Rattle.walk.specs.declared.Walk.{Walk}
 use Rattle.walk.specs.Offsets.{read_at, bytes_from}
 use Rattle.walk.specs.Orders.{Ask, offsets_of, standing, other_number, astray, at_end, other_type, wrong_stack, wrong_out, step_refusal, show_refusal}
-use Rattle.walk.specs.Steps.{bytes_at, moved_on, step_walk, step_out}
+use Rattle.walk.specs.Steps.{bytes_at, moved_on, step_out}
 use Rattle.walk.proofs.Checks.{Genuine, astray-not, rest-right, show-rest}
 use Rattle.walk.proofs.Steps.{step-late, step-done}
-use Rattle.finishing.specs.Rest.{AskRest, step_ask, remaining, differs, other_types, finish_refusal, bytes_over, moved_over, finish_walk, finish_out}
-use Rattle.finishing.specs.Steps.{steps_answer, steps_walk, steps_out, OneByOne, EqualsSteps, RestIsSteps}
-use Rattle.finishing.proofs.Orders.{Going, Finishing, finish-passes, finish-done}
+use Rattle.finishing.specs.Rest.{AskRest, step_ask, remaining, differs, other_types, bytes_over, moved_over}
+use Rattle.finishing.specs.Steps.{steps_answer, steps_walk, steps_out, OneByOne, RestIsSteps}
+use Rattle.finishing.proofs.Orders.{Finishing, finish-passes, finish-done}
 use Rattle.finishing.proofs.Moves.{moved-number, genuine_moves, remaining-next}
 
 all-at : (Q : Shape → Type 0) (o : Shape) (ss : List Shape) (p : ℕ) → All Q ss → p < length ss → Q (get_or ss p o)

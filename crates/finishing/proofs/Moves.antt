@@ -1,7 +1,7 @@
 -- Step after step: a record that stands where the description says moves to the next that does, to the end. Assumes nothing.
 use mathlib.Core.Path.{◌≡◌, refl, sym, ap, ap₂, ◌∙◌}
 use mathlib.Core.List.{List}
-use Prim.Native.Nat.{ℕ, zero, suc, ◌+◌, ◌-◌, ◌%◌, ◌≤◌, ◌<◌}
+use Prim.Native.Nat.{ℕ, suc, ◌+◌, ◌-◌, ◌%◌, ◌≤◌, ◌<◌}
 use native.Mathlib.Omega.{arith}
 use lib.ListN.{take}
 use Rattle.places.specs.Shapes.{Shaped}
@@ -11,11 +11,11 @@ use Rattle.places.proofs.Offsets.{after-slotted}
 use Rattle.station.specs.Paper.{Paper, arguments, shape_at, used_at}
 use Rattle.walk.specs.declared.Walk.{Walk}
 use Rattle.walk.specs.Offsets.{Offsets, walk_at}
-use Rattle.walk.specs.Orders.{Ask, with_offsets, standing}
+use Rattle.walk.specs.Orders.{with_offsets, standing}
 use Rattle.walk.specs.Steps.{moved_on}
 use Rattle.walk.proofs.Agreement.{step-agrees}
 use Rattle.walk.proofs.Checks.{Genuine}
-use Rattle.finishing.specs.Rest.{remaining, sizes_from, bytes_over, moved_over}
+use Rattle.finishing.specs.Rest.{remaining, sizes_from, moved_over}
 
 module _ (P : Paper) where
   -- the record that stands before p moves to the one that stands before the next

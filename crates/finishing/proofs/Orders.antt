@@ -2,13 +2,12 @@
 use mathlib.Core.Path.{◌≡◌, refl, sym, ap, ◌∙◌}
 use mathlib.Core.Logic.{◌↔◌, ◌≢◌}
 use mathlib.Core.Bool.{Bool, true, false, not, ◌||◌}
-use mathlib.Core.List.{List, [], ◌∷◌, ◌++◌}
+use mathlib.Core.List.{List, [], ◌∷◌}
 use Prim.Native.Nat.{ℕ, ◌<◌}
 use native.Mathlib.Omega.{arith}
-use lib.Dec.{eqb}
 use lib.ListN.{length}
 use borrow.Author.Tests.{eq-eqb, ne_eqb, eqb-true, not-false}
-use Rattle.form.specs.Order.{Rule, rule, first, NoneHolds, Answers, Positive}
+use Rattle.form.specs.Order.{rule, first, NoneHolds, Answers, Positive}
 use Rattle.form.specs.Reading.{refusal_of}
 use Rattle.form.specs.declared.Refusal.{Refusal}
 use Rattle.form.proofs.Order.{first-behind, first-before, first-both, positive-append, accepts-exactly, refuses-exactly}
@@ -19,7 +18,7 @@ use Rattle.station.proofs.Orders.{first_rest, or-false, kept, left}
 use Rattle.station.proofs.Attachments.{under_none, under-high}
 use Rattle.walk.specs.declared.Walk.{Walk}
 use Rattle.walk.specs.Orders.{asking, wrong_registers, other_number, astray, wrong_stack}
-use Rattle.finishing.specs.Rest.{AskRest, step_ask, remaining, wrong_count, other_types, sizes_from, wrong_room, later_order, later_refusal, seated_order, seated_refusal, finish_order, finish_refusal, bytes_over, moved_over, walk_left, out_left, finish_walk, finish_out}
+use Rattle.finishing.specs.Rest.{AskRest, step_ask, remaining, wrong_count, other_types, sizes_from, wrong_room, later_order, later_refusal, seated_refusal, finish_order, finish_refusal, bytes_over, moved_over, walk_left, out_left, finish_walk, finish_out}
 
 module _ (P : Paper) (s : Station) (d : List ℕ) (w : Walk) (stack asked : List ℕ) (n : ℕ) where
   -- ---- behind 1 to 10, test by test

@@ -1,5 +1,5 @@
 -- The walk over 000's figure computes: every call answers what is told. Assumes nothing.
-use mathlib.Core.Path.{◌≡◌, refl}
+use mathlib.Core.Path.{refl}
 use Rattle.units.specs.Raise.{raise}
 use Rattle.description.specs.Description.{IsBytes, header_of, kind_at, a_at, count_at, member_at, argument_at, variadic_in, model_in}
 use Rattle.form.specs.Conditions.{too_short, wrong_mark, wrong_version, wrong_counts, wrong_length, broken_basic, broken_array, broken_run, broken_record, wrong_record}

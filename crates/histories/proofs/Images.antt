@@ -1,12 +1,11 @@
 -- The images that are placed for values: how long they are, and that the values are gathered from them again. Assumes nothing.
 use mathlib.Core.Path.{◌≡◌, refl, sym, ap, ◌∙◌}
-use mathlib.Core.Bool.{Bool}
 use mathlib.Core.List.{List, [], ◌∷◌, ◌++◌}
 use Prim.Native.Nat.{ℕ, zero, suc, ◌+◌, ◌<◌}
 use native.Mathlib.Omega.{arith}
 use lib.ListN.{length, get_or, take, drop, replicate, length-replicate, length-take, length-drop, take-append-drop}
 use lib.Seq.{take_at, drop_at}
-use Rattle.addresses.specs.Addresses.{run, gather, All}
+use Rattle.addresses.specs.Addresses.{gather, All}
 use Rattle.addresses.proofs.Scatter.{length-scatter, gather-scatter, gather_append}
 use Rattle.places.specs.declared.Used.{Used}
 use Rattle.places.specs.Shapes.{Shape, Shaped}

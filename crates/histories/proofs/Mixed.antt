@@ -1,5 +1,5 @@
 -- All the rest at once, among all other calls: the same as the steps that it stands for. Assumes nothing.
-use mathlib.Core.Path.{◌≡◌, refl, sym, ap, ap₂, subst, ◌∙◌}
+use mathlib.Core.Path.{◌≡◌, refl, sym, ap, ap₂, ◌∙◌}
 use mathlib.Core.Bool.{Bool, true, false, cond}
 use mathlib.Core.List.{List, [], ◌∷◌, ◌++◌, map, append-nil, append_assoc}
 use Prim.Native.Nat.{ℕ, zero, suc}
@@ -7,21 +7,20 @@ use native.Mathlib.Omega.{arith}
 use lib.Dec.{eqb}
 use lib.ListN.{length, get_or, replicate, length-replicate}
 use borrow.Author.Tests.{eqb-true, eq-eqb}
-use Rattle.station.specs.declared.Station.{Station}
 use Rattle.station.specs.Outcome.{leaves}
 use Rattle.station.specs.Paper.{Paper, shape_at}
 use Rattle.station.specs.Attachment.{described}
 use Rattle.walk.specs.declared.Walk.{Walk}
 use Rattle.walk.specs.Orders.{Ask, step_refusal}
 use Rattle.walk.specs.Steps.{step_walk, step_out}
-use Rattle.finishing.specs.Rest.{AskRest, step_ask, finish_refusal, finish_walk, finish_out}
+use Rattle.finishing.specs.Rest.{AskRest, finish_refusal, finish_walk, finish_out}
 use Rattle.finishing.specs.Steps.{steps_answer, steps_walk, steps_out, OneByOne, RestIsSteps}
 use Rattle.finishing.proofs.Orders.{finish-left}
 use Rattle.finishing.proofs.Equal.{rest-is_steps}
-use Rattle.histories.specs.Calls.{Desk, Call, stepping, with_walk, call, calls, handed_by, handed}
+use Rattle.histories.specs.Calls.{Desk, stepping, with_walk, calls, handed_by, handed}
 use Rattle.histories.specs.Lawful.{Lawful}
 use Rattle.histories.specs.Values.{joined}
-use Rattle.histories.specs.Mixed.{Item, one, finishing, item, items, bytes_by, bytes_of, singles, spelt, written, WrittenOut, Mixed}
+use Rattle.histories.specs.Mixed.{Item, one, finishing, item, bytes_by, singles, spelt, written, WrittenOut, Mixed}
 use Rattle.histories.proofs.Turns.{put_same}
 use Rattle.histories.proofs.Frames.{calls-append, handed-append}
 

@@ -1,24 +1,15 @@
 -- The part that show answers is the bytes that a step would write, where these lie in one part (C9). Assumes nothing.
-use mathlib.Core.Path.{◌≡◌, refl, sym, ap, ap₂, ◌∙◌}
+use mathlib.Core.Path.{◌≡◌, refl, ap₂, ◌∙◌}
 use mathlib.Core.Logic.{◌≢◌}
-use mathlib.Core.Bool.{Bool, true, false, cond, ◌||◌, false≢true}
-use mathlib.Core.List.{List, [], ◌∷◌, ◌++◌, append-nil}
-use Prim.Native.Nat.{ℕ, ◌+◌, ◌*◌, ◌-◌, ◌≤◌, ◌<◌, min}
+use mathlib.Core.Bool.{Bool, true, false, cond, ◌||◌}
+use mathlib.Core.List.{List, [], ◌++◌}
+use Prim.Native.Nat.{ℕ, ◌≤◌, ◌<◌}
 use native.Mathlib.Omega.{arith}
-use lib.ListN.{length, get_or, take, drop}
+use lib.ListN.{length, get_or}
 use borrow.Author.Tests.{eq-eqb, ne_eqb}
-use Rattle.addresses.specs.Addresses.{run, gather, All}
-use Rattle.addresses.proofs.Runs.{all-run, run-shift, gather-run}
-use Rattle.addresses.proofs.Parts.{gather-left, gather-right}
-use Rattle.places.specs.declared.Kind.{Kind}
-use Rattle.places.specs.declared.Kind.TheVariants.{General as general, Vector as vector, Upper as upper}
-use Rattle.places.specs.declared.Used.{Used}
-use Rattle.places.specs.Shapes.{Shape, Led, Shaped}
-use Rattle.places.specs.Places.{registers_for, fits, start, place_if, place}
-use Rattle.places.specs.Statements.{Seated}
-use Rattle.places.specs.Images.{slots, spread, total}
-use Rattle.places.proofs.Fits.{fits-true}
-use Rattle.places.proofs.Apart.{spread-adjoin, slots-inside}
+use Rattle.addresses.specs.Addresses.{gather}
+use Rattle.places.specs.Places.{place}
+use Rattle.places.specs.Images.{total}
 use Rattle.station.specs.declared.Station.{Station}
 use Rattle.station.specs.Paper.{Paper, arguments, shape_at, used_at}
 use Rattle.station.specs.Attachment.{described}
@@ -29,8 +20,7 @@ use Rattle.walk.specs.Steps.{bytes_at}
 use Rattle.walk.proofs.Checks.{astray-not}
 use Rattle.walk.proofs.Passes.{show-passes, room, genuine_reads}
 use Rattle.walk.proofs.Shown.{part_bytes}
-use Rattle.walk.specs.declared.showing.ShownAnswer.TheVariants.{Registers, Apart}
-use Rattle.walk.specs.Show.{one_piece, head_of, whole, part_in, shown_bytes, shown_in, shown_answer, show_part}
+use Rattle.walk.specs.Show.{whole, part_in, shown_bytes, shown_in, shown_answer, show_part}
 use Rattle.histories.specs.Calls.{Lends}
 use Rattle.histories.specs.Lawful.{Lawful, Holds}
 use Rattle.histories.specs.Values.{cut, images_for}

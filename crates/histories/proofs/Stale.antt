@@ -11,7 +11,6 @@ use Rattle.addresses.specs.Addresses.{All}
 use Rattle.description.specs.Description.{IsBytes}
 use Rattle.form.specs.Order.{rule, first}
 use Rattle.station.specs.declared.Station.{Station}
-use Rattle.station.specs.Outcome.{leaves}
 use Rattle.station.specs.Paper.{Paper}
 use Rattle.station.specs.Attachment.{wrong_seat, detach_refusal, detach_station, detach_seat, attach_refusal, attach_station, attach_seat, change_refusal, change_station, change_seat}
 use Rattle.station.proofs.Changes.{detach-number}

@@ -1,29 +1,23 @@
 -- Laws of the arguments of the 386 kind: one after another, what is used between two of them, and what each is sure of. Assumes nothing.
 use mathlib.Core.Path.{◌≡◌, refl, ap, ◌∙◌}
-use mathlib.Core.Bool.{Bool, true, false, cond, false≢true}
+use mathlib.Core.Bool.{Bool, true, false, false≢true}
 use mathlib.Core.List.{List, [], ◌∷◌, ◌++◌}
-use Prim.Native.Nat.{ℕ, zero, suc, ◌+◌, ◌-◌, ◌%◌, ◌≤◌, ◌<◌, max}
+use Prim.Native.Nat.{ℕ, zero, suc, ◌+◌, ◌-◌, ◌%◌, ◌≤◌, ◌<◌}
 use native.Mathlib.Nat.{add-zero, suc-add, zero-add}
 use native.Mathlib.Numerals.{sub-one}
 use native.Mathlib.Omega.{arith}
-use borrow.Author.Tests.{lt-leb}
-use lib.Dec.{leb}
-use lib.ListN.{length, take, drop}
+use lib.ListN.{length, drop}
 use Rattle.addresses.specs.Addresses.{All}
-use Rattle.description.specs.Description.{arguments_in, argument_at}
-use Rattle.units.specs.Raise.{raise}
+use Rattle.description.specs.Description.{argument_at}
 use Rattle.types.specs.Decode.{ty_at}
-use Rattle.places.specs.declared.Used.{Used}
 use Rattle.places.specs.Shapes.{Shape, Shaped}
-use Rattle.places.specs.Places.{Place, on_stack, fours, fits, start, place_if, next_if, place, next, after, area}
+use Rattle.places.specs.Places.{fours, next, after}
 use Rattle.places.specs.Statements.{Seated}
-use Rattle.places.specs.Images.{total}
 use Rattle.places.proofs.Prefix.{after-append, total-append}
 use Rattle.places.proofs.Offsets.{after-slotted}
 use Rattle.walk.specs.Offsets.{Narrow}
-use Rattle.old_types.specs.Size.{align_ty}
-use Rattle.old_types.proofs.Sizes.{Small, by_one, by_two, by_four, small-align, small_is, small-high}
-use Rattle.intel386.specs.Arguments.{shape_at, shapes_from, shapes, hidden, before, used_first, used_at, value_start}
+use Rattle.old_types.proofs.Sizes.{Small, small-align, small_is}
+use Rattle.intel386.specs.Arguments.{shape_at, shapes_from, hidden, before, used_first, used_at, value_start}
 
 -- what a shape of the 386 kind is
 pub record Plain (s : Shape) : Type 0 where

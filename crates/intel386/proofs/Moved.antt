@@ -1,19 +1,17 @@
 -- The image of the 386 kind is a sound frame and its orders are as they should be: so what is proved of any layout holds of it. Assumes nothing.
 use mathlib.Core.Path.{◌≡◌, refl, sym, ap, ◌∙◌}
-use mathlib.Core.Bool.{Bool, true, false, cond}
+use mathlib.Core.Bool.{Bool, true, false}
 use mathlib.Core.List.{List, [], ◌∷◌}
 use mathlib.Core.Logic.{◌≢◌, ◌↔◌}
-use Prim.Native.Nat.{ℕ, ◌+◌, ◌^◌, ◌≤◌, ◌<◌}
+use Prim.Native.Nat.{ℕ, ◌^◌, ◌<◌}
 use native.Mathlib.Omega.{arith}
 use borrow.Author.Tests.{eq-eqb, eqb-true, not-false}
-use lib.Dec.{eqb}
 use lib.ListN.{length}
 use Rattle.description.specs.declared.Model.TheVariants.{Ilp32}
-use Rattle.form.specs.Order.{rule, first, NoneHolds}
+use Rattle.form.specs.Order.{rule, first}
 use Rattle.form.proofs.Order.{none-till, without-append, held, first-behind}
 use Rattle.form.proofs.Form.{or_none}
 use Rattle.moving.specs.Address.{wrong_address}
-use Rattle.moving.specs.Frames.{Frame}
 use Rattle.moving.specs.Movers.{Ordered}
 use Rattle.moving.specs.Orders.{wrong_bool, gather_order, gather_refusal, place_refusal}
 use Rattle.moving.proofs.Address.{address-wrong, address_right, address-unused}

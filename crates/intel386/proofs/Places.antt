@@ -1,30 +1,29 @@
 -- The places of the 386 kind: one for each value byte, no two the same, all in the area and none in the hidden address; offsets are multiples of 4, each
 -- argument right behind the one before; and a walk has one offset. Assumes nothing.
-use mathlib.Core.Path.{◌≡◌, refl, sym, ap, ◌∙◌}
-use mathlib.Core.Bool.{Bool, true, false, cond, ◌||◌}
+use mathlib.Core.Path.{◌≡◌, refl, ap, ◌∙◌}
+use mathlib.Core.Bool.{Bool, true, false, ◌||◌}
 use mathlib.Core.List.{List, [], ◌∷◌}
-use Prim.Native.Nat.{ℕ, zero, suc, ◌+◌, ◌*◌, ◌%◌, ◌≤◌, ◌<◌, max}
+use Prim.Native.Nat.{ℕ, zero, suc, ◌+◌, ◌%◌, ◌≤◌, ◌<◌, max}
 use native.Mathlib.Omega.{arith}
 use borrow.Author.Tests.{lt-leb}
-use lib.Dec.{leb}
-use lib.ListN.{length, get_or, take}
-use Rattle.addresses.specs.Addresses.{run, All, NoDup, Below, Absent}
+use lib.ListN.{length, take}
+use Rattle.addresses.specs.Addresses.{All, NoDup, Below, Absent}
 use Rattle.addresses.proofs.Lists.{all_map}
 use Rattle.addresses.proofs.Runs.{all-run, nodup_run}
 use Rattle.description.specs.Description.{arguments_in}
 use Rattle.units.specs.Raise.{raise}
 use Rattle.places.specs.declared.Used.{Used}
-use Rattle.places.specs.Shapes.{Shape, Shaped}
-use Rattle.places.specs.Places.{Place, on_stack, fours, fits, start, stacking, place, next, after, area}
-use Rattle.places.specs.Statements.{Free, OnePlaceEach, LowestOffset, RoundedUp}
+use Rattle.places.specs.Shapes.{Shape}
+use Rattle.places.specs.Places.{on_stack, fours, fits, start, stacking, place, next, after, area}
+use Rattle.places.specs.Statements.{Free, OnePlaceEach, RoundedUp}
 use Rattle.places.proofs.Apart.{apart, after-grows}
-use Rattle.places.proofs.Offsets.{rounded-up, stack-rounded, area-rounded}
+use Rattle.places.proofs.Offsets.{stack-rounded, area-rounded}
 use Rattle.moving.specs.Frames.{Sound}
 use Rattle.station.specs.Paper.{used_at as paper_used}
 use Rattle.walk.specs.Offsets.{walk_at}
 use Rattle.walk.specs.Orders.{standing}
 use Rattle.old_types.proofs.Sizes.{Small, by_one, by_two, by_four, small-high}
-use Rattle.intel386.specs.Arguments.{shape_at, shapes_from, shapes, hidden, address_for, before, used_first, used_at, area_of, addresses_of, values_of}
+use Rattle.intel386.specs.Arguments.{shape_at, shapes, hidden, address_for, used_first, used_at, area_of, addresses_of, values_of}
 use Rattle.intel386.specs.Paper.{intel386}
 use Rattle.intel386.specs.Images.{frame_of}
 use Rattle.intel386.specs.Statements.{Stacked}

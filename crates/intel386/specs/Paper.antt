@@ -1,6 +1,6 @@
 -- The paper of the 386 kind: "The walk there is a single offset, on a station and a seat of its own, with document 01's orders and these sizes" (document 02,
 -- request 2026-12), so that station, walk and histories are those of any paper. Assumes nothing: these are definitions.
-use Rattle.std.specs.Prelude.{List, map, ℕ, eqb}
+use Rattle.std.specs.Prelude.{map, eqb}
 use Rattle.std.proofs.Common.{arith}
 use Rattle.addresses.specs.Addresses.{run}
 use Rattle.description.specs.Description.{variadic_in, named_in, arguments_in, argument_at}

@@ -1,10 +1,9 @@
 -- What is proved of the calls of the 386 kind: document 02, request 2026-12. Assumes nothing: these are definitions.
-use Rattle.std.specs.Prelude.{◌≡◌, ◌↔◌, true, List, ℕ, ◌+◌, ◌≤◌, ◌<◌, length, get_or, take}
+use Rattle.std.specs.Prelude.{◌≡◌, ◌↔◌, true, List, ℕ, ◌+◌, ◌≤◌, length}
 use Rattle.addresses.specs.Addresses.{All}
 use Rattle.description.specs.Description.{arguments_in}
 use Rattle.form.specs.Order.{Answers, NoneHolds}
-use Rattle.places.specs.Shapes.{Shape}
-use Rattle.places.specs.Places.{Place, on_stack, fours, place}
+use Rattle.places.specs.Places.{on_stack, fours, place}
 use Rattle.places.specs.Statements.{OnePlaceEach, LowestOffset, RoundedUp}
 use Rattle.moving.specs.Orders.{place_refusal, gather_refusal}
 use Rattle.moving.specs.Statements.{PlacesAll, AddressUnseen, GathersPlaced, PlacesGathered, UnusedUnseen, TwelveExactly, NoSharedImage}

@@ -1,13 +1,12 @@
 -- The arguments and the returned type of a description that none of 1 to 6, 28 and 7 to 9 refuses: each has a type of at most 4,096 bytes, so that no sum
 -- overflows. Assumes nothing.
-use mathlib.Core.Path.{◌≡◌, refl, sym, ap, ◌∙◌}
+use mathlib.Core.Path.{◌≡◌, sym, ap, ◌∙◌}
 use mathlib.Core.Bool.{Bool, true, false, cond}
 use mathlib.Core.List.{List}
 use Prim.Native.Nat.{ℕ, zero, suc, ◌+◌, ◌*◌, ◌≤◌, ◌<◌}
 use native.Mathlib.Numerals.{add-one}
 use native.Mathlib.Omega.{arith}
 use borrow.Author.Tests.{ne_eqb}
-use lib.Dec.{eqb}
 use lib.ListN.{get_or}
 use Rattle.description.specs.Description.{types_in, arguments_in, return_in, argument_at}
 use Rattle.units.specs.Raise.{raise}
@@ -17,14 +16,13 @@ use Rattle.types.specs.Table.{IsEntry}
 use Rattle.types.specs.declared.Extent.{Extent}
 use Rattle.uses.proofs.Uses.{right-below}
 use Rattle.old_types.specs.Size.{size_ty}
-use Rattle.old_types.specs.Asks.{IsExtent}
 use Rattle.old_types.proofs.Orders.{accepted-kept, accepted-counts, accepted-small}
 use Rattle.old_types.proofs.Table.{entry-low, entry-extent}
-use Rattle.intel386.specs.Arguments.{shape_at, hidden, before, used_first, used_at, value_start}
+use Rattle.intel386.specs.Arguments.{shape_at, hidden, before, used_at, value_start}
 use Rattle.intel386.specs.Verdict.{uses_refusal}
 use Rattle.intel386.proofs.Arguments.{used-none, values-none, values-next}
 use Rattle.intel386.proofs.Places.{stack-next}
-use Rattle.old_layout.specs.Asks.{Known, IsLaid, AskArguments}
+use Rattle.old_layout.specs.Asks.{Known, IsLaid}
 use Rattle.old_layout.specs.declared.laying.Laying.{Laying}
 use Rattle.old_layout.proofs.Uses.{accepted-types, accepted-typed, accepted-return}
 

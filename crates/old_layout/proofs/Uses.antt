@@ -3,11 +3,11 @@ use mathlib.Core.Path.{◌≡◌, refl, ◌∙◌}
 use mathlib.Core.Bool.{Bool, true, false, cond}
 use mathlib.Core.List.{List, [], ◌∷◌}
 use mathlib.Core.Logic.{◌↔◌, ◌≢◌}
-use Prim.Native.Nat.{ℕ, ◌+◌, ◌-◌, ◌≤◌, ◌<◌}
+use Prim.Native.Nat.{ℕ, ◌-◌, ◌≤◌, ◌<◌}
 use native.Mathlib.Omega.{arith}
-use borrow.Author.Tests.{ltb-false, leb-false, lt-ltb, le-ltb}
-use lib.Dec.{leb, ltb, eqb}
-use Rattle.description.specs.Description.{types_in, named_in, arguments_in, return_in, kind_at, argument_at, Whole}
+use borrow.Author.Tests.{ltb-false, lt-ltb, le-ltb}
+use lib.Dec.{ltb, eqb}
+use Rattle.description.specs.Description.{types_in, named_in, arguments_in, return_in, argument_at, Whole}
 use Rattle.form.specs.Order.{rule, NoneHolds, Answers, Positive}
 use Rattle.form.proofs.Order.{refuses-exactly, accepts-exactly, first-before, first-behind, first-both, positive-append}
 use Rattle.form.proofs.Search.{first-least}

@@ -1,23 +1,23 @@
 -- The refusals 1 to 6, 28 and 7 of the 386 kind: which number, from what code looks at, and what a description is sure of that gets none. Assumes nothing.
-use mathlib.Core.Path.{◌≡◌, refl, sym, ap, ◌∙◌}
+use mathlib.Core.Path.{◌≡◌, refl, sym, ◌∙◌}
 use mathlib.Core.Bool.{Bool, true, false, cond, ◌||◌}
-use mathlib.Core.List.{List, [], ◌∷◌, ◌++◌}
+use mathlib.Core.List.{List, [], ◌∷◌}
 use mathlib.Core.Logic.{◌≢◌, ⊎_elim}
 use Prim.Native.Nat.{ℕ, ◌+◌, ◌≤◌, ◌<◌}
 use native.Mathlib.Nat.{eq-or-lt_of_le}
 use native.Mathlib.Omega.{arith}
-use borrow.Author.Tests.{ltb-true, ltb-false}
+use borrow.Author.Tests.{ltb-false}
 use lib.Dec.{ltb}
 use lib.ListN.{length}
 use Rattle.description.specs.Description.{IsBytes, types_in, flags_in, Whole}
-use Rattle.form.specs.Conditions.{too_short, wrong_mark, wrong_version, wrong_counts, wrong_length, wrong_record, first_broken, Counts, broken_record}
-use Rattle.form.specs.Order.{Rule, rule, first, NoneHolds, Positive, Without, form_refusal as form_refusal64, form_order as form_order64}
-use Rattle.form.proofs.Order.{accepts-exactly, first-before, first-behind, first-both, none-till}
+use Rattle.form.specs.Conditions.{too_short, wrong_mark, wrong_version, wrong_counts, wrong_length, wrong_record, Counts, broken_record}
+use Rattle.form.specs.Order.{Rule, rule, first, NoneHolds, Positive, form_refusal as form_refusal64}
+use Rattle.form.proofs.Order.{accepts-exactly, first-before, first-behind, first-both}
 use Rattle.form.proofs.Form.{or_none, accepted-exactly, accepted-headed as form-headed, accepted-counts as form-counts, accepted-whole as form-whole, accepted-records as form-records, accepted-length}
 use Rattle.form.proofs.Search.{first-least}
 use Rattle.types.specs.Decode.{ty_at}
 use Rattle.old_types.specs.Size.{size_ty}
-use Rattle.old_types.specs.Conditions.{wrong_flags, omitted, first_omitted, left_out, large, first_large, too_large, form_order, form_refusal, kept_order, kept_refusal, types_order, types_refusal}
+use Rattle.old_types.specs.Conditions.{wrong_flags, left_out, large, first_large, too_large, form_order, form_refusal, kept_order, kept_refusal, types_order, types_refusal}
 use Rattle.old_types.specs.Asks.{Sized}
 
 pub form-positive : (d : List ℕ) → Positive (form_order d)

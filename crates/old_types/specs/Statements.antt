@@ -1,5 +1,5 @@
 -- What is proved of the sizes of the 386 kind: document 02, request 2026-12. Assumes nothing: these are definitions.
-use Rattle.std.specs.Prelude.{◌≡◌, map, ℕ, ◌≤◌}
+use Rattle.std.specs.Prelude.{◌≡◌, map, ◌≤◌}
 use Rattle.description.specs.declared.Model.{Model}
 use Rattle.types.specs.Tree.{Ty}
 use Rattle.types.specs.Basic.{basic_size as basic_size64, basic_align as basic_align64}

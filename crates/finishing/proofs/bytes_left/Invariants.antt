@@ -2,7 +2,6 @@
 -- Assumes nothing.
 use Prim.Native.Nat.{◌-◌}
 use Rattle.finishing.proofs.Checks.{Summed}
-use Rattle.station.specs.Paper.{arguments}
 use Rattle.finishing.proofs.bytes_left.Given as goal
 
 abbrev pub invariant-loop-at : goal.invariant-loop-at

@@ -3,7 +3,6 @@
 use native.Mathlib.Omega.{arith}
 use borrow.Author.Rules.{rules}
 use Rattle.types.specs.Size.{end_after}
-use Rattle.types.specs.Tree.{union}
 use Rattle.types.proofs.Sizes.{offset-high}
 use Rattle.old_types.proofs.extents.end_after.Goals as goal
 

@@ -3,7 +3,6 @@
 use Rattle.types.specs.declared.Extent.{Extent}
 use Rattle.old_types.specs.Asks.{SizedRun, IsRun}
 use Rattle.types.specs.Decode.{tys_from, ty_at}
-use Rattle.form.specs.Order.{first}
 use Rattle.old_types.proofs.extents.members_extent.Given as goal
 
 abbrev pub invariant-loop-left : goal.invariant-loop-left
