@@ -1,5 +1,5 @@
 -- Request 2026-05, of the definitions and of the call. Assumes nothing.
-use mathlib.Core.Path.{◌≡◌, refl, sym, ap, subst, ◌∙◌}
+use mathlib.Core.Path.{refl, sym, ap, subst, ◌∙◌}
 use mathlib.Core.List.{List}
 use Prim.Native.Nat.{ℕ}
 use Rattle.tightness.proofs.Laws.{result, told, bytes}
@@ -18,7 +18,7 @@ use Rattle.histories.proofs.Kcb.{kcb-lawful}
 use Rattle.histories.proofs.Mixed.{mixed}
 use Rattle.flat.specs.declared.Station.{Station}
 use Rattle.flat.specs.declared.Walk.{Walk}
-use Rattle.flat.specs.Stations.{station_meant, walk_meant, flat_walk}
+use Rattle.flat.specs.Stations.{station_meant, walk_meant}
 use Rattle.flat.proofs.Kept.{walk-means}
 use Rattle.flat.specs.contracts.Walk as walk
 use Rattle.c_calls.specs.Outcome.{refusal_in, left_in}

@@ -1,6 +1,6 @@
 -- Demand 3 is met: each line cites a law. Assumes nothing.
 use mathlib.Core.Path.{◌≡◌, sym, subst}
-use mathlib.Core.List.{List, ◌++◌}
+use mathlib.Core.List.{List}
 use Prim.Native.Nat.{ℕ}
 use Rattle.addresses.specs.Addresses.{All}
 use Rattle.images.specs.Words.{little_endian}

@@ -3,7 +3,7 @@ use mathlib.Core.Path.{◌≡◌, refl, sym, ap, ap₂, ◌∙◌, subst}
 use mathlib.Core.Logic.{◌≢◌}
 use mathlib.Core.Bool.{Bool, true, false, cond}
 use mathlib.Core.List.{List, [], ◌∷◌, ◌++◌}
-use Prim.Native.Nat.{ℕ, zero, suc, ◌+◌, ◌^◌, ◌≤◌, ◌<◌}
+use Prim.Native.Nat.{ℕ, zero, suc, ◌+◌, ◌^◌, ◌<◌}
 use native.Mathlib.Omega.{arith}
 use borrow.Author.Tests.{eq-eqb, ne_eqb, eqb-true}
 use lib.Dec.{ltb, eqb}
@@ -29,7 +29,7 @@ use Rattle.questions.specs.Offsets.{offsets_refusal, OffsetAt, offsets_after}
 use Rattle.questions.proofs.Offsets.{offsets-answered}
 use Rattle.questions.proofs.Runs.{run-filled}
 use Rattle.layout.specs.declared.Layout.{Layout as Whole}
-use Rattle.layout.specs.Arguments.{hidden, used_at, return_place}
+use Rattle.layout.specs.Arguments.{hidden, return_place}
 use Rattle.layout.specs.Verdict.{verdict}
 use Rattle.layout.specs.Layout.{values_of, layout_of, layout_answer}
 use Rattle.layout.specs.Placements.{placement_at}
@@ -45,9 +45,9 @@ use Rattle.moving.specs.Answers.{place_answer, gather_answer, registers_after, u
 use Rattle.returning.specs.declared.TakeAnswer.TheVariants.{Taken as TakenOut}
 use Rattle.returning.specs.Image.{return_value, in_memory, trimmed}
 use Rattle.returning.specs.Orders.{put_refusal, take_refusal}
-use Rattle.returning.specs.Answers.{put_answer, take_answer, image_after, upper_after as returned_upper, images_after as returned_images, value_after, put_number, take_number}
+use Rattle.returning.specs.Answers.{put_answer, take_answer, image_after, upper_after as returned_upper, images_after as returned_images, value_after}
 use Rattle.station.specs.declared.Station.{Station as Attached}
-use Rattle.station.specs.Paper.{kcb, refusal_under}
+use Rattle.station.specs.Paper.{kcb}
 use Rattle.station.specs.Outcome.{leaves}
 use Rattle.station.specs.Attachment.{wrong_seat, described, new_station, attach_refusal, attach_station, attach_seat, detach_refusal, detach_station, detach_seat, change_refusal, change_station, change_seat}
 use Rattle.station.proofs.Attachments.{detach-right, detach-done as detached}
@@ -69,7 +69,7 @@ use Rattle.flat.specs.declared.Placed.{Placed}
 use Rattle.flat.specs.declared.Gathered.{Gathered}
 use Rattle.flat.specs.declared.Station.{Station}
 use Rattle.flat.specs.declared.Walk.{Walk}
-use Rattle.flat.specs.Meanings.{layout_meant, summary_of}
+use Rattle.flat.specs.Meanings.{summary_of}
 use Rattle.flat.specs.Records.{placement_of, layout_of as flat_layout}
 use Rattle.flat.specs.Parts.{nowhere, of_description}
 use Rattle.flat.specs.Stations.{station_meant, flat_station, walk_meant, flat_walk}
@@ -115,13 +115,13 @@ use Rattle.callbridge.specs.contracts.cb_change
 use Rattle.callbridge.specs.contracts.cb_open_walk
 use Rattle.callbridge.specs.contracts.cb_step
 use Rattle.callbridge.specs.contracts.cb_show
-use Rattle.promises.specs.Meaning.{Meaning, accepted, outcome, number_of, of_refusal, class_list, of_placing, of_gathering, of_putting, of_taking, none, run, shown_part, Answered}
-use Rattle.promises.specs.Orders.{question_order, check_order, layout_order, open_order, show_order, attach_order, detach_order, change_order, step_order, put_order}
+use Rattle.promises.specs.Meaning.{Meaning, accepted, outcome, of_refusal, class_list, none, run, shown_part, Answered}
+use Rattle.promises.specs.Orders.{question_order, check_order, layout_order, show_order, attach_order, detach_order, change_order, step_order, put_order}
 use Rattle.promises.specs.WrongType.{Names}
 use Rattle.promises.specs.Demand1.{members}
-use Rattle.promises.specs.Exports.{Fills, GivesPart, extent_read, classes_read, members_read, layout_read, shown_read, bytes_in, Checks, OffsetsFlat, LaysOutFlat, Lists, PlacesFlat, GathersFlat, PutsFlat, TakesFlat, AttachesFlat, DetachesFlat, OpensFlat, StepsFlat, ShowsFlat, Exports, Back, GathersBack, NeverTheSame, TakenBack, TakesBack, HostDesk, desk_meant, AttachDone, DetachDone, with_record, OpenDone, StepDone, ShowDone, WriteDone, Done, Played, nothing, then, PlaysHistory, ChangesFlat, ChangeDone}
+use Rattle.promises.specs.Exports.{Fills, GivesPart, extent_read, classes_read, members_read, layout_read, shown_read, bytes_in, Checks, OffsetsFlat, LaysOutFlat, PlacesFlat, GathersFlat, PutsFlat, TakesFlat, AttachesFlat, DetachesFlat, OpensFlat, StepsFlat, ShowsFlat, Exports, GathersBack, NeverTheSame, TakesBack, HostDesk, desk_meant, AttachDone, DetachDone, with_record, OpenDone, StepDone, ShowDone, Done, Played, nothing, then, PlaysHistory, ChangesFlat, ChangeDone}
 use Rattle.promises.proofs.Answering.{answered, decided_number}
-use Rattle.promises.proofs.Numbers.{extent_means, classes-listed, classes-means, run-means, layout-means as whole-means, list_means, placing-means, gathering_means, putting-means, taking-means, opening-means, shown-means}
+use Rattle.promises.proofs.Numbers.{extent_means, classes-listed, classes-means, run-means, placing-means, gathering_means, putting-means, taking-means, opening-means, shown-means}
 use Rattle.promises.proofs.WrongType.{wrong_type}
 use Rattle.promises.proofs.Demand1.{demand_1}
 use Rattle.promises.proofs.Demand2.{demand_2}

@@ -20,13 +20,11 @@ use Rattle.moving.proofs.Extending.{same_bytes, bytes_stay, goes_on}
 use Rattle.station.proofs.Orders.{kept}
 use Rattle.flat.specs.declared.Layout.{Layout}
 use Rattle.flat.specs.Records.{layout_of as flat_layout}
-use Rattle.flat.specs.contracts.Placement as placement-record
 use Rattle.flat.specs.contracts.Layout as layout-record
 use Rattle.c_calls.specs.Outcome.{refusal_in, left_in}
 use Rattle.c_calls.specs.LayoutCalls.{list_given}
 use Rattle.callbridge.proofs.Told.{list_told}
 use Rattle.callbridge.specs.contracts.cb_lay_out
-use Rattle.callbridge.specs.contracts.cb_place_values
 use Rattle.promises.specs.Extending.{SamePlace, NoSmaller, Extending}
 use Rattle.promises.proofs.Exports.{exports, told-number, along}
 

@@ -56,7 +56,7 @@ use Rattle.places.specs.Shapes.{Shape}
 use Rattle.station.specs.Paper.{shape_at}
 use Rattle.walk.specs.Show.{one_piece, part_in, shown_in, shown_answer}
 use Rattle.walk.specs.declared.showing.ShownAnswer.TheVariants.{Refused as NotShown}
-use Rattle.promises.specs.Meaning.{accepted, refused, outcome, of_reading, of_extent, of_size, of_align, class_list, of_classes, run, none, of_run, of_layout, of_placing, of_gathering, of_putting, of_taking, of_opening, of_shown, shown_part}
+use Rattle.promises.specs.Meaning.{accepted, outcome, of_reading, of_extent, of_size, of_align, class_list, of_classes, run, none, of_run, of_layout, of_placing, of_gathering, of_putting, of_taking, of_opening, of_shown, shown_part}
 use Rattle.promises.specs.Demand1.{members}
 use Rattle.promises.proofs.Answering.{decided_by, decided}
 

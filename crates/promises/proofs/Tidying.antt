@@ -1,7 +1,6 @@
 -- Request 2026-03, of the definitions and of the calls. Assumes nothing.
 use mathlib.Core.Path.{◌≡◌, refl, sym, ap, ◌∙◌}
 use mathlib.Core.Logic.{◌↔◌, ◌≢◌}
-use mathlib.Core.Bool.{cond}
 use mathlib.Core.List.{List}
 use Prim.Native.Nat.{ℕ}
 use borrow.Author.Tests.{eq-eqb, ne_eqb}
@@ -16,7 +15,7 @@ use Rattle.station.proofs.Orders.{kept}
 use Rattle.flat.specs.declared.Tidied.{Tidied}
 use Rattle.flat.specs.contracts.Tidied as tidied-record
 use Rattle.tidying.specs.Answers.{tidied, length_refusal, tidy_refusal, length_answer, tidy_after}
-use Rattle.tidying.specs.Statements.{Tidiable, TidyBytes, SameCall}
+use Rattle.tidying.specs.Statements.{TidyBytes, SameCall}
 use Rattle.tidying.proofs.Answering.{length-none_exactly, tidiable-length, tidy-accepts, accepts-tidiable}
 use Rattle.tidying.proofs.Tidied.{same_exactly, tidy-form}
 use Rattle.tidying.proofs.Wellformed.{tidy-table}
@@ -30,7 +29,7 @@ use Rattle.callbridge.specs.contracts.cb_tidy
 use Rattle.promises.specs.Meaning.{outcome, Answered}
 use Rattle.promises.specs.Orders.{tidy_length_order, tidy_order}
 use Rattle.promises.specs.WrongType.{Names}
-use Rattle.promises.specs.Tidying.{TellsLength, TidiesFlat, SameOut, TidiesTwice, LengthSuits, Tidying}
+use Rattle.promises.specs.Tidying.{TellsLength, TidiesFlat, Tidying}
 use Rattle.promises.proofs.Answering.{answered}
 use Rattle.promises.proofs.WrongType.{names, alone}
 use Rattle.promises.proofs.Exports.{fills, told-number, refusal-told, answered-by, along}

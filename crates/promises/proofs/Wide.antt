@@ -1,7 +1,7 @@
 -- Vectors of 32 bytes in registers and on the stack (request 2026-06), and what the area is rounded up to. Assumes nothing.
 use mathlib.Core.Path.{◌≡◌, refl, sym, ap, ◌∙◌}
 use mathlib.Core.Logic.{◌⊎◌, inl, inr}
-use mathlib.Core.Bool.{Bool, true, false, cond, not, ◌&&◌, ◌||◌, true≢false}
+use mathlib.Core.Bool.{Bool, true, false, cond, ◌||◌, true≢false}
 use mathlib.Core.List.{List, [], ◌∷◌}
 use Prim.Native.Nat.{ℕ, zero, suc, ◌+◌, ◌-◌, ◌≤◌, ◌<◌}
 use native.Mathlib.Numerals.{add-one}
@@ -16,7 +16,7 @@ use Rattle.places.specs.declared.Kind.TheVariants.{Wide as wide}
 use Rattle.places.specs.declared.Register.TheVariants.{Wide}
 use Rattle.places.specs.declared.Used.{Used}
 use Rattle.places.specs.Shapes.{kinds_of, kinds_for, shape_of}
-use Rattle.places.specs.Places.{eights, Place, in_registers, on_stack, start, place, next, fits}
+use Rattle.places.specs.Places.{eights, in_registers, on_stack, start, fits}
 use Rattle.places.specs.Statements.{Lacks}
 use Rattle.places.proofs.Fits.{fits-false, place-fits, place-not, next_fits, next-not, stack-exactly, stack-step}
 use Rattle.layout.specs.Arguments.{is_named, shape_at, used_at}

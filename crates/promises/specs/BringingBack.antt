@@ -2,7 +2,7 @@
 -- each. Putting and taking follow the return places; unused bytes are zero .. Putting then taking gives the same value, those six bytes apart." And request
 -- 2026-06: "Bytes 16 to 31 stand .. for a returned value in a second return image of 16", the upper return image: the two are one list of 96 bytes here.
 -- What `put_returned` and `take_returned` answer and leave; proofs/BringingBack.antt proves `BringingBack`. Assumes nothing: these are definitions.
-use Rattle.std.specs.Prelude.{◌≡◌, List, map}
+use Rattle.std.specs.Prelude.{◌≡◌, map}
 use Rattle.addresses.specs.Addresses.{run}
 use Rattle.returning.specs.Image.{return_image}
 use Rattle.returning.specs.Cases.{ImageCase, puts, hidden, image_cases}

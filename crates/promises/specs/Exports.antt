@@ -3,7 +3,7 @@
 -- step from one call to condition C: a history of admitted calls is the history of its theorems. Assumes nothing: these are definitions.
 use Rattle.std.specs.Prelude.{◌≡◌, ◌≢◌, true, false, cond, List, [], ◌∷◌, ◌++◌, ℕ, suc, ◌+◌, ◌-◌, ◌^◌, ◌≤◌, ◌<◌, ltb, eqb, length, get_or, take, drop, replicate}
 use denote.Triple.Entry.{Res}
-use denote.Triple.Clauses.{Ended, Lasts}
+use denote.Triple.Clauses.{Lasts}
 use Rattle.tightness.specs.Tight.{Call as Made, Admits}
 use Rattle.addresses.specs.Addresses.{gather}
 use Rattle.description.specs.Description.{named_in, arguments_in, kind_at, count_at, model_in}

@@ -1,7 +1,7 @@
 -- Request 2026-01, "Where the type is wrong", beside demand 1: "Refusals 6 and 7 now return the lowest type number that breaks the rule, and every
 -- call that passes such a refusal on passes the number too. All other refusals give 0 there." proofs/WrongType.antt proves `WrongType`.
 -- Assumes nothing: these are definitions.
-use Rattle.std.specs.Prelude.{◌≡◌, ◌≢◌, true, List, ℕ, ◌<◌, length}
+use Rattle.std.specs.Prelude.{◌≡◌, ◌≢◌, true, List, ℕ, ◌<◌}
 use Rattle.description.specs.Description.{types_in, model_in}
 use Rattle.form.specs.declared.Refusal.{Refusal}
 use Rattle.form.specs.declared.Reading.{Reading}

@@ -12,7 +12,7 @@ use Rattle.units.specs.declared.Bytes.{Bytes}
 use Rattle.places.specs.declared.Kind.{Kind}
 use Rattle.places.specs.declared.Kind.TheVariants.{General as general, Vector as vector, Upper as upper, Wide as wide}
 use Rattle.places.specs.declared.Kinds.{Kinds}
-use Rattle.places.specs.declared.Kinds.TheVariants.{Stack as None, One as Single, Two as Pair}
+use Rattle.places.specs.declared.Kinds.TheVariants.{Stack as NoRegister, One as Single, Two as Pair}
 use Rattle.places.specs.declared.Shape.{Shape as Coded}
 use Rattle.places.specs.Shapes.{has_some}
 use Rattle.places.specs.Places.{eights, general_for, vector_for, generals, vectors}
@@ -35,7 +35,7 @@ pub single-few : (k : Kind) (n m : ℕ) → n ≡ generals (k ∷ []) → m ≡ 
 single-few k n m p q = (omega (arith, general-few k), omega (arith, general-few k))
 
 pub listed-few : (k : Kinds) → (generals (listed k) ≤ 2) × (vectors (listed k) ≤ 2)
-listed-few None = (omega arith, omega arith)
+listed-few NoRegister = (omega arith, omega arith)
 listed-few (Single k) = (omega (arith, general-few k), omega (arith, general-few k))
 listed-few (Pair j k) = (omega (arith, general-few j, general-few k), omega (arith, general-few j, general-few k))
 
@@ -78,7 +78,7 @@ holds-last w k r limit e l m p =
     (ap not p ∙ not_over w.vector.0 limit ∙ ap (leb w.vector.0) m)
 
 -- a type that goes on the stack by its class does not hold
-pub none-fits : (w : Walk) (k : Kinds) (b : Bool) → k ≡ None → b ≡ holds (offsets_of w) (listed k) → b ≡ true → ⊥
+pub none-fits : (w : Walk) (k : Kinds) (b : Bool) → k ≡ NoRegister → b ≡ holds (offsets_of w) (listed k) → b ≡ true → ⊥
 none-fits w k b e p q = true≢false (sym q ∙ p ∙ sym (holds-none w k (rw e)))
 
 -- ---- where it is fetched
