@@ -234,15 +234,15 @@ pub levels-end : (N Q : List Row) (m : ℕ) (over : Bool) (P : Bool → Type 0) 
 unfolding Levels
 levels-end N Q m over P l = l.1
 
-LevelsMore : (N Q : List Row) (m : ℕ) (over : Bool) (f : Open) (g : Pending) (fs : List Open) (gs : List Pending) (P : Bool → Type 0)
+levels-more : (N Q : List Row) (m : ℕ) (over : Bool) (f : Open) (g : Pending) (fs : List Open) (gs : List Pending) (P : Bool → Type 0)
     → Fits N Q m over → Framed f g m over → Levels N Q f.before g.over fs gs P → Levels N Q m over (f ∷ fs) (g ∷ gs) P
 unfolding Levels
-LevelsMore N Q m over f g fs gs P a b c = (a, (b, c))
+levels-more N Q m over f g fs gs P a b c = (a, (b, c))
 
-LevelsFirst : (N Q : List Row) (m : ℕ) (over : Bool) (f : Open) (g : Pending) (fs : List Open) (gs : List Pending) (P : Bool → Type 0)
+levels-first : (N Q : List Row) (m : ℕ) (over : Bool) (f : Open) (g : Pending) (fs : List Open) (gs : List Pending) (P : Bool → Type 0)
     → Levels N Q m over (f ∷ fs) (g ∷ gs) P → Framed f g m over × Levels N Q f.before g.over fs gs P
 unfolding Levels
-LevelsFirst N Q m over f g fs gs P l = l.1
+levels-first N Q m over f g fs gs P l = l.1
 
 levels-few : (N Q : List Row) (m : ℕ) (over : Bool) (g : Pending) (gs : List Pending) (P : Bool → Type 0) → Levels N Q m over [] (g ∷ gs) P → ⊥
 unfolding Levels
@@ -282,7 +282,7 @@ opened-near l u n b e =
       many = e.many;
       low = omega arith;
       hand = alike-code over n.base b.base e.base;
-      levels = LevelsMore N Q (length N) over _ _ n.frames b.frames (Outer n b) (fits-top N Q over z.says z.rows)
+      levels = levels-more N Q (length N) over _ _ n.frames b.frames (Outer n b) (fits-top N Q over z.says z.rows)
           (record { union = refl; kept = e.base; members = λ h. refl; low = omega arith; before = λ h. ap length (z.rows h) }) z.levels;
       variadic = e.variadic;
       base = e.base;
@@ -305,7 +305,7 @@ close-near l n b (f ∷ fs) (g ∷ gs) e =
     let N = let_go n.rows n.hand in
     let Q = back b.rows b.hand in
     let over = mark b.over b.hand in
-    let p = LevelsFirst N Q (length N) over f g fs gs (Outer n b) z.levels in
+    let p = levels-first N Q (length N) over f g fs gs (Outer n b) z.levels in
     let k = keep-right N Q over (group_row f.union f.members) (group_row g.union g.members) z.says z.rows (λ h. ap₂ group_row p.0.union (p.0.members h)) in
     let more = intern-longer N (group_row f.union f.members) in
     record {
@@ -377,7 +377,7 @@ item-near l n b (f ∷ fs) (g ∷ gs) high e =
     let later : Longer b.rows r.rows = longer-on b.rows t.rows r.rows (take-up_longer b.over b.rows b.hand) (raised-longer b.sizes t) in
     let fit = levels-fit _ _ _ _ (f ∷ fs) (g ∷ gs) (Outer n b) e.levels in
     let was : r.over ≡ false → mark b.over b.hand ≡ false = λ h. fits-before n.rows b.rows m.rows (room n.rows n.hand) (mark b.over b.hand) r.over fit more k.says h in
-    let p = LevelsFirst n.rows b.rows (room n.rows n.hand) (mark b.over b.hand) f g fs gs (Outer n b) e.levels in
+    let p = levels-first n.rows b.rows (room n.rows n.hand) (mark b.over b.hand) f g fs gs (Outer n b) e.levels in
     let low : f.before ≤ length n.rows = omega (arith, p.0.low, e.low) in
     record {
       says = k.says;
@@ -385,7 +385,7 @@ item-near l n b (f ∷ fs) (g ∷ gs) high e =
       many = e.many;
       low = omega arith;
       hand = alike-code r.over n.base b.base e.base;
-      levels = LevelsMore m.rows r.rows (length m.rows) r.over _ _ fs gs (Outer n b) (fits-top m.rows r.rows r.over k.says k.rows)
+      levels = levels-more m.rows r.rows (length m.rows) r.over _ _ fs gs (Outer n b) (fits-top m.rows r.rows r.over k.says k.rows)
           (record {
             union = p.0.union;
             kept = p.0.kept;
