@@ -23,6 +23,12 @@ refused n refusal found e = by (eqb n 0) refl e
     by true q e = cc
     by false q e = (eqb-false n 0 q, cc)
 
+pub judgment-none : (n : ℕ) (refusal : Refusal) → n ≡ 0 → Ok (tt {0}) ≡ judgment n refusal
+judgment-none n refusal e = rw e
+
+pub judgment-some : (n : ℕ) (refusal : Refusal) → n ≢ 0 → Err refusal ≡ judgment n refusal
+judgment-some n refusal h = rw (ne_eqb n 0 h)
+
 -- what is answered behind it
 module _ {T : Type 0} (n : ℕ) (refusal : Refusal) (answer : Result T Refusal) where
   pub passed_on : Ok (tt {0}) ≡ judgment n refusal → cond (eqb n 0) answer (Err refusal) ≡ answer
