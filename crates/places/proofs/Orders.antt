@@ -1,18 +1,24 @@
 -- What the tests of two counts or sizes say. Assumes nothing.
-use Rattle.std.proofs.Common.{◌≡◌, Bool, true, false, sym, ◌∙◌, ℕ, ◌≤◌, ◌<◌, arith, is_le, is_gt, nat_cmp}
-use Rattle.std.proofs.lemmas.Map.Keys.{le_from_is_le, le_from_not_gt}
-use Rattle.std.specs.Cmp.{nat_cmp_is}
-use Rattle.std.specs.Ordering.{Ordering}
-use Rattle.std.specs.Ordering.TheVariants.{Less, Equal, Greater}
-use native.Mathlib.Decide.{dec_lt}
+use mathlib.Core.Path.{◌≡◌, refl, sym, ap, ◌∙◌}
+use mathlib.Core.Bool.{Bool, true, false, true≢false}
+use Prim.Native.Nat.{ℕ, ◌≤◌, ◌<◌}
+use native.Mathlib.Omega.{arith}
 use borrow.Author.Tests.{le-leb, lt-leb}
 use lib.Dec.{leb}
+use Rattle.std.specs.Ordering.{is_le, is_gt, nat_cmp}
+use Rattle.std.proofs.lemmas.Cmp.{ranked, by_ranked}
+use Rattle.std.proofs.lemmas.Map.Keys.{le_from_is_le}
 
-less : (a b : ℕ) → a < b → nat_cmp a b ≡ Less
-less a b l = sym (nat_cmp_is a b Less l)
+module _ (a b : ℕ) where
+  pub over_from_gt : is_gt (nat_cmp a b) ≡ true → b < a
+  over_from_gt h = by_ranked (a < b) (a ≡ b) (b < a) (nat_cmp a b) (ranked a b _ refl) (λ e _. absurd (true≢false (sym h ∙ ap is_gt e))) (λ e _. absurd (true≢false (sym h ∙ ap is_gt e))) (λ _ l. l)
 
-greater : (a b : ℕ) → b < a → nat_cmp a b ≡ Greater
-greater a b l = sym (nat_cmp_is a b Greater l)
+  pub over_from_not_le : is_le (nat_cmp a b) ≡ false → b < a
+  over_from_not_le h = by_ranked (a < b) (a ≡ b) (b < a) (nat_cmp a b) (ranked a b _ refl) (λ e _. absurd (true≢false (sym (ap is_le e) ∙ h))) (λ e _. absurd (true≢false (sym (ap is_le e) ∙ h))) (λ _ l. l)
 
-pub le-leb_test : (a b : ℕ) → is_le (nat_cmp a b) ≡ leb a b
-le-leb_test a b = ?
+  pub le-leb_test : is_le (nat_cmp a b) ≡ leb a b
+  le-leb_test = by (is_le (nat_cmp a b)) refl
+    where
+      by : (t : Bool) → is_le (nat_cmp a b) ≡ t → t ≡ leb a b
+      by true e = sym (le-leb a b (le_from_is_le a b e))
+      by false e = sym (lt-leb a b (over_from_not_le e))

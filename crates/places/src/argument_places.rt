@@ -65,7 +65,11 @@ impl Used {
         requires { (self.old.general.0 ≤ 7) × (self.old.vector.0 ≤ 9) }
         ensures { (result ≡ register_for self.old.general.0 self.old.vector.0 kind) × (self.new ≡ taking self.old (kind ∷ [])) }
     {
-        let Used { general, vector, .. } = *self;
+        let Used {
+            general,
+            vector,
+            ..
+        } = *self;
         match kind {
             Kind::General => {
                 self.general = general + Registers(1);

@@ -42,7 +42,8 @@ pub fn kinds_of(first: Class, second: Class) -> Kinds
     }
     match (kind_of(first), kind_of(second)) {
         (Some(low), Some(high)) => Kinds::Two(low, high),
-        (Some(kind), None) | (None, Some(kind)) => Kinds::One(kind),
+        (Some(kind), None) => Kinds::One(kind),
+        (None, Some(kind)) => Kinds::One(kind),
         (None, None) => Kinds::Stack,
     }
 }

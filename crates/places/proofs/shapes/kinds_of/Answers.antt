@@ -19,8 +19,8 @@ returns-in-Some-Some c = pair-kinds _ _ (sym c.goes_on_stack.ensures ∙ c.if-go
 pub returns-in-Some-None : goal.returns-in-Some-None
 returns-in-Some-None c = pair-kinds _ _ (sym c.goes_on_stack.ensures ∙ c.if-goes_on_stack.false) (sym c.goes_on_stack-else-goes_on_stack.ensures ∙ c.if-goes_on_stack-2.false) (Some _) None (ap at_most_one (sym c.in-Some-None.is-0) ∙ c.kind_of.ensures) (ap at_most_one (sym c.in-Some-None.is-1) ∙ c.kind_of-2.ensures)
 
-pub returns-in-Some-None-2 : goal.returns-in-Some-None-2
-returns-in-Some-None-2 c = pair-kinds _ _ (sym c.goes_on_stack.ensures ∙ c.if-goes_on_stack.false) (sym c.goes_on_stack-else-goes_on_stack.ensures ∙ c.if-goes_on_stack-2.false) None (Some _) (ap at_most_one (sym c.in-Some-None.is-0) ∙ c.kind_of.ensures) (ap at_most_one (sym c.in-Some-None.is-1) ∙ c.kind_of-2.ensures)
+pub returns-in-None-Some : goal.returns-in-None-Some
+returns-in-None-Some c = pair-kinds _ _ (sym c.goes_on_stack.ensures ∙ c.if-goes_on_stack.false) (sym c.goes_on_stack-else-goes_on_stack.ensures ∙ c.if-goes_on_stack-2.false) None (Some _) (ap at_most_one (sym c.in-None-Some.is-0) ∙ c.kind_of.ensures) (ap at_most_one (sym c.in-None-Some.is-1) ∙ c.kind_of-2.ensures)
 
 pub returns-in-None-None : goal.returns-in-None-None
 returns-in-None-None c = pair-kinds _ _ (sym c.goes_on_stack.ensures ∙ c.if-goes_on_stack.false) (sym c.goes_on_stack-else-goes_on_stack.ensures ∙ c.if-goes_on_stack-2.false) None None (ap at_most_one (sym c.in-None-None.is-0) ∙ c.kind_of.ensures) (ap at_most_one (sym c.in-None-None.is-1) ∙ c.kind_of-2.ensures)
