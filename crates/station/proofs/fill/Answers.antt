@@ -1,8 +1,7 @@
--- A cleared seat with the description copied into it.
+-- The description, then zeros.
 -- Assumes nothing.
-use mathlib.Core.Path.{◌∙◌}
-use Rattle.station.proofs.Attachments.{filled-seat}
+use Rattle.std.proofs.Common.{rules}
 use Rattle.station.proofs.fill.Goals as goal
 
 pub returns : goal.returns
-returns c = c.copy.ensures ∙ filled-seat c.args.seat.now _ c.args.d.now c.requires.0 c.requires.1 c.clear.ensures
+returns c = let h = c.fill.ensures.after in let g = c.fill.ensures.len in let k = c.fill.ensures.clones in ?
