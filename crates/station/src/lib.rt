@@ -7,7 +7,7 @@ ghost use Rattle.station.specs.Attachment.{new_station, wrong_seat, seat_of, att
 ghost use Rattle.station.specs.Paper.{kcb, answer_under};
 ghost use Rattle.station.specs.Outcome.{answer_of};
 
-use form::Refusal;
+use form::{Reason, Refusal};
 use units::Bytes;
 
 // What the host keeps of a seat: whether a description is attached there, how long it is, and the number of the last attachment.
@@ -35,7 +35,7 @@ pub fn new_station() -> Station
 pub fn wrong_seat(station: Station, seat: &[u8]) -> bool
     ensures { result ≡ wrong_seat station seat.now }
 {
-    seat.len() != 586 || station.length.0 > 586
+    seat.len() != 586 || station.length > Bytes(586)
 }
 
 // The seat: "the description, then zeros".
@@ -43,8 +43,8 @@ fn fill(seat: &mut [u8], d: &[u8])
     requires { (length seat.old ≡ 586) × (length d.now ≤ 586) }
     ensures { seat.new ≡ seat_of d.now }
 {
+    seat.fill(0);
     seat[..d.len()].copy_from_slice(d);
-    seat[d.len()..].fill(0);
 }
 
 // ---- attaching
@@ -54,18 +54,15 @@ fn may_attach(station: Station, seat: &[u8], d: &[u8]) -> Result<(), Refusal>
     ensures { result ≡ answer_under kcb d.now (attach_refusal kcb station seat.now d.now) tt }
 {
     if wrong_seat(station, seat) {
-        return Err(form::refusal_of(11));
+        return Err(Refusal::from(Reason::WrongBuffer));
     }
     if station.attached {
-        return Err(form::refusal_of(14));
+        return Err(Refusal::from(Reason::AlreadyAttached));
     }
     if station.number == u32::MAX {
-        return Err(form::refusal_of(15));
+        return Err(Refusal::from(Reason::NoMoreAttachments));
     }
-    let refusal = layout::check(d);
-    if refusal.number != 0 {
-        return Err(refusal);
-    }
+    layout::layout_of(d)?;
     Ok(())
 }
 
@@ -92,10 +89,10 @@ fn may_detach(station: Station, seat: &[u8]) -> Result<(), Refusal>
     ensures { result ≡ answer_of (detach_refusal station seat.now) tt }
 {
     if wrong_seat(station, seat) {
-        return Err(form::refusal_of(11));
+        return Err(Refusal::from(Reason::WrongBuffer));
     }
     if !station.attached {
-        return Err(form::refusal_of(13));
+        return Err(Refusal::from(Reason::NotAttached));
     }
     Ok(())
 }

@@ -15,4 +15,4 @@ pub returns : goal.returns
 returns c =
     let z = of-ok _ tt _ (sym c.in_ok-may_detach.ensures) in
     let p = detach-done c.args.station.now c.args.seat.now z in
-    (of-done _ tt tt z refl, sym p.0, c.fill.ensures.after ∙ (rw (detach-seated c.args.station.now c.args.seat.now z).full (sym p.1)))
+    (of-done _ tt tt z refl, sym p.0, c.fill.ensures.after (λ y e. e) ∙ (rw (detach-seated c.args.station.now c.args.seat.now z).full (sym p.1)))

@@ -7,10 +7,10 @@ use Rattle.station.proofs.Attachments.{detach-wrong, detach-idle, detach-right, 
 use Rattle.station.proofs.may_detach.Goals as goal
 
 pub returns-then-wrong_seat : goal.returns-then-wrong_seat
-returns-then-wrong_seat c = of-refused _ 11 _ tt c.refusal_of.ensures (omega arith) (detach-wrong c.args.station c.args.seat.now (sym c.wrong_seat.ensures ∙ c.if-wrong_seat.true))
+returns-then-wrong_seat c = of-refused _ 11 _ tt c.from.ensures (omega arith) (detach-wrong c.args.station c.args.seat.now (sym c.wrong_seat.ensures ∙ c.if-wrong_seat.true))
 
 pub returns-then-not-station : goal.returns-then-not-station
-returns-then-not-station c = of-refused _ 13 _ tt c.refusal_of-then-not-station.ensures (omega arith) (detach-idle c.args.station c.args.seat.now (sym c.wrong_seat.ensures ∙ c.if-wrong_seat.false) (not-true _ c.if-not-station.true))
+returns-then-not-station c = of-refused _ 13 _ tt c.from-then-not-station.ensures (omega arith) (detach-idle c.args.station c.args.seat.now (sym c.wrong_seat.ensures ∙ c.if-wrong_seat.false) (not-true _ c.if-not-station.true))
 
 pub returns : goal.returns
 returns c = of-done _ tt tt (detach-right c.args.station c.args.seat.now (sym c.wrong_seat.ensures ∙ c.if-wrong_seat.false) (not-false _ c.if-not-station.false)) refl

@@ -2,6 +2,7 @@
 -- Assumes nothing.
 use borrow.Author.Tests.{eq-eqb, ne_eqb}
 use lib.ListN.{length}
+use Rattle.std.proofs.Common.{rules}
 use Rattle.station.specs.Attachment.{wrong_seat}
 use Rattle.station.proofs.wrong_seat.Goals as goal
 
@@ -11,4 +12,4 @@ returns-then-seat-ne586 c = rw (ne_eqb (length c.args.seat.now) 586 c.if-seat-ne
 
 pub returns-else-seat-ne586 : goal.returns-else-seat-ne586
 unfolding wrong_seat
-returns-else-seat-ne586 c = rw (eq-eqb (length c.args.seat.now) 586 c.if-seat-ne586.false)
+returns-else-seat-ne586 c = rw (eq-eqb (length c.args.seat.now) 586 c.if-seat-ne586.false) (search rules)
