@@ -6,7 +6,4 @@ use Rattle.description.specs.Description.{named_in}
 use Rattle.writing.proofs.declaration_text.put_further.Given as goal
 
 abbrev pub invariant-loop-i : goal.invariant-loop-i
-invariant-loop-i l = (l.named ≡ named_in l.d) × Listing l.d l.initial.out l.at l.out l.i l.next
-
-abbrev pub decreases-loop-i : goal.decreases-loop-i
-decreases-loop-i l = l.named - l.i
+invariant-loop-i l = (l.named ≡ named_in l.d) × Listing l.d l.initial.text l.text l.i
