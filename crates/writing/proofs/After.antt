@@ -24,8 +24,7 @@ module _ (d : List ℕ) (many : ℕ) (e : many ≡ capped (length (written_text 
   pub all-written : {k : ℕ} {a b : Text} (out : List ℕ) → many ≤ 4096 → (a.out.now ≡ out) × (a.at ≡ 0) → Puts k a b (written_text d) → {new : List ℕ} → new ≡ b.out.now
       → (b.at ≡ capped (length (written_text d))) × (new ≡ text_after d out)
   unfolding text_after
-  all-written out h first w n =
-      (
-        omega (arith, e, first.1, puts_behind w),
-        rw (le-ltb 4096 (length (written_text d)) (omega (arith, e))) (n ∙ puts_bytes w ∙ ap₂ (λ (l : List ℕ) (k : ℕ). written l k (written_text d)) first.0 first.1),
-      )
+  all-written out h first w n = (
+    omega (arith, e, first.1, puts_behind w),
+    rw (le-ltb 4096 (length (written_text d)) (omega (arith, e))) (n ∙ puts_bytes w ∙ ap₂ (λ (l : List ℕ) (k : ℕ). written l k (written_text d)) first.0 first.1),
+  )

@@ -156,8 +156,8 @@ whole-text d =
     spaced-append (result_tokens (result_of (returned_by d))) (bytes "f" ∷ bytes "(" ∷ (parameter_tokens (eqb (variadic_in d) 1) (trees_from d 0 (named_in d)) ++ (bytes ")" ∷ bytes ";" ∷ [])))
     ∙ ap (λ (l : List ℕ). spaced (result_tokens (result_of (returned_by d))) ++ (bytes "f ( " ++ l)) (spaced-append (parameter_tokens (eqb (variadic_in d) 1) (trees_from d 0 (named_in d))) (bytes ")" ∷ bytes ";" ∷ []))
 
-pub whole_room : (d : List ℕ) → length (written_text d) ≤ 8192 → length (result_text d) + 4 + length (parameters_text d) + 4 ≤ 8192
-whole_room d h =
+pub whole_room : (d : List ℕ) (start : ℕ) → start + length (written_text d) ≤ 8192 → start + length (result_text d) + 4 + length (parameters_text d) + 4 ≤ 8192
+whole_room d start h =
     omega (arith, h, ap length (whole-text d), length-append (result_text d) (bytes "f ( " ++ (parameters_text d ++ bytes ") ; ")), length-append (parameters_text d) (bytes ") ; "))
 
 pub whole-done : (d : List ℕ) {i j k l : ℕ} {x y z w v : Text}

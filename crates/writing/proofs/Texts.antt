@@ -175,7 +175,7 @@ going_next {d} {first} {count} {i = i} m g h em u v w x = record {
 }
 
 pub going_end : {d : List ℕ} {first count : ℕ} {before text : Text} {i : ℕ} → Going d first count before text i → count ≤ i
-    → Puts (length (members_text d 0 first count)) before out (members_text d 0 first count)
+    → Puts (length (members_text d 0 first count)) before text (members_text d 0 first count)
 going_end {d} {first} {count} {text = text} {i = i} g h =
     let p : count - i ≡ 0 = omega arith in
     let none : members_text d i (first + i) (count - i) ≡ [] = ap (members_text d i (first + i)) p ∙ members-none d i (first + i) in

@@ -1,6 +1,5 @@
 -- The arguments behind the first. The invariant: what writes the rest writes all. Assumes nothing.
 use mathlib.Core.Path.{◌≡◌}
-use Prim.Native.Nat.{◌-◌}
 use Rattle.writing.proofs.Parts.{Listing}
 use Rattle.description.specs.Description.{named_in}
 use Rattle.writing.proofs.declaration_text.put_further.Given as goal

@@ -1,5 +1,4 @@
 -- All arguments. The invariant: the sum of the rest is the sum of all. Assumes nothing.
-use Prim.Native.Nat.{◌-◌}
 use Rattle.writing.proofs.Steps.{Summing}
 use Rattle.writing.proofs.text_lengths.arguments_length.Given as goal
 

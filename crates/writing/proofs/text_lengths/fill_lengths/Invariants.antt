@@ -1,6 +1,6 @@
 -- The table, from number 0 upward. The invariant: the entries below k are there. Assumes nothing.
 use mathlib.Core.Path.{◌≡◌}
-use Prim.Native.Nat.{◌-◌, ◌≤◌}
+use Prim.Native.Nat.{◌≤◌}
 use lib.ListN.{length}
 use Rattle.writing.specs.Asks.{Lengths}
 use Rattle.description.specs.Description.{types_in}

@@ -1,5 +1,4 @@
 -- The members of a type. The invariant: the sum of the rest is the sum of all. Assumes nothing.
-use Prim.Native.Nat.{◌-◌}
 use Rattle.writing.proofs.Steps.{Adding}
 use Rattle.declaring.specs.Length.{braces_length}
 use Rattle.writing.proofs.text_lengths.members_length.Given as goal

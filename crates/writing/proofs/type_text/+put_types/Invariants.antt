@@ -1,6 +1,6 @@
 -- What falls from call to call is the type's number. The loop's invariant: the members up to the next one are written.
 -- Assumes nothing.
-use Prim.Native.Nat.{◌+◌, ◌*◌, ◌-◌}
+use Prim.Native.Nat.{◌+◌, ◌*◌}
 use Rattle.writing.proofs.Texts.{Going}
 use Rattle.writing.proofs.type_text.+put_types.Given as goal
 
