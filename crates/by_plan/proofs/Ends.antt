@@ -1,4 +1,5 @@
 -- A plan judged whole, and what placing by it answers and leaves. Assumes nothing.
+use Rattle.std.specs.Prelude.{Err, Ok, Result}
 use mathlib.Core.Path.{◌≡◌, refl, sym, ap, ap₂, ◌∙◌}
 use mathlib.Core.Bool.{Bool, true, false, cond, not, ◌&&◌, ◌||◌, and-eq-true_iff, or-true}
 use mathlib.Core.List.{List, [], ◌∷◌, ◌++◌}
@@ -16,12 +17,11 @@ use Rattle.form.specs.Reading.{refusal_of}
 use Rattle.images.specs.Words.{little_endian, rdi, with_address}
 use Rattle.moving.specs.Frames.{empty_in}
 use Rattle.moving.specs.Images.{framed}
-use Rattle.moving.specs.declared.PlaceAnswer.{PlaceAnswer}
-use Rattle.moving.specs.declared.PlaceAnswer.TheVariants.{Placed, Refused as NotPlaced}
 use Rattle.plans.specs.Moves.{Move, move_all, all_fit, fits_in}
 use Rattle.plans.specs.Plans.{values_in, area_in, used_by, fours_at, parts_at, bools_at, end_of, pairs, triples, moves_in, bools_in, all_below, well_formed, wide_address, some_broken, place_refusal_by, placed_by, vectors_in, place_answer_by, image_after_by}
 use Rattle.plans.proofs.Moves.{move_all-append}
 use Rattle.by_plan.specs.Fitting.{Fitting}
+use Rattle.units.specs.declared.Registers.{Registers}
 
 and_assoc : (a b c : Bool) → (a && b) && c ≡ a && (b && c)
 and_assoc true b c = refl
@@ -206,14 +206,14 @@ pub fits-parts : (plan : List ℕ) (v t t' b ps : ℕ) → Fitting plan v t → 
 fits-parts plan v t t' b ps f e p q = (omega (arith, f.ends), rw (e, p, q) f.parts)
 
 module _ (plan : List ℕ) (h : ℕ) (vals img : List ℕ) (n : ℕ) (qn : n ≡ place_refusal_by plan h vals (length img)) where
-  abbrev pub PlaceEnd : PlaceAnswer → List ℕ → Type 0
+  abbrev pub PlaceEnd : Result Registers Refusal → List ℕ → Type 0
   PlaceEnd x y = (x ≡ place_answer_by plan h vals (length img)) × (y ≡ image_after_by plan h vals img)
 
-  pub place_kept : (n ≡ 0 → ⊥) → (x : Refusal) → x ≡ refusal_of n → PlaceEnd (NotPlaced x) img
+  pub place_kept : (n ≡ 0 → ⊥) → (x : Refusal) → x ≡ refusal_of n → PlaceEnd (Err x) img
   unfolding place_answer_by image_after_by
   place_kept z x e =
       let q = ne_eqb (place_refusal_by plan h vals (length img)) 0 (λ f. z (qn ∙ f)) in
-      (rw q (ap NotPlaced (e ∙ ap refusal_of qn)), rw q)
+      (rw q (ap Err (e ∙ ap refusal_of qn)), rw q)
 
   module _ (zero : n ≡ 0) where
     sure : (well_formed plan ≡ true) × ((length vals ≡ values_in plan) × (length img ≡ 304 + area_in plan))
@@ -227,7 +227,7 @@ module _ (plan : List ℕ) (h : ℕ) (vals img : List ℕ) (n : ℕ) (qn : n ≡
         (formed plan sure.0 (length vals) (length x) sure.1.0 (ap (λ (l : List ℕ). length l) e ∙ length-blank u h (length img - 304) ∙ omega (arith, sure.1.1))).fitting
 
     pub place-done : (u : Bool) → u ≡ used_by plan → (x y : List ℕ) → x ≡ empty_in (framed u [] (length img - 304)) h → y ≡ move_all x vals (moves_in plan)
-        → (k : ℕ) → k ≡ vectors_in plan → PlaceEnd (Placed (record { 0 = k })) y
+        → (k : ℕ) → k ≡ vectors_in plan → PlaceEnd (Ok (record { 0 = k })) y
     unfolding place_answer_by image_after_by placed_by
     place-done u qu x y p q k v =
         let j : length img - 304 ≡ area_in plan = omega (arith, sure.1.1) in

@@ -1,4 +1,5 @@
 -- Laws of putting and taking by a plan. Assumes nothing.
+use Rattle.std.specs.Prelude.{Err, Ok, Result}
 use mathlib.Core.Path.{◌≡◌, refl, sym, ap, ap₂, ◌∙◌}
 use mathlib.Core.Bool.{Bool, true, false, cond, not, ◌&&◌, ◌||◌, and-eq-true_iff, or-true}
 use mathlib.Core.List.{List, [], ◌∷◌}
@@ -14,10 +15,6 @@ use Rattle.form.specs.Order.{rule, first}
 use Rattle.form.specs.Reading.{refusal_of}
 use Rattle.images.specs.Words.{little_endian, with_address, address_in}
 use Rattle.returning.specs.Image.{blank_return}
-use Rattle.returning.specs.declared.PutAnswer.{PutAnswer}
-use Rattle.returning.specs.declared.PutAnswer.TheVariants.{Put, Refused as NotPut}
-use Rattle.returning.specs.declared.TakeAnswer.{TakeAnswer}
-use Rattle.returning.specs.declared.TakeAnswer.TheVariants.{Taken, Refused as NotTaken}
 use Rattle.plans.specs.Moves.{move_all, turned_all, all_fit}
 use Rattle.plans.specs.Plans.{used_by, wide_address, triples}
 use Rattle.plans.specs.Returned.{returned_in, return_moves_in, returns_formed, broken_returned, wrong_returned, take_refusal_by, put_refusal_by, put_by, taken_by, address_by, put_answer_by, return_image_by, take_answer_by, returned_after_by}
@@ -141,14 +138,14 @@ length-blank false h = refl
 -- ---- what is left
 
 module _ (plan : List ℕ) (h : ℕ) (v img : List ℕ) (n : ℕ) (qn : n ≡ put_refusal_by plan h v (length img)) where
-  abbrev pub PutEnd : PutAnswer → List ℕ → Type 0
+  abbrev pub PutEnd : Result (Unit {0}) Refusal → List ℕ → Type 0
   PutEnd x y = (x ≡ put_answer_by plan h v (length img)) × (y ≡ return_image_by plan h v img)
 
-  pub put-kept : (n ≡ 0 → ⊥) → (x : Refusal) → x ≡ refusal_of n → PutEnd (NotPut x) img
+  pub put-kept : (n ≡ 0 → ⊥) → (x : Refusal) → x ≡ refusal_of n → PutEnd (Err x) img
   unfolding put_answer_by return_image_by
   put-kept z x e =
       let q = ne_eqb (put_refusal_by plan h v (length img)) 0 (λ f. z (qn ∙ f)) in
-      (rw q (ap NotPut (e ∙ ap refusal_of qn)), rw q)
+      (rw q (ap Err (e ∙ ap refusal_of qn)), rw q)
 
   module _ (zero : n ≡ 0) where
     sure : (returns_formed plan ≡ true) × ((length v ≡ returned_in plan) × (length img ≡ 96))
@@ -163,21 +160,21 @@ module _ (plan : List ℕ) (h : ℕ) (v img : List ℕ) (n : ℕ) (qn : n ≡ pu
         let l : length x ≡ 96 = ap (λ (y : List ℕ). length y) e ∙ length-blank u h in
         (omega (arith, s.0), rw (sure.1.0, l) s.1)
 
-    pub put-done : (u : Bool) → u ≡ used_by plan → (x y : List ℕ) → x ≡ blank_return u h → y ≡ move_all x v (triples plan 10 2) → PutEnd Put y
+    pub put-done : (u : Bool) → u ≡ used_by plan → (x y : List ℕ) → x ≡ blank_return u h → y ≡ move_all x v (triples plan 10 2) → PutEnd (Ok tt) y
     unfolding put_answer_by return_image_by put_by return_moves_in
     put-done u qu x y p q =
         let z = eq-eqb (put_refusal_by plan h v (length img)) 0 (sym qn ∙ zero) in
         (rw z, rw z (q ∙ ap (λ (i : List ℕ). move_all i v (triples plan 10 2)) (p ∙ ap (λ (b : Bool). blank_return b h) qu)))
 
 module _ (plan img v : List ℕ) (n : ℕ) (qn : n ≡ take_refusal_by plan (length v) (length img)) where
-  abbrev pub TakeEnd : TakeAnswer → List ℕ → Type 0
+  abbrev pub TakeEnd : Result ℕ Refusal → List ℕ → Type 0
   TakeEnd x y = (x ≡ take_answer_by plan img (length v)) × (y ≡ returned_after_by plan img v)
 
-  pub take-kept : (n ≡ 0 → ⊥) → (x : Refusal) → x ≡ refusal_of n → TakeEnd (NotTaken x) v
+  pub take-kept : (n ≡ 0 → ⊥) → (x : Refusal) → x ≡ refusal_of n → TakeEnd (Err x) v
   unfolding take_answer_by returned_after_by
   take-kept z x e =
       let q = ne_eqb (take_refusal_by plan (length v) (length img)) 0 (λ f. z (qn ∙ f)) in
-      (rw q (ap NotTaken (e ∙ ap refusal_of qn)), rw q)
+      (rw q (ap Err (e ∙ ap refusal_of qn)), rw q)
 
   module _ (zero : n ≡ 0) where
     sure_2 : (returns_formed plan ≡ true) × ((length v ≡ returned_in plan) × (length img ≡ 96))
@@ -193,16 +190,16 @@ module _ (plan img v : List ℕ) (n : ℕ) (qn : n ≡ take_refusal_by plan (len
         let l : length x ≡ returned_in plan = ap (λ (y : List ℕ). length y) e ∙ length-replicate {A = ℕ} (length v) 0 ∙ sure_2.1.0 in
         (omega (arith, s.0), rw (sure_2.1.1, l) s.1)
 
-    done : (a : ℕ) (x y : List ℕ) → a ≡ address_by plan img → x ≡ cleared v → y ≡ move_all x img (turned_all (triples plan 10 2)) → TakeEnd (Taken a) y
+    done : (a : ℕ) (x y : List ℕ) → a ≡ address_by plan img → x ≡ cleared v → y ≡ move_all x img (turned_all (triples plan 10 2)) → TakeEnd (Ok a) y
     unfolding take_answer_by returned_after_by taken_by return_moves_in cleared
     done a x y f p q =
         let z = eq-eqb (take_refusal_by plan (length v) (length img)) 0 (sym qn ∙ zero) in
-        (rw z (ap Taken f), rw z (q ∙ ap (λ (i : List ℕ). move_all i img (turned_all (triples plan 10 2))) p))
+        (rw z (ap Ok f), rw z (q ∙ ap (λ (i : List ℕ). move_all i img (turned_all (triples plan 10 2))) p))
 
-    pub take_none : (u : Bool) → u ≡ used_by plan → not u ≡ true → (x y : List ℕ) → x ≡ cleared v → y ≡ move_all x img (turned_all (triples plan 10 2)) → TakeEnd (Taken 0) y
+    pub take_none : (u : Bool) → u ≡ used_by plan → not u ≡ true → (x y : List ℕ) → x ≡ cleared v → y ≡ move_all x img (turned_all (triples plan 10 2)) → TakeEnd (Ok 0) y
     unfolding address_by
     take_none u q e x y p r = done 0 x y (rw (sym q ∙ not-true u e)) p r
 
-    pub take-address : (u : Bool) → u ≡ used_by plan → not u ≡ false → (a : ℕ) → a ≡ address_in img → (x y : List ℕ) → x ≡ cleared v → y ≡ move_all x img (turned_all (triples plan 10 2)) → TakeEnd (Taken a) y
+    pub take-address : (u : Bool) → u ≡ used_by plan → not u ≡ false → (a : ℕ) → a ≡ address_in img → (x y : List ℕ) → x ≡ cleared v → y ≡ move_all x img (turned_all (triples plan 10 2)) → TakeEnd (Ok a) y
     unfolding address_by address_in
     take-address u q e a f x y p r = done a x y (f ∙ rw (sym q ∙ not-false u e)) p r

@@ -1,4 +1,5 @@
 -- Laws of gathering by a plan. Assumes nothing.
+use Rattle.std.specs.Prelude.{Err, Ok, Result}
 use mathlib.Core.Path.{◌≡◌, refl, sym, ap, ap₂, ◌∙◌}
 use mathlib.Core.Bool.{Bool, true, false, not, ◌||◌, or-true}
 use mathlib.Core.List.{List, [], ◌∷◌, ◌++◌}
@@ -13,8 +14,6 @@ use Rattle.form.specs.Reading.{refusal_of}
 use Rattle.addresses.specs.Copy.{copied}
 use Rattle.images.specs.Words.{address_in}
 use Rattle.moving.specs.Frames.{own_address}
-use Rattle.moving.specs.declared.GatherAnswer.{GatherAnswer}
-use Rattle.moving.specs.declared.GatherAnswer.TheVariants.{Gathered, Refused as NotGathered}
 use Rattle.plans.specs.Moves.{Move, move_all, turned, turned_all, all_fit}
 use Rattle.plans.specs.Plans.{values_in, area_in, fours_at, parts_at, pairs, triples, moves_in, well_formed, used_by, frame_by, gather_refusal_by, gathered_by, gather_answer_by, values_after_by}
 use Rattle.plans.proofs.Moves.{move_all-append}
@@ -92,14 +91,14 @@ module _ (plan : List ℕ) (values image : ℕ) where
       by false y z p q r e = absurd (omega arith)
 
 module _ (plan img vals : List ℕ) (n : ℕ) (qn : n ≡ gather_refusal_by plan (length vals) (length img)) where
-  abbrev pub GatherEnd : GatherAnswer → List ℕ → Type 0
+  abbrev pub GatherEnd : Result ℕ Refusal → List ℕ → Type 0
   GatherEnd x y = (x ≡ gather_answer_by plan img (length vals)) × (y ≡ values_after_by plan img vals)
 
-  pub gather-kept : (n ≡ 0 → ⊥) → (x : Refusal) → x ≡ refusal_of n → GatherEnd (NotGathered x) vals
+  pub gather-kept : (n ≡ 0 → ⊥) → (x : Refusal) → x ≡ refusal_of n → GatherEnd (Err x) vals
   unfolding gather_answer_by values_after_by
   gather-kept z x e =
       let q = ne_eqb (gather_refusal_by plan (length vals) (length img)) 0 (λ f. z (qn ∙ f)) in
-      (rw q (ap NotGathered (e ∙ ap refusal_of qn)), rw q)
+      (rw q (ap Err (e ∙ ap refusal_of qn)), rw q)
 
   module _ (zero : n ≡ 0) where
     sure : (well_formed plan ≡ true) × ((length vals ≡ values_in plan) × (length img ≡ 304 + area_in plan))
@@ -111,16 +110,16 @@ module _ (plan img vals : List ℕ) (n : ℕ) (qn : n ≡ gather_refusal_by plan
     pub gather-room : 8 ≤ length img
     gather-room = omega (arith, sure.1.1)
 
-    done : (x : ℕ) (y : List ℕ) → x ≡ own_address (frame_by plan) img → y ≡ gathered_by plan img vals → GatherEnd (Gathered x) y
+    done : (x : ℕ) (y : List ℕ) → x ≡ own_address (frame_by plan) img → y ≡ gathered_by plan img vals → GatherEnd (Ok x) y
     unfolding gather_answer_by values_after_by
     done x y p q =
         let z = eq-eqb (gather_refusal_by plan (length vals) (length img)) 0 (sym qn ∙ zero) in
-        (rw z (ap Gathered p), rw z q)
+        (rw z (ap Ok p), rw z q)
 
-    pub gather_none : (u : Bool) → u ≡ used_by plan → not u ≡ true → (y : List ℕ) → y ≡ gathered_by plan img vals → GatherEnd (Gathered 0) y
+    pub gather_none : (u : Bool) → u ≡ used_by plan → not u ≡ true → (y : List ℕ) → y ≡ gathered_by plan img vals → GatherEnd (Ok 0) y
     unfolding own_address
     gather_none u q e y p = done 0 y (rw (sym q ∙ not-true u e)) p
 
-    pub gather-address : (u : Bool) → u ≡ used_by plan → not u ≡ false → (x : ℕ) → x ≡ address_in img → (y : List ℕ) → y ≡ gathered_by plan img vals → GatherEnd (Gathered x) y
+    pub gather-address : (u : Bool) → u ≡ used_by plan → not u ≡ false → (x : ℕ) → x ≡ address_in img → (y : List ℕ) → y ≡ gathered_by plan img vals → GatherEnd (Ok x) y
     unfolding own_address address_in
     gather-address u q e x a y p = done x y (a ∙ rw (sym q ∙ not-false u e)) p

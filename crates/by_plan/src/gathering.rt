@@ -5,7 +5,7 @@ ghost use Rattle.plans.specs.Plans.{pairs, triples, gather_refusal_by, gathered_
 ghost use Rattle.by_plan.specs.Fitting.{Fitting};
 
 use crate::{copies, judging, numbers};
-use moving::GatherAnswer;
+use form::Refusal;
 
 fn gather_refusal(plan: &[u16], values: usize, image: usize) -> u8
     ensures { result ≡ gather_refusal_by plan.now values image }
@@ -90,17 +90,17 @@ fn turn_all(plan: &[u16], image: &[u8], values: &mut [u8])
 }
 
 // Gathers by a plan of any numbers, and answers the hidden address.
-pub fn gather_by_plan(plan: &[u16], image: &[u8], values: &mut [u8]) -> GatherAnswer
+pub fn gather_by_plan(plan: &[u16], image: &[u8], values: &mut [u8]) -> Result<u64, Refusal>
     ensures { (result ≡ gather_answer_by plan.now image.now (length values.old))
         × (values.new ≡ values_after_by plan.now image.now values.old) }
 {
     let number = gather_refusal(plan, values.len(), image.len());
     if number != 0 {
-        return GatherAnswer::Refused(form::refusal_of(number));
+        return Err(form::refusal_of(number));
     }
     turn_all(plan, image, values);
     if !numbers::uses_address(plan) {
-        return GatherAnswer::Gathered(0);
+        return Ok(0);
     }
-    GatherAnswer::Gathered(images::address_in(image))
+    Ok(images::address_in(image))
 }

@@ -8,7 +8,7 @@ ghost use Rattle.plans.specs.Plans.{pairs, triples, moves_in, place_refusal_by, 
 ghost use Rattle.by_plan.specs.Fitting.{Fitting};
 
 use crate::{copies, judging, numbers};
-use moving::PlaceAnswer;
+use form::Refusal;
 use units::Registers;
 
 // Which refusal placing gets: 30, 11, 27, 12 in this order, or 0.
@@ -130,15 +130,15 @@ fn move_all(plan: &[u16], values: &[u8], image: &mut [u8])
 }
 
 // Places by a plan of any numbers: every byte of the images is written, or none.
-pub fn place_by_plan(plan: &[u16], hidden: u64, values: &[u8], image: &mut [u8]) -> PlaceAnswer
+pub fn place_by_plan(plan: &[u16], hidden: u64, values: &[u8], image: &mut [u8]) -> Result<Registers, Refusal>
     ensures { (result ≡ place_answer_by plan.now hidden values.now (length image.old))
         × (image.new ≡ image_after_by plan.now hidden values.now image.old) }
 {
     let number = place_refusal(plan, hidden, values, image.len());
     if number != 0 {
-        return PlaceAnswer::Refused(form::refusal_of(number));
+        return Err(form::refusal_of(number));
     }
     blank_image(numbers::uses_address(plan), hidden, image);
     move_all(plan, values, image);
-    PlaceAnswer::Placed(Registers(numbers::at(plan, 2)))
+    Ok(Registers(numbers::at(plan, 2)))
 }

@@ -4,7 +4,7 @@ ghost use Rattle.returning.specs.Image.{blank_return};
 ghost use Rattle.plans.specs.Returned.{returns_formed, broken_returned, put_refusal_by, take_refusal_by, put_answer_by, return_image_by, take_answer_by, returned_after_by};
 
 use crate::{gathering, judging, numbers, placing};
-use returning::{PutAnswer, TakeAnswer};
+use form::Refusal;
 
 // ---- 30, 11, 27 and 12
 
@@ -80,32 +80,32 @@ fn blank_return(memory: bool, hidden: u64, image: &mut [u8])
 }
 
 // Puts a returned value by a plan of any numbers: every byte of the return images is written, or none.
-pub fn put_by_plan(plan: &[u16], hidden: u64, value: &[u8], image: &mut [u8]) -> PutAnswer
+pub fn put_by_plan(plan: &[u16], hidden: u64, value: &[u8], image: &mut [u8]) -> Result<(), Refusal>
     ensures { (result ≡ put_answer_by plan.now hidden value.now (length image.old))
         × (image.new ≡ return_image_by plan.now hidden value.now image.old) }
 {
     let number = put_refusal(plan, hidden, value, image.len());
     if number != 0 {
-        return PutAnswer::Refused(form::refusal_of(number));
+        return Err(form::refusal_of(number));
     }
     blank_return(numbers::uses_address(plan), hidden, image);
     placing::move_parts(plan, 10, 2, value, image);
-    PutAnswer::Put
+    Ok(())
 }
 
 // Takes a returned value by a plan of any numbers, and answers the hidden address.
-pub fn take_by_plan(plan: &[u16], image: &[u8], value: &mut [u8]) -> TakeAnswer
+pub fn take_by_plan(plan: &[u16], image: &[u8], value: &mut [u8]) -> Result<u64, Refusal>
     ensures { (result ≡ take_answer_by plan.now image.now (length value.old))
         × (value.new ≡ returned_after_by plan.now image.now value.old) }
 {
     let number = take_refusal(plan, value.len(), image.len());
     if number != 0 {
-        return TakeAnswer::Refused(form::refusal_of(number));
+        return Err(form::refusal_of(number));
     }
     addresses::clear(value);
     gathering::turn_parts(plan, 10, 2, image, value);
     if !numbers::uses_address(plan) {
-        return TakeAnswer::Taken(0);
+        return Ok(0);
     }
-    TakeAnswer::Taken(images::address_in(image))
+    Ok(images::address_in(image))
 }

@@ -1,4 +1,5 @@
 -- The lent list of flat records: what is decided before the first, and how they follow one another. Assumes nothing.
+use Rattle.std.specs.Prelude.{Err, Ok, Result}
 use mathlib.Core.Path.{◌≡◌, refl, sym, ap, ◌∙◌}
 use mathlib.Core.Bool.{Bool, true, false, cond}
 use mathlib.Core.List.{List}
@@ -12,8 +13,6 @@ use Rattle.layout.specs.declared.placements.Laying.{Laying}
 use Rattle.layout.specs.declared.Layout.{Layout as Whole}
 use Rattle.layout.specs.declared.placements.Placement.{Placement as Record}
 use Rattle.layout.specs.declared.lent_list.Begun.{Begun}
-use Rattle.layout.specs.declared.LayoutAnswer.{LayoutAnswer}
-use Rattle.layout.specs.declared.LayoutAnswer.TheVariants.{Laid, Refused}
 use Rattle.layout.specs.Layout.{layout_of as whole_of, table_after}
 use Rattle.layout.specs.Asks.{AskRecord}
 use Rattle.layout.specs.Verdict.{verdict}
@@ -26,14 +25,15 @@ use Rattle.c_calls.specs.declared.ListBegun.{ListBegun}
 use Rattle.c_calls.specs.declared.FlatStep.{FlatStep}
 use Rattle.c_calls.specs.Outcome.{refusal_in, left_in}
 use Rattle.c_calls.specs.LayoutCalls.{layout_given, list_given, flat_at, list_begun, flat_step}
+use Rattle.form.specs.declared.Refusal.{Refusal}
 
 module _ (d : List ℕ) (room : ℕ) where
   -- a list that is filled has a record for each argument
-  pub laid-count : (l : Whole) → list_answer d room ≡ Laid l → list_count d room ≡ arguments_in d
+  pub laid-count : (l : Whole) → list_answer d room ≡ Ok l → list_count d room ≡ arguments_in d
   unfolding list_answer list_count
   laid-count l e = by (eqb (list_refusal d room) 0) refl e
     where
-      by : (b : Bool) → eqb (list_refusal d room) 0 ≡ b → cond b (Laid (whole_of d)) (Refused (refusal_for d (list_refusal d room))) ≡ Laid l
+      by : (b : Bool) → eqb (list_refusal d room) 0 ≡ b → cond b (Ok (whole_of d)) (Err (refusal_for d (list_refusal d room))) ≡ Ok l
           → cond b (arguments_in d) 0 ≡ arguments_in d
       by true q z = refl
       by false q z = absurd (let f : ◌≡◌ {A = ℕ} 0 1 = cc in omega arith)
@@ -48,7 +48,7 @@ module _ (d : List ℕ) (room : ℕ) where
     laying_is : b.before ≡ list_laying d room 0
     laying_is = ap (λ (c : Begun). c.before) is ∙ begun_before d room
 
-    joined : (a : LayoutAnswer) → list_answer d room ≡ a → r.layout ≡ left_in (layout_given (arguments_in d) a) before → r.refusal ≡ refusal_in (layout_given (arguments_in d) a)
+    joined : (a : Result Layout Refusal) → list_answer d room ≡ a → r.layout ≡ left_in (layout_given (arguments_in d) a) before → r.refusal ≡ refusal_in (layout_given (arguments_in d) a)
         → r ≡ list_begun d before room
     unfolding list_begun list_given
     joined a e l f = rw e (λ i. record { layout = l i; refusal = f i; count = (count ∙ count-is) i; before = (laid ∙ laying_is) i; table = table i })
@@ -57,9 +57,9 @@ module _ (d : List ℕ) (room : ℕ) where
     pub begun_given : r.refusal ≡ refusal_in (layout_given b.count b.answer) → r.layout ≡ left_in (layout_given b.count b.answer) before → r ≡ list_begun d before room
     begun_given f e = by b.answer refl f e
       where
-        by : (a : LayoutAnswer) → b.answer ≡ a → r.refusal ≡ refusal_in (layout_given b.count a) → r.layout ≡ left_in (layout_given b.count a) before → r ≡ list_begun d before room
-        by (Laid l) a g h = joined (Laid l) (answer-is ∙ a) (h ∙ ap (layout_of l) (count-is ∙ laid-count l (answer-is ∙ a))) g
-        by (Refused x) a g h = joined (Refused x) (answer-is ∙ a) h g
+        by : (a : Result Layout Refusal) → b.answer ≡ a → r.refusal ≡ refusal_in (layout_given b.count a) → r.layout ≡ left_in (layout_given b.count a) before → r ≡ list_begun d before room
+        by (Ok l) a g h = joined (Ok l) (answer-is ∙ a) (h ∙ ap (layout_of l) (count-is ∙ laid-count l (answer-is ∙ a))) g
+        by (Err x) a g h = joined (Err x) (answer-is ∙ a) h g
 
   -- the turns of the loop
   module _ (before : Layout) where

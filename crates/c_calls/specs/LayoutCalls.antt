@@ -1,5 +1,5 @@
 -- cb_lay_out: the lent list of flat records. Assumes nothing: these are definitions.
-use Rattle.std.specs.Prelude.{List, ℕ, replicate}
+use Rattle.std.specs.Prelude.{List, ℕ, replicate, Err, Ok, Result}
 use Rattle.description.specs.Description.{arguments_in}
 use Rattle.layout.specs.Layout.{table_after}
 use Rattle.layout.specs.declared.placements.Laying.{Laying}
@@ -7,17 +7,16 @@ use Rattle.layout.specs.Placements.{step_at, placement_at}
 use Rattle.layout.specs.Lists.{list_answer, list_count, list_laying}
 use Rattle.flat.specs.declared.Layout.{Layout}
 use Rattle.flat.specs.declared.Placement.{Placement}
-use Rattle.layout.specs.declared.LayoutAnswer.{LayoutAnswer}
-use Rattle.layout.specs.declared.LayoutAnswer.TheVariants.{Laid, Refused as NotLaid}
 use Rattle.flat.specs.Records.{placement_of, layout_of}
 use Rattle.c_calls.specs.declared.ListBegun.{ListBegun}
 use Rattle.c_calls.specs.declared.FlatStep.{FlatStep}
 use Rattle.c_calls.specs.Outcome.{Outcome, gives, refuses, refusal_in, left_in}
+use Rattle.form.specs.declared.Refusal.{Refusal}
 
 -- cb_layout_of, of a description with so many arguments
-abbrev pub layout_given : ℕ → LayoutAnswer → Outcome Layout
-layout_given arguments (Laid l) = gives (layout_of l arguments)
-layout_given arguments (NotLaid r) = refuses r
+abbrev pub layout_given : ℕ → Result Layout Refusal → Outcome Layout
+layout_given arguments (Ok l) = gives (layout_of l arguments)
+layout_given arguments (Err r) = refuses r
 
 -- the summary, for a list of so many records
 unfoldable pub list_given : List ℕ → ℕ → Outcome Layout

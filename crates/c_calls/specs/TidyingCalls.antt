@@ -1,11 +1,12 @@
 -- What the call of the C interface that tells the tidy length gives, by the library's answer: include/callbridge.h. Assumes nothing:
 -- these are definitions.
-use Rattle.tidying.specs.declared.LengthAnswer.{LengthAnswer}
-use Rattle.tidying.specs.declared.LengthAnswer.TheVariants.{Length, Refused as NoLength}
+use Rattle.std.specs.Prelude.{Err, Ok, Result}
 use Rattle.flat.specs.declared.Tidied.{Tidied}
 use Rattle.c_calls.specs.Outcome.{Outcome, gives, refuses}
+use Rattle.units.specs.declared.Bytes.{Bytes}
+use Rattle.form.specs.declared.Refusal.{Refusal}
 
 -- cb_tidy_length
-abbrev pub tidied_given : LengthAnswer → Outcome Tidied
-tidied_given (Length n) = gives (record { length = n })
-tidied_given (NoLength r) = refuses r
+abbrev pub tidied_given : Result Bytes Refusal → Outcome Tidied
+tidied_given (Ok n) = gives (record { length = n })
+tidied_given (Err r) = refuses r

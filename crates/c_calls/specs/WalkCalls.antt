@@ -1,13 +1,9 @@
 -- What the calls of the C interface that open a walk, step it, finish it and show an argument give: include/callbridge.h. Assumes nothing: these are definitions.
-use Rattle.std.specs.Prelude.{cond, List, ℕ, eqb}
+use Rattle.std.specs.Prelude.{cond, List, ℕ, eqb, Err, None, Ok, Option, Result, Some}
 use Rattle.form.specs.declared.Refusal.{Refusal}
 use Rattle.form.specs.Reading.{refusal_of}
 use Rattle.station.specs.Paper.{kcb, refusal_under}
 use Rattle.station.specs.Attachment.{described}
-use Rattle.walk.specs.declared.OpenAnswer.{OpenAnswer}
-use Rattle.walk.specs.declared.OpenAnswer.TheVariants.{Opened, Refused as NotOpened}
-use Rattle.walk.specs.declared.showing.ShownAnswer.{ShownAnswer}
-use Rattle.walk.specs.declared.showing.ShownAnswer.TheVariants.{Registers, Stack, Apart, Refused as NotShown}
 use Rattle.walk.specs.Orders.{Ask, step_refusal}
 use Rattle.walk.specs.Steps.{step_walk}
 use Rattle.finishing.specs.Rest.{AskRest, finish_refusal, finish_walk}
@@ -17,11 +13,12 @@ use Rattle.flat.specs.declared.Walk.{Walk}
 use Rattle.flat.specs.Parts.{nowhere, of_registers, of_stack}
 use Rattle.flat.specs.Stations.{station_meant, walk_meant, flat_walk}
 use Rattle.c_calls.specs.Outcome.{Outcome, gives, refuses}
+use Rattle.walk.specs.declared.showing.Shown.{Shown}
 
 -- cb_open_walk
-abbrev pub open_given : OpenAnswer → Outcome Walk
-open_given (Opened w) = gives (flat_walk w)
-open_given (NotOpened r) = refuses r
+abbrev pub open_given : Result Walk Refusal → Outcome Walk
+open_given (Ok w) = gives (flat_walk w)
+open_given (Err r) = refuses r
 
 -- cb_step: the record behind the argument
 unfoldable pub step_given : Station → List ℕ → Walk → Ask → Outcome Walk
@@ -36,14 +33,14 @@ finish_given s seat w a =
     (refuses (refusal_under kcb (described (station_meant s) seat) (finish_refusal kcb (station_meant s) seat (walk_meant w) a)))
 
 -- cb_show: a part is an answer, "and the empty part for a refusal, for two vector registers and for mixed ones"
-abbrev pub shown_part : ShownAnswer → Part
-shown_part (Registers p) = of_registers p.offset p.length
-shown_part (Stack p) = of_stack p.offset p.length
-shown_part Apart = nowhere
-shown_part (NotShown r) = nowhere
+abbrev pub shown_part : Result (Option Shown) Refusal → Part
+shown_part (Ok (Some (Registers p))) = of_registers p.offset p.length
+shown_part (Ok (Some (Stack p))) = of_stack p.offset p.length
+shown_part (Ok None) = nowhere
+shown_part (Err r) = nowhere
 
-abbrev pub shown_refusal : ShownAnswer → Refusal
-shown_refusal (Registers p) = refusal_of 0
-shown_refusal (Stack p) = refusal_of 0
-shown_refusal Apart = refusal_of 0
-shown_refusal (NotShown r) = r
+abbrev pub shown_refusal : Result (Option Shown) Refusal → Refusal
+shown_refusal (Ok (Some (Registers p))) = refusal_of 0
+shown_refusal (Ok (Some (Stack p))) = refusal_of 0
+shown_refusal (Ok None) = refusal_of 0
+shown_refusal (Err r) = r

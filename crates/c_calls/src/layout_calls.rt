@@ -11,7 +11,7 @@ ghost use Rattle.c_calls.specs.LayoutCalls.{layout_given, list_begun, flat_step}
 
 use crate::{FlatStep, GivenLayout, ListBegun};
 use flat::Layout;
-use layout::{Laying, LayoutAnswer};
+use layout::Laying;
 
 // The number of arguments, of any bytes: 0 where there is no such byte.
 fn arguments_of(d: &[u8]) -> usize
@@ -24,10 +24,10 @@ fn arguments_of(d: &[u8]) -> usize
 }
 
 // What a layout's answer gives, for a call with so many arguments. Nothing else makes the flat record of it.
-fn layout_given(answer: LayoutAnswer, arguments: usize, before: Layout) -> GivenLayout
+fn layout_given(answer: Result<Layout, Refusal>, arguments: usize, before: Layout) -> GivenLayout
     ensures { (result.refusal ≡ refusal_in (layout_given arguments answer)) × (result.layout ≡ left_in (layout_given arguments answer) before) }
 {
-    let LayoutAnswer::Laid(whole) = answer else {
+    let Ok(whole) = answer else {
         return GivenLayout {
             layout: before,
             refusal: layout::refusal_in(answer),

@@ -7,7 +7,6 @@ ghost use Rattle.c_calls.specs.MovingCalls.{placed_given, gathered_given};
 
 use crate::{GivenGathered, GivenPlaced};
 use flat::{Gathered, Placed};
-use moving::{GatherAnswer, PlaceAnswer};
 
 // Placing, with the images at exit: the vector count.
 pub fn place_values(
@@ -27,11 +26,11 @@ pub fn place_values(
 {
     let answer = moving::place_values(d, hidden, values, registers, upper, stack);
     match answer {
-        PlaceAnswer::Placed(vector) => GivenPlaced {
+        Ok(vector) => GivenPlaced {
             placed: Placed { vector: vector },
             refusal: form::refusal_of(0),
         },
-        PlaceAnswer::Refused(refusal) => GivenPlaced {
+        Err(refusal) => GivenPlaced {
             placed: before,
             refusal: refusal,
         },
@@ -53,11 +52,11 @@ pub fn gather_values(
 {
     let answer = moving::gather_values(d, registers, upper, stack, values);
     match answer {
-        GatherAnswer::Gathered(hidden) => GivenGathered {
+        Ok(hidden) => GivenGathered {
             gathered: Gathered { hidden: hidden },
             refusal: form::refusal_of(0),
         },
-        GatherAnswer::Refused(refusal) => GivenGathered {
+        Err(refusal) => GivenGathered {
             gathered: before,
             refusal: refusal,
         },

@@ -7,7 +7,6 @@ ghost use Rattle.c_calls.specs.ReturningCalls.{put_given, taken_given};
 use crate::GivenGathered;
 use flat::Gathered;
 use form::Refusal;
-use returning::{PutAnswer, TakeAnswer};
 
 // Putting a returned value, with the return images at exit: no record.
 pub fn put_returned(
@@ -23,8 +22,8 @@ pub fn put_returned(
 {
     let answer = returning::put_returned(d, hidden, value, image, upper);
     match answer {
-        PutAnswer::Put => form::refusal_of(0),
-        PutAnswer::Refused(refusal) => refusal,
+        Ok(()) => form::refusal_of(0),
+        Err(refusal) => refusal,
     }
 }
 
@@ -42,11 +41,11 @@ pub fn take_returned(
 {
     let answer = returning::take_returned(d, image, upper, value);
     match answer {
-        TakeAnswer::Taken(address) => GivenGathered {
+        Ok(address) => GivenGathered {
             gathered: Gathered { hidden: address },
             refusal: form::refusal_of(0),
         },
-        TakeAnswer::Refused(refusal) => GivenGathered {
+        Err(refusal) => GivenGathered {
             gathered: before,
             refusal: refusal,
         },

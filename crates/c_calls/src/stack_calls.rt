@@ -6,7 +6,6 @@ ghost use Rattle.c_calls.specs.StackCalls.{need_given};
 
 use crate::GivenNeed;
 use flat::StackNeed;
-use layout::StackAnswer;
 
 // Whether an argument goes to the stack.
 pub fn needs_stack(d: &[u8], before: StackNeed) -> GivenNeed
@@ -15,11 +14,11 @@ pub fn needs_stack(d: &[u8], before: StackNeed) -> GivenNeed
 {
     let answer = layout::needs_stack(d);
     match answer {
-        StackAnswer::Known(need) => GivenNeed {
+        Ok(need) => GivenNeed {
             need: flat::flat_need(need),
             refusal: form::refusal_of(0),
         },
-        StackAnswer::Refused(refusal) => GivenNeed {
+        Err(refusal) => GivenNeed {
             need: before,
             refusal: refusal,
         },

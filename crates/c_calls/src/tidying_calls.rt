@@ -6,7 +6,6 @@ ghost use Rattle.c_calls.specs.TidyingCalls.{tidied_given};
 
 use crate::GivenTidied;
 use flat::Tidied;
-use tidying::LengthAnswer;
 
 // How many bytes the tidy form has.
 pub fn tidy_length(d: &[u8], before: Tidied) -> GivenTidied
@@ -15,11 +14,11 @@ pub fn tidy_length(d: &[u8], before: Tidied) -> GivenTidied
 {
     let answer = tidying::tidy_length(d);
     match answer {
-        LengthAnswer::Length(length) => GivenTidied {
+        Ok(length) => GivenTidied {
             tidied: Tidied { length: length },
             refusal: form::refusal_of(0),
         },
-        LengthAnswer::Refused(refusal) => GivenTidied {
+        Err(refusal) => GivenTidied {
             tidied: before,
             refusal: refusal,
         },

@@ -7,7 +7,6 @@ ghost use Rattle.c_calls.specs.TypeCalls.{extent_given, classes_given, run_part,
 
 use crate::{GivenClasses, GivenExtent, GivenPart};
 use flat::Classes;
-use questions::{ClassesAnswer, ExtentAnswer, RunAnswer};
 use types::Extent;
 use units::Bytes;
 
@@ -17,7 +16,7 @@ pub fn type_extent(d: &[u8], asked: u8, before: Extent) -> GivenExtent
         × (result.extent ≡ left_in (extent_given (extent_answer d.now asked)) before) }
 {
     let answer = questions::type_extent(d, asked);
-    let ExtentAnswer::Known(extent) = answer else {
+    let Ok(extent) = answer else {
         return GivenExtent {
             extent: before,
             refusal: questions::refusal_in(answer),
@@ -36,7 +35,7 @@ pub fn type_classes(d: &[u8], asked: u8, before: Classes) -> GivenClasses
 {
     let answer = questions::type_classes(d, asked);
     match answer {
-        ClassesAnswer::Classes(first, second, third, fourth) => GivenClasses {
+        Ok((first, second, third, fourth)) => GivenClasses {
             classes: Classes {
                 first: classes::code_of(first),
                 second: classes::code_of(second),
@@ -45,7 +44,7 @@ pub fn type_classes(d: &[u8], asked: u8, before: Classes) -> GivenClasses
             },
             refusal: form::refusal_of(0),
         },
-        ClassesAnswer::Refused(refusal) => GivenClasses {
+        Err(refusal) => GivenClasses {
             classes: before,
             refusal: refusal,
         },
@@ -58,15 +57,15 @@ pub fn member_run(d: &[u8], asked: u8) -> GivenPart
 {
     let answer = questions::run_at(d, asked);
     match answer {
-        RunAnswer::Run(offset, count) => GivenPart {
+        Ok(Some((offset, count))) => GivenPart {
             part: flat::part_of(1, offset, Bytes(count)),
             refusal: form::refusal_of(0),
         },
-        RunAnswer::NoRun => GivenPart {
+        Ok(None) => GivenPart {
             part: flat::nowhere(),
             refusal: form::refusal_of(0),
         },
-        RunAnswer::Refused(refusal) => GivenPart {
+        Err(refusal) => GivenPart {
             part: flat::nowhere(),
             refusal: refusal,
         },

@@ -11,7 +11,6 @@ ghost use Rattle.c_calls.specs.WalkCalls.{open_given, step_given, finish_given, 
 
 use crate::{GivenPart, GivenWalk};
 use flat::{Station, Walk};
-use walk::{OpenAnswer, ShownAnswer};
 
 // A walk before the first unnamed argument.
 pub fn open_walk(station: Station, seat: &[u8], before: Walk) -> GivenWalk
@@ -20,11 +19,11 @@ pub fn open_walk(station: Station, seat: &[u8], before: Walk) -> GivenWalk
 {
     let answer = walk::open_walk(flat::station_of(station), seat);
     match answer {
-        OpenAnswer::Opened(opened) => GivenWalk {
+        Ok(opened) => GivenWalk {
             walk: flat::flat_walk(opened),
             refusal: form::refusal_of(0),
         },
-        OpenAnswer::Refused(refusal) => GivenWalk {
+        Err(refusal) => GivenWalk {
             walk: before,
             refusal: refusal,
         },
@@ -124,19 +123,19 @@ pub fn show(
         asked,
     );
     match answer {
-        ShownAnswer::Registers(part) => GivenPart {
+        Ok(Some(Shown::Registers(part))) => GivenPart {
             part: flat::part_of(2, part.offset, part.length),
             refusal: form::refusal_of(0),
         },
-        ShownAnswer::Stack(part) => GivenPart {
+        Ok(Some(Shown::Stack(part))) => GivenPart {
             part: flat::part_of(3, part.offset, part.length),
             refusal: form::refusal_of(0),
         },
-        ShownAnswer::Apart => GivenPart {
+        Ok(None) => GivenPart {
             part: flat::nowhere(),
             refusal: form::refusal_of(0),
         },
-        ShownAnswer::Refused(refusal) => GivenPart {
+        Err(refusal) => GivenPart {
             part: flat::nowhere(),
             refusal: refusal,
         },

@@ -1,4 +1,5 @@
 -- What each call of the C interface answers and leaves, by the paper's numbers. Assumes nothing.
+use Rattle.std.specs.Prelude.{None, Ok, Some}
 use mathlib.Core.Path.{◌≡◌, refl, sym, ap, ap₂, subst, ◌∙◌}
 use mathlib.Core.Bool.{Bool, true, false, cond}
 use mathlib.Core.List.{List}
@@ -12,7 +13,6 @@ use Rattle.form.specs.declared.Refusal.{Refusal}
 use Rattle.form.specs.Reading.{refusal_of}
 use Rattle.types.specs.Wrong.{refusal_for}
 use Rattle.types.proofs.Wrong.{no_type}
-use Rattle.questions.specs.declared.RunAnswer.TheVariants.{Run, NoRun}
 use Rattle.questions.specs.Questions.{question_refusal, extent_answer}
 use Rattle.questions.specs.Runs.{classes_answer, run_answer}
 use Rattle.layout.specs.Verdict.{verdict}
@@ -34,7 +34,6 @@ use Rattle.station.proofs.Kcb.{kcb-refusal}
 use Rattle.walk.specs.Orders.{offsets_of, open_refusal, step_refusal, show_refusal}
 use Rattle.finishing.specs.Rest.{finish_refusal, finish_walk}
 use Rattle.walk.specs.Steps.{opened_if, open_walk, open_answer, step_walk}
-use Rattle.walk.specs.declared.showing.ShownAnswer.TheVariants.{Registers, Apart}
 use Rattle.places.specs.Shapes.{Shape}
 use Rattle.station.specs.Paper.{shape_at}
 use Rattle.walk.specs.Offsets.{Source, from_registers, from_stack, read_at}
@@ -101,8 +100,8 @@ told_part : (part : Part) (r : Refusal) (d : List ℕ) (n : ℕ) (new : Part) �
 told_part part r d n new e f = record { refusal = f ∙ refusal-zero d n; shown = e ∙ by_zero n new nowhere }
 
 run-part : (d : List ℕ) (t : ℕ) (b : Bool) → ltb (kind_at d t) 2 ≡ b
-    → (run_part (cond b NoRun (Run (record { 0 = member_start d + a_at d t }) (count_at d t))) ≡ run_of d t)
-    × (run_refusal (cond b NoRun (Run (record { 0 = member_start d + a_at d t }) (count_at d t))) ≡ refusal_of 0)
+    → (run_part (cond b (Ok None) (Ok (Some (record { 0 = member_start d + a_at d t }, count_at d t)))) ≡ run_of d t)
+    × (run_refusal (cond b (Ok None) (Ok (Some (record { 0 = member_start d + a_at d t }, count_at d t)))) ≡ refusal_of 0)
 unfolding run_of
 run-part d t true e = rw e (refl, refl)
 run-part d t false e = rw e (refl, refl)
@@ -152,7 +151,7 @@ open_told s seat =
 shown-none : (o : Source) (s : Shape) → shown_refusal (part_in o s) ≡ refusal_of 0
 shown-none (from_registers os) s = by (one_piece s.kinds)
   where
-    by : (b : Bool) → shown_refusal (cond b (Registers (record { offset = record { 0 = head_of os }; length = record { 0 = s.size } })) Apart) ≡ refusal_of 0
+    by : (b : Bool) → shown_refusal (cond b (Ok (Some (Registers (record { offset = record { 0 = head_of os }; length = record { 0 = s.size } })))) (Ok None)) ≡ refusal_of 0
     by true = refl
     by false = refl
 shown-none (from_stack o) s = refl

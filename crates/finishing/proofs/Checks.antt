@@ -1,4 +1,5 @@
 -- The checks as code makes them: the types one by one, and the sum of the sizes. Assumes nothing.
+use Rattle.std.specs.Prelude.{Ok, Result}
 use mathlib.Core.Path.{◌≡◌, sym, ap, ap₂, ◌∙◌}
 use mathlib.Core.Logic.{◌≢◌}
 use mathlib.Core.Bool.{Bool, true, false, not}
@@ -23,8 +24,6 @@ use Rattle.layout.proofs.Bounds.{argument-known, argument-small, types-few}
 use Rattle.form.specs.Reading.{refusal_of}
 use Rattle.form.specs.declared.Refusal.{Refusal}
 use Rattle.layout.specs.declared.Layout.{Layout}
-use Rattle.layout.specs.declared.LayoutAnswer.{LayoutAnswer}
-use Rattle.layout.specs.declared.LayoutAnswer.TheVariants.{Laid}
 use Rattle.layout.specs.Verdict.{verdict}
 use Rattle.layout.specs.Layout.{layout_of, layout_answer}
 use Rattle.layout.proofs.Layouts.{laid-accepted}
@@ -147,10 +146,10 @@ at_most d w b e h = omega (arith, (astray-not kcb d w h).to, kcb-arguments d)
 
 -- ---- where the layout is known
 
-pub laid-tabled : (d t : List ℕ) (r : LayoutAnswer) (l : Layout) → r ≡ layout_answer d → r ≡ Laid l → (verdict d ≡ 0 → Tabled d t) → Tabled d t
+pub laid-tabled : (d t : List ℕ) (r : Result Layout Refusal) (l : Layout) → r ≡ layout_answer d → r ≡ Ok l → (verdict d ≡ 0 → Tabled d t) → Tabled d t
 laid-tabled d t r l e p h = h (laid-accepted d l (sym e ∙ p)).0
 
-pub laid-area : (d : List ℕ) (r : LayoutAnswer) (l : Layout) → r ≡ layout_answer d → r ≡ Laid l → l.area.0 ≡ area_of kcb d
+pub laid-area : (d : List ℕ) (r : Result Layout Refusal) (l : Layout) → r ≡ layout_answer d → r ≡ Ok l → l.area.0 ≡ area_of kcb d
 unfolding layout_of
 laid-area d r l e p = ap (λ (m : Layout). m.area.0) (laid-right d r l e p).1 ∙ sym (kcb-area d)
 

@@ -13,7 +13,6 @@ ghost use Rattle.finishing.specs.Rest.{asking_rest, remaining, differs, sizes_fr
 ghost use Rattle.finishing.specs.Asks.{Judged};
 
 use form::Refusal;
-use layout::LayoutAnswer;
 use station::Station;
 use units::Bytes;
 use walk::{Stepped, Walk};
@@ -138,7 +137,7 @@ fn finish_seated(
 {
     let mut table = [0u32; 64];
     let answer = layout::layout_with(d, &mut table);
-    let LayoutAnswer::Laid(layout) = answer else {
+    let Ok(layout) = answer else {
         return Stepped {
             walk: walk,
             refusal: layout::refusal_in(answer),

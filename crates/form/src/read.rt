@@ -3,7 +3,8 @@ ghost use Rattle.std.specs.Prelude.{◌≡◌};
 ghost use Rattle.form.specs.Order.{form_refusal};
 ghost use Rattle.form.specs.Reading.{reading_of};
 
-use crate::{Reading, conditions};
+use crate::{Refusal, conditions};
+use description::Header;
 
 // Which of the refusals 1 to 6 the description gets, or 0.
 pub fn form_refusal(d: &[u8]) -> u8
@@ -32,15 +33,15 @@ pub fn form_refusal(d: &[u8]) -> u8
 }
 
 // The header of a description of good form, or its refusal among 1 to 6.
-pub fn read_form(d: &[u8]) -> Reading
+pub fn read_form(d: &[u8]) -> Result<Header, Refusal>
     ensures { result ≡ reading_of d.now }
 {
     let number = form_refusal(d);
     if number == 0 {
-        return Reading::Accepted(description::header_of(d));
+        return Ok(description::header_of(d));
     }
     if number == 6 {
-        return Reading::Refused(crate::refusal_at(6, conditions::first_broken(d)));
+        return Err(crate::refusal_at(6, conditions::first_broken(d)));
     }
-    Reading::Refused(crate::refusal_of(number))
+    Err(crate::refusal_of(number))
 }

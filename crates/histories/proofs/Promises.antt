@@ -1,4 +1,5 @@
 -- Demand 3, second half: reconnection. Assumes nothing but what `Lawful` says of accepted descriptions.
+use Rattle.std.specs.Prelude.{Err, Ok}
 use mathlib.Core.Path.{◌≡◌, refl, sym, ap, subst, ◌∙◌}
 use mathlib.Core.Logic.{⊎_elim}
 use mathlib.Core.Bool.{Bool, true, false, cond, not, ◌||◌}
@@ -18,7 +19,6 @@ use Rattle.station.specs.Attachment.{wrong_seat, described, detach_refusal, deta
 use Rattle.station.proofs.Attachments.{under-high, detach-right, detach-done, attach-last, attach-judged}
 use Rattle.station.proofs.Changes.{zeros-right}
 use Rattle.walk.specs.declared.Walk.{Walk}
-use Rattle.walk.specs.declared.OpenAnswer.TheVariants.{Opened, Refused as OpenRefused}
 use Rattle.walk.specs.Orders.{Ask, standing, open_refusal, wrong_stack, wrong_out, step_refusal, show_refusal}
 use Rattle.walk.specs.Steps.{opened_if, open_walk, open_answer}
 use Rattle.histories.specs.Calls.{Desk, Call, opening, Arrival, arriving, new_desk, call, calls, Until, handed, Spares, Served}
@@ -59,10 +59,10 @@ unfolding standing
 standing-number P d n p = omega arith
 
 open_answered : (P : Paper) (s : Station) (seat : List ℕ) (b : Bool) (w : Walk) → open_refusal P s seat ≡ cond b 0 16 → open_walk P s seat ≡ w
-    → open_answer P s seat ≡ cond b (Opened w) (OpenRefused (refusal_of 16))
+    → open_answer P s seat ≡ cond b (Ok w) (Err (refusal_of 16))
 unfolding open_answer opened_if
 open_answered P s seat true w e f = rw (e, f)
-open_answered P s seat false w e f = rw e (ap OpenRefused (under-high P _ 16 (omega arith)))
+open_answered P s seat false w e f = rw e (ap Err (under-high P _ 16 (omega arith)))
 
 flip : (b : Bool) → cond b 0 16 ≡ first (rule 16 (not b) ∷ [])
 flip true = refl

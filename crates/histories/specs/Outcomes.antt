@@ -1,5 +1,5 @@
 -- What is so at a desk: the conclusions of the statements of condition C. Assumes nothing: these are definitions.
-use Rattle.std.specs.Prelude.{◌≡◌, true, cond, not, List, [], ◌∷◌, ◌++◌, ℕ, ◌+◌, ◌≤◌, eqb, length, get_or, take}
+use Rattle.std.specs.Prelude.{◌≡◌, true, cond, not, List, [], ◌∷◌, ◌++◌, ℕ, ◌+◌, ◌≤◌, eqb, length, get_or, take, Err, Ok}
 use Rattle.description.specs.Description.{IsBytes}
 use Rattle.form.specs.Order.{rule, first}
 use Rattle.form.specs.Reading.{refusal_of}
@@ -8,7 +8,6 @@ use Rattle.station.specs.declared.Station.{Station}
 use Rattle.station.specs.Paper.{Paper, arguments, shape_at, type_at, used_at}
 use Rattle.station.specs.Attachment.{seat_of, detach_refusal, detach_station, detach_seat, attach_refusal, change_refusal}
 use Rattle.walk.specs.declared.Walk.{Walk}
-use Rattle.walk.specs.declared.OpenAnswer.TheVariants.{Opened, Refused as OpenRefused}
 use Rattle.walk.specs.Offsets.{source_in}
 use Rattle.walk.specs.Orders.{Ask, wrong_registers, standing, open_refusal, step_refusal, show_refusal}
 use Rattle.walk.specs.Steps.{open_walk, open_answer}
@@ -27,7 +26,7 @@ pub record Started (P : Paper) (n : ℕ) (d : List ℕ) (k : Desk) : Type 0 wher
   pub seat : k.seat ≡ seat_of d
   pub opens : open_refusal P k.station k.seat ≡ cond (P.variadic d) 0 16
   pub walk : open_walk P k.station k.seat ≡ standing P d n (P.named d)
-  pub answer : open_answer P k.station k.seat ≡ cond (P.variadic d) (Opened (standing P d n (P.named d))) (OpenRefused (refusal_of 16))
+  pub answer : open_answer P k.station k.seat ≡ cond (P.variadic d) (Ok (standing P d n (P.named d))) (Err (refusal_of 16))
 
 -- d is attached, and the walk i stands before its argument p
 pub record Stands (P : Paper) (d : List ℕ) (i : ℕ) (k : Desk) (p : ℕ) : Type 0 where

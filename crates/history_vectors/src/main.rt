@@ -7,7 +7,7 @@ ghost use Rattle.std.specs.Prelude.{◌≡◌, true, ◌<◌, ◌≤◌, length}
 use form::Refusal;
 use station::Station;
 use units::Bytes;
-use walk::{OpenAnswer, ShownAnswer, Walk};
+use walk::Walk;
 
 // More than the file has, so that the program ends whatever it reads.
 const COMMANDS: usize = 100000;
@@ -381,13 +381,13 @@ fn open(rt: &(impl Print + Input), state: State, seat: &[u8]) -> State {
     let slot = read_byte(rt) as usize;
     let answer = walk::open_walk(station, seat);
     match answer {
-        OpenAnswer::Opened(walk) => {
+        Ok(walk) => {
             let next = with_walk(state, slot, walk);
             print(rt, b"open 0 0");
             print_slot(rt, next, slot);
             next
         }
-        OpenAnswer::Refused(refusal) => {
+        Err(refusal) => {
             print_refusal(rt, b"open ", refusal);
             print_slot(rt, state, slot);
             state
@@ -510,10 +510,10 @@ fn show<'a>(
     let walk = walk_in(state, slot);
     let part = walk::show(station, seat, walk, registers, stack, asked);
     match walk::shown_at(station, seat, walk, registers, stack, asked) {
-        ShownAnswer::Registers(place) => print_part(rt, b"show registers ", place.offset, part),
-        ShownAnswer::Stack(place) => print_part(rt, b"show stack ", place.offset, part),
-        ShownAnswer::Apart => print(rt, b"show none\n"),
-        ShownAnswer::Refused(_) => print(rt, b"show none\n"),
+        Ok(Some(Shown::Registers(place))) => print_part(rt, b"show registers ", place.offset, part),
+        Ok(Some(Shown::Stack(place))) => print_part(rt, b"show stack ", place.offset, part),
+        Ok(None) => print(rt, b"show none\n"),
+        Err(_) => print(rt, b"show none\n"),
     }
 }
 

@@ -1,4 +1,5 @@
 -- The layout as a whole: what is used and how many bytes the values have after any number of arguments. Assumes nothing.
+use Rattle.std.specs.Prelude.{Err, Ok}
 use mathlib.Core.Path.{◌≡◌, refl, sym, ap, ◌∙◌}
 use mathlib.Core.Bool.{Bool, true, false, cond}
 use mathlib.Core.List.{List}
@@ -25,7 +26,6 @@ use Rattle.layout.specs.Asks.{Before, AskRecord, AskArguments, Alike, IsLaid}
 use Rattle.layout.specs.Placements.{laying_fresh, laying_at, step_at}
 use Rattle.layout.specs.Verdict.{verdict}
 use Rattle.layout.specs.Layout.{values_of, layout_of, layout_answer, refusal_in, table_after}
-use Rattle.layout.specs.declared.LayoutAnswer.TheVariants.{Laid, Refused}
 use Rattle.layout.specs.declared.Layout.{Layout}
 use Rattle.layout.specs.declared.placements.Laying.{Laying}
 use Rattle.layout.proofs.Arguments.{shapes-split, used-none, used-next, used-split, start_none, start-next}
@@ -133,15 +133,15 @@ module _ (d : List ℕ) where
       λ i. record { used = u i; area = record { 0 = area i }; align = record { 0 = align i }; values = record { 0 = v i }; returns = p i; returned = record { 0 = s i }; hidden = q i; named = n i }
 
 -- the answer
-answered : (d : List ℕ) (b : Bool) → eqb (verdict d) 0 ≡ b → layout_answer d ≡ cond b (Laid (layout_of d)) (Refused (refusal_for d (verdict d)))
+answered : (d : List ℕ) (b : Bool) → eqb (verdict d) 0 ≡ b → layout_answer d ≡ cond b (Ok (layout_of d)) (Err (refusal_for d (verdict d)))
 unfolding layout_answer
 answered d b e = rw e
 
-pub answer-laid : (d : List ℕ) (l : Layout) → l ≡ layout_of d → verdict d ≡ 0 → Laid l ≡ layout_answer d
-answer-laid d l e v = ap Laid e ∙ sym (answered d true (eq-eqb (verdict d) 0 v))
+pub answer-laid : (d : List ℕ) (l : Layout) → l ≡ layout_of d → verdict d ≡ 0 → Ok l ≡ layout_answer d
+answer-laid d l e v = ap Ok e ∙ sym (answered d true (eq-eqb (verdict d) 0 v))
 
-pub answer-refused : (d : List ℕ) (n : ℕ) (r : Refusal) → r ≡ refusal_for d n → verdict d ≡ n → (n ≡ 0 → ⊥) → Refused r ≡ layout_answer d
-answer-refused d n r e v z = ap Refused (e ∙ ap (refusal_for d) (sym v)) ∙ sym (answered d false (ne_eqb (verdict d) 0 (λ q. z (sym v ∙ q))))
+pub answer-refused : (d : List ℕ) (n : ℕ) (r : Refusal) → r ≡ refusal_for d n → verdict d ≡ n → (n ≡ 0 → ⊥) → Err r ≡ layout_answer d
+answer-refused d n r e v z = ap Err (e ∙ ap (refusal_for d) (sym v)) ∙ sym (answered d false (ne_eqb (verdict d) 0 (λ q. z (sym v ∙ q))))
 
 -- by the area that was found
 module _ (d : List ℕ) (right : uses_refusal d ≡ 0) (l : Layout) (is : l ≡ layout_of d) where
@@ -149,26 +149,26 @@ module _ (d : List ℕ) (right : uses_refusal d ≡ 0) (l : Layout) (is : l ≡ 
   unfolding layout_of
   area-is = ap (λ (k : Layout). k.area.0) is
 
-  pub answer-wide : (r : Refusal) → r ≡ refusal_of 10 → ltb 16384 l.area.0 ≡ true → Refused r ≡ layout_answer d
+  pub answer-wide : (r : Refusal) → r ≡ refusal_of 10 → ltb 16384 l.area.0 ≡ true → Err r ≡ layout_answer d
   answer-wide r e h = answer-refused d 10 r (e ∙ sym (no_type d 10 refl refl)) (ten d right (omega (arith, area-is, ltb-true 16384 l.area.0 h))) (λ z. omega arith)
 
-  pub answer-small : ltb 16384 l.area.0 ≡ false → Laid l ≡ layout_answer d
+  pub answer-small : ltb 16384 l.area.0 ≡ false → Ok l ≡ layout_answer d
   answer-small h = answer-laid d l is (no_ten d right (omega (arith, area-is, ltb-false 16384 l.area.0 h)))
 
 -- an answer that is known says which verdict there is
-pub laid-accepted : (d : List ℕ) (l : Layout) → layout_answer d ≡ Laid l → (verdict d ≡ 0) × (l ≡ layout_of d)
+pub laid-accepted : (d : List ℕ) (l : Layout) → layout_answer d ≡ Ok l → (verdict d ≡ 0) × (l ≡ layout_of d)
 laid-accepted d l e = by (eqb (verdict d) 0) refl
   where
     by : (b : Bool) → eqb (verdict d) 0 ≡ b → (verdict d ≡ 0) × (l ≡ layout_of d)
-    by true q = (eqb-true (verdict d) 0 q, let z : Laid l ≡ Laid (layout_of d) = sym e ∙ answered d true q in cc)
-    by false q = absurd (let z : Laid l ≡ Refused (refusal_for d (verdict d)) = sym e ∙ answered d false q in let f : ◌≡◌ {A = ℕ} 0 1 = cc in omega arith)
+    by true q = (eqb-true (verdict d) 0 q, let z : Ok l ≡ Ok (layout_of d) = sym e ∙ answered d true q in cc)
+    by false q = absurd (let z : Ok l ≡ Err (refusal_for d (verdict d)) = sym e ∙ answered d false q in let f : ◌≡◌ {A = ℕ} 0 1 = cc in omega arith)
 
-pub refused-verdict : (d : List ℕ) (r : Refusal) → layout_answer d ≡ Refused r → r ≡ refusal_for d (verdict d)
+pub refused-verdict : (d : List ℕ) (r : Refusal) → layout_answer d ≡ Err r → r ≡ refusal_for d (verdict d)
 refused-verdict d r e = by (eqb (verdict d) 0) refl
   where
     by : (b : Bool) → eqb (verdict d) 0 ≡ b → r ≡ refusal_for d (verdict d)
-    by true q = absurd (let z : Refused r ≡ Laid (layout_of d) = sym e ∙ answered d true q in let f : ◌≡◌ {A = ℕ} 0 1 = cc in omega arith)
-    by false q = let z : Refused r ≡ Refused (refusal_for d (verdict d)) = sym e ∙ answered d false q in cc
+    by true q = absurd (let z : Err r ≡ Ok (layout_of d) = sym e ∙ answered d true q in let f : ◌≡◌ {A = ℕ} 0 1 = cc in omega arith)
+    by false q = let z : Err r ≡ Err (refusal_for d (verdict d)) = sym e ∙ answered d false q in cc
 
 -- an answer carries the description's refusal
 pub told : (d : List ℕ) → refusal_in (layout_answer d) ≡ refusal_for d (verdict d)
@@ -179,13 +179,13 @@ told d = by (eqb (verdict d) 0) refl
     by false q = ap refusal_in (answered d false q)
 
 -- no answer is 0 and refused: a refusal that is passed on has a number
-pub refused-nonzero : (d : List ℕ) (r : Refusal) → layout_answer d ≡ Refused r → verdict d ≡ 0 → ⊥
+pub refused-nonzero : (d : List ℕ) (r : Refusal) → layout_answer d ≡ Err r → verdict d ≡ 0 → ⊥
 refused-nonzero d r e v =
-    let z : Refused r ≡ Laid (layout_of d) = e' in
+    let z : Err r ≡ Ok (layout_of d) = e' in
     let f : ◌≡◌ {A = ℕ} 0 1 = cc in
     omega arith
   where
-    e' : Refused r ≡ Laid (layout_of d)
+    e' : Err r ≡ Ok (layout_of d)
     e' = sym e ∙ answered d true (eq-eqb (verdict d) 0 v)
 
 -- the table once it is worked out

@@ -1,4 +1,5 @@
 -- The lent list: which number, exactly, and how the records follow one another. Assumes nothing.
+use Rattle.std.specs.Prelude.{Err, Ok}
 use mathlib.Core.Path.{◌≡◌, refl, sym, ap, ◌∙◌}
 use mathlib.Core.Bool.{Bool, true, false, cond}
 use mathlib.Core.List.{List, [], ◌∷◌}
@@ -25,7 +26,6 @@ use Rattle.layout.specs.declared.Layout.{Layout}
 use Rattle.layout.specs.declared.placements.Laying.{Laying}
 use Rattle.layout.specs.declared.lent_list.Begun.{Begun}
 use Rattle.layout.specs.declared.lent_list.Opened.{Opened}
-use Rattle.layout.specs.declared.LayoutAnswer.TheVariants.{Laid, Refused}
 use Rattle.layout.proofs.Verdict.{accepted-uses, check-positive}
 use Rattle.layout.proofs.Layouts.{record_asks, laying_none, laying_next, laid-accepted, refused-verdict, refused-nonzero}
 
@@ -65,32 +65,32 @@ module _ (d : List ℕ) (room : ℕ) where
   list_room h = ltb-false room (arguments_in d) ((list_none_exactly d room).0 h).1.1.1.1.1.1.1.1.1.1.0
 
   -- what `begin` answers
-  begun_accepted : list_refusal d room ≡ 0 → (r : Begun) → r.answer ≡ Laid (layout_of d) → r.count ≡ arguments_in d → r.before ≡ laying_fresh (hidden d) → r ≡ begun_of d room
+  begun_accepted : list_refusal d room ≡ 0 → (r : Begun) → r.answer ≡ Ok (layout_of d) → r.count ≡ arguments_in d → r.before ≡ laying_fresh (hidden d) → r ≡ begun_of d room
   unfolding begun_of list_answer list_count list_laying
   begun_accepted e r a n u =
       rw (eq-eqb (list_refusal d room) 0 e) (λ i. record { answer = a i; count = n i; before = (u ∙ sym (laying_none d)) i })
 
-  begun_refused : (list_refusal d room ≡ 0 → ⊥) → (r : Begun) → r.answer ≡ Refused (refusal_for d (list_refusal d room)) → r.count ≡ 0 → r.before ≡ laying_fresh false → r ≡ begun_of d room
+  begun_refused : (list_refusal d room ≡ 0 → ⊥) → (r : Begun) → r.answer ≡ Err (refusal_for d (list_refusal d room)) → r.count ≡ 0 → r.before ≡ laying_fresh false → r ≡ begun_of d room
   unfolding begun_of list_answer list_count list_laying
   begun_refused e r a n u = rw (ne_eqb (list_refusal d room) 0 e) (λ i. record { answer = a i; count = n i; before = u i })
 
-  pub begin-refused : (f : Refusal) (r : Begun) → layout_answer d ≡ Refused f → r.answer ≡ Refused f → r.count ≡ 0 → r.before ≡ laying_fresh false → r ≡ begun_of d room
+  pub begin-refused : (f : Refusal) (r : Begun) → layout_answer d ≡ Err f → r.answer ≡ Err f → r.count ≡ 0 → r.before ≡ laying_fresh false → r ≡ begun_of d room
   begin-refused f r e a n u =
       let z = refused-nonzero d f e in
-      begun_refused (λ q. z (sym (list_verdict z) ∙ q)) r (a ∙ ap Refused (refused-verdict d f e ∙ ap (refusal_for d) (sym (list_verdict z)))) n u
+      begun_refused (λ q. z (sym (list_verdict z) ∙ q)) r (a ∙ ap Err (refused-verdict d f e ∙ ap (refusal_for d) (sym (list_verdict z)))) n u
 
-  pub begin-short : (l : Layout) (f : Refusal) (r : Begun) → layout_answer d ≡ Laid l → room < arguments_in d → f ≡ refusal_of 11 → r.answer ≡ Refused f → r.count ≡ 0
+  pub begin-short : (l : Layout) (f : Refusal) (r : Begun) → layout_answer d ≡ Ok l → room < arguments_in d → f ≡ refusal_of 11 → r.answer ≡ Err f → r.count ≡ 0
       → r.before ≡ laying_fresh false → r ≡ begun_of d room
   begin-short l f r e h q a n u =
       let v = eleven (laid-accepted d l e).0 h in
-      begun_refused (λ z. omega arith) r (a ∙ ap Refused (q ∙ sym (no_type d 11 refl refl) ∙ ap (refusal_for d) (sym v))) n u
+      begun_refused (λ z. omega arith) r (a ∙ ap Err (q ∙ sym (no_type d 11 refl refl) ∙ ap (refusal_for d) (sym v))) n u
 
-  pub begin-laid : (l : Layout) (r : Begun) → layout_answer d ≡ Laid l → arguments_in d ≤ room → r.answer ≡ Laid l → r.count ≡ arguments_in d → r.before ≡ laying_fresh l.hidden
+  pub begin-laid : (l : Layout) (r : Begun) → layout_answer d ≡ Ok l → arguments_in d ≤ room → r.answer ≡ Ok l → r.count ≡ arguments_in d → r.before ≡ laying_fresh l.hidden
       → r ≡ begun_of d room
   unfolding layout_of
   begin-laid l r e h a n u =
       let k = laid-accepted d l e in
-      begun_accepted (no_eleven k.0 h) r (a ∙ ap Laid k.1) n (u ∙ ap (λ (m : Layout). laying_fresh m.hidden) k.1)
+      begun_accepted (no_eleven k.0 h) r (a ∙ ap Ok k.1) n (u ∙ ap (λ (m : Layout). laying_fresh m.hidden) k.1)
 
   pub begun_answer : (begun_of d room).answer ≡ list_answer d room
   unfolding begun_of

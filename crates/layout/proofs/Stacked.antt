@@ -1,4 +1,5 @@
 -- Which argument goes to the stack first, by what is used after each (request 2026-10), and that the area tells whether one does. Assumes nothing.
+use Rattle.std.specs.Prelude.{Err, Ok}
 use mathlib.Core.Path.{◌≡◌, refl, sym, ap, ◌∙◌}
 use mathlib.Core.Bool.{Bool, true, false, cond}
 use mathlib.Core.List.{List}
@@ -27,7 +28,6 @@ use Rattle.layout.specs.Placements.{turn_at}
 use Rattle.layout.specs.StackNeeds.{stacked, first_stacked, stack_need, stack_answer}
 use Rattle.layout.specs.declared.placements.Turn.{Turn}
 use Rattle.layout.specs.declared.needing.StackNeed.{StackNeed}
-use Rattle.layout.specs.declared.needing.StackAnswer.TheVariants.{Known, Refused}
 use Rattle.layout.proofs.Arguments.{used-none, used-next}
 use Rattle.layout.proofs.Bounds.{argument-known, argument-shaped}
 use Rattle.layout.proofs.Layouts.{asks_at}
@@ -117,24 +117,24 @@ module _ (d : List ℕ) (i : ℕ) (u : Used) (g : Looking d i u) where
 
 -- ---- the answer
 
-answered : (d : List ℕ) (b : Bool) → eqb (uses_refusal d) 0 ≡ b → stack_answer d ≡ cond b (Known (stack_need d)) (Refused (refusal_for d (uses_refusal d)))
+answered : (d : List ℕ) (b : Bool) → eqb (uses_refusal d) 0 ≡ b → stack_answer d ≡ cond b (Ok (stack_need d)) (Err (refusal_for d (uses_refusal d)))
 unfolding stack_answer
 answered d b e = rw e
 
-pub need_refused : (d : List ℕ) (n : ℕ) (r : Refusal) → n ≡ uses_refusal d → (n ≡ 0 → ⊥) → r ≡ refusal_for d n → Refused r ≡ stack_answer d
-need_refused d n r e z q = ap Refused (q ∙ ap (refusal_for d) e) ∙ sym (answered d false (ne_eqb (uses_refusal d) 0 (λ h. z (e ∙ h))))
+pub need_refused : (d : List ℕ) (n : ℕ) (r : Refusal) → n ≡ uses_refusal d → (n ≡ 0 → ⊥) → r ≡ refusal_for d n → Err r ≡ stack_answer d
+need_refused d n r e z q = ap Err (q ∙ ap (refusal_for d) e) ∙ sym (answered d false (ne_eqb (uses_refusal d) 0 (λ h. z (e ∙ h))))
 
 module _ (d : List ℕ) (right : uses_refusal d ≡ 0) (k a : ℕ) (is : k ≡ first_stacked d) (all : a ≡ arguments_in d) where
-  known : (n : StackNeed) → n ≡ stack_need d → Known n ≡ stack_answer d
-  known n e = ap Known e ∙ sym (answered d true (eq-eqb (uses_refusal d) 0 right))
+  known : (n : StackNeed) → n ≡ stack_need d → Ok n ≡ stack_answer d
+  known n e = ap Ok e ∙ sym (answered d true (eq-eqb (uses_refusal d) 0 right))
 
-  pub need_some : k < a → Known (record { needed = true; looked = k + 1 }) ≡ stack_answer d
+  pub need_some : k < a → Ok (record { needed = true; looked = k + 1 }) ≡ stack_answer d
   unfolding stack_need
   need_some h =
       known _
       (rw (lt-ltb (first_stacked d) (arguments_in d) (omega (arith, is, all))) (λ j. record { needed = true; looked = is j + 1 }))
 
-  pub need_none : a ≤ k → Known (record { needed = false; looked = a }) ≡ stack_answer d
+  pub need_none : a ≤ k → Ok (record { needed = false; looked = a }) ≡ stack_answer d
   unfolding stack_need
   need_none h =
       known _

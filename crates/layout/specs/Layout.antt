@@ -1,6 +1,6 @@
 -- What a layout answers: registers used, vector count, area and its alignment, length of the packed values, return place, size of the returned value, walk start.
 -- Assumes nothing: these are definitions.
-use Rattle.std.specs.Prelude.{cond, List, ℕ, eqb}
+use Rattle.std.specs.Prelude.{cond, List, ℕ, eqb, Err, Ok, Result}
 use Rattle.description.specs.Description.{types_in, named_in, arguments_in}
 use Rattle.form.specs.declared.Refusal.{Refusal}
 use Rattle.form.specs.Reading.{refusal_of}
@@ -13,8 +13,6 @@ use Rattle.places.specs.Images.{total}
 use Rattle.layout.specs.Arguments.{shapes, return_place, returned_size, hidden, used_at, area_of}
 use Rattle.layout.specs.Verdict.{verdict}
 use Rattle.layout.specs.declared.Layout.{Layout}
-use Rattle.layout.specs.declared.LayoutAnswer.{LayoutAnswer}
-use Rattle.layout.specs.declared.LayoutAnswer.TheVariants.{Laid, Refused}
 
 -- "Values come packed, argument after argument, size bytes each, no gaps"
 unfoldable pub values_of : List ℕ → ℕ
@@ -35,13 +33,13 @@ layout_of d = record {
 }
 
 -- "1..10"
-unfoldable pub layout_answer : List ℕ → LayoutAnswer
-layout_answer d = cond (eqb (verdict d) 0) (Laid (layout_of d)) (Refused (refusal_for d (verdict d)))
+unfoldable pub layout_answer : List ℕ → Result Layout Refusal
+layout_answer d = cond (eqb (verdict d) 0) (Ok (layout_of d)) (Err (refusal_for d (verdict d)))
 
 -- the refusal that an answer carries
-abbrev pub refusal_in : LayoutAnswer → Refusal
-refusal_in (Laid l) = refusal_of 0
-refusal_in (Refused r) = r
+abbrev pub refusal_in : Result Layout Refusal → Refusal
+refusal_in (Ok l) = refusal_of 0
+refusal_in (Err r) = r
 
 -- the table once it is worked out: classes too, where none of 1 to 9 refuses
 unfoldable pub table_after : List ℕ → List ℕ → List ℕ

@@ -1,6 +1,6 @@
 -- The list of placement records that the caller lends: document 01, "One placement record for each argument goes into the list the
 -- caller lends .. Entries past A stay". Assumes nothing: these are definitions.
-use Rattle.std.specs.Prelude.{Bool, false, cond, List, [], ◌∷◌, ◌++◌, ℕ, ltb, eqb, replicate}
+use Rattle.std.specs.Prelude.{Bool, false, cond, List, [], ◌∷◌, ◌++◌, ℕ, ltb, eqb, replicate, Err, Ok, Result}
 use Rattle.description.specs.Description.{arguments_in}
 use Rattle.form.specs.Order.{Rule, rule, first}
 use Rattle.types.specs.Wrong.{refusal_for}
@@ -9,10 +9,10 @@ use Rattle.layout.specs.Placements.{laying_fresh, laying_at}
 use Rattle.layout.specs.declared.placements.Laying.{Laying}
 use Rattle.layout.specs.Verdict.{check_order}
 use Rattle.layout.specs.Layout.{layout_of, table_after}
-use Rattle.layout.specs.declared.LayoutAnswer.{LayoutAnswer}
-use Rattle.layout.specs.declared.LayoutAnswer.TheVariants.{Laid, Refused}
 use Rattle.layout.specs.declared.lent_list.Begun.{Begun}
 use Rattle.layout.specs.declared.lent_list.Opened.{Opened}
+use Rattle.layout.specs.declared.Layout.{Layout}
+use Rattle.form.specs.declared.Refusal.{Refusal}
 
 -- 11: "a placement list under A", of so many records
 unfoldable pub short_list : List ℕ → ℕ → Bool
@@ -25,8 +25,8 @@ layout_order d room = check_order d ++ rule 11 (short_list d room) ∷ []
 unfoldable pub list_refusal : List ℕ → ℕ → ℕ
 list_refusal d room = first (layout_order d room)
 
-unfoldable pub list_answer : List ℕ → ℕ → LayoutAnswer
-list_answer d room = cond (eqb (list_refusal d room) 0) (Laid (layout_of d)) (Refused (refusal_for d (list_refusal d room)))
+unfoldable pub list_answer : List ℕ → ℕ → Result Layout Refusal
+list_answer d room = cond (eqb (list_refusal d room) 0) (Ok (layout_of d)) (Err (refusal_for d (list_refusal d room)))
 
 -- how many records are written: none for a refusal
 unfoldable pub list_count : List ℕ → ℕ → ℕ

@@ -1,5 +1,5 @@
 -- Whether a call needs the stack at all: document 02, request 2026-10. Assumes nothing: these are definitions.
-use Rattle.std.specs.Prelude.{◌≡◌, Bool, true, false, not, cond, List, ℕ, ◌+◌, ◌<◌, ltb, eqb}
+use Rattle.std.specs.Prelude.{◌≡◌, Bool, true, false, not, cond, List, ℕ, ◌+◌, ◌<◌, ltb, eqb, Err, Ok, Result}
 use Rattle.description.specs.Description.{arguments_in}
 use Rattle.form.specs.Search.{first_from}
 use Rattle.types.specs.Wrong.{refusal_for}
@@ -10,8 +10,7 @@ use Rattle.layout.specs.Arguments.{shape_at, used_at, area_of}
 use Rattle.layout.specs.Verdict.{verdict}
 use Rattle.layout.specs.Placements.{placement_at}
 use Rattle.layout.specs.declared.needing.StackNeed.{StackNeed}
-use Rattle.layout.specs.declared.needing.StackAnswer.{StackAnswer}
-use Rattle.layout.specs.declared.needing.StackAnswer.TheVariants.{Known, Refused}
+use Rattle.form.specs.declared.Refusal.{Refusal}
 
 -- argument i finds no registers, by its class or because some are lacking: it goes to the stack
 unfoldable pub stacked : List ℕ → ℕ → Bool
@@ -29,8 +28,8 @@ stack_need d = record {
 }
 
 -- "Refusals: 1..9 as before; 10 is not given here"
-unfoldable pub stack_answer : List ℕ → StackAnswer
-stack_answer d = cond (eqb (uses_refusal d) 0) (Known (stack_need d)) (Refused (refusal_for d (uses_refusal d)))
+unfoldable pub stack_answer : List ℕ → Result StackNeed Refusal
+stack_answer d = cond (eqb (uses_refusal d) 0) (Ok (stack_need d)) (Err (refusal_for d (uses_refusal d)))
 
 -- ---- what is proved of it
 

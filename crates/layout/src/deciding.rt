@@ -9,7 +9,7 @@ ghost use Rattle.layout.specs.Verdict.{verdict};
 ghost use Rattle.types.specs.Wrong.{refusal_for};
 
 use crate::placements::Laying;
-use crate::{Layout, LayoutAnswer, placements};
+use crate::{Layout, placements};
 use form::Refusal;
 use places::Used;
 use units::Bytes;
@@ -68,38 +68,38 @@ fn lay(d: &[u8], table: &[u32; 64]) -> Layout
 // ---- what an answer carries
 
 // The refusal that an answer carries, for a caller that passes it on.
-pub fn refusal_in(answer: LayoutAnswer) -> Refusal
+pub fn refusal_in(answer: Result<Layout, Refusal>) -> Refusal
     ensures { result ≡ refusal_in answer }
 {
     match answer {
-        LayoutAnswer::Laid(_) => form::refusal_of(0),
-        LayoutAnswer::Refused(refusal) => refusal,
+        Ok(_) => form::refusal_of(0),
+        Err(refusal) => refusal,
     }
 }
 
 // ---- any bytes
 
 // The layout of any bytes, or which of 1 to 10 refuses them. Where none does, the table holds what is known of each type.
-pub fn layout_with(d: &[u8], table: &mut [u32; 64]) -> LayoutAnswer
+pub fn layout_with(d: &[u8], table: &mut [u32; 64]) -> Result<Layout, Refusal>
     ensures { (result ≡ layout_answer d.now)
         × (table.new ≡ table_after d.now table.old)
         × (verdict d.now ≡ 0 → Tabled d.now table.new) }
 {
     let number = uses::uses_refusal_with(d, table);
     if number != 0 {
-        return LayoutAnswer::Refused(types::refusal_for(d, number));
+        return Err(types::refusal_for(d, number));
     }
     classify::fill_classes(d, table);
     let layout = lay(d, table);
     let area = layout.area;
     if units::over(area, Bytes(16384)) {
-        return LayoutAnswer::Refused(form::refusal_of(10));
+        return Err(form::refusal_of(10));
     }
-    LayoutAnswer::Laid(layout)
+    Ok(layout)
 }
 
 // The layout of any bytes, or which of 1 to 10 refuses them.
-pub fn layout_of(d: &[u8]) -> LayoutAnswer
+pub fn layout_of(d: &[u8]) -> Result<Layout, Refusal>
     ensures { result ≡ layout_answer d.now }
 {
     let mut table = [0u32; 64];
@@ -113,7 +113,7 @@ pub fn check(d: &[u8]) -> Refusal
     ensures { result ≡ refusal_for d.now (verdict d.now) }
 {
     let answer = layout_of(d);
-    let LayoutAnswer::Refused(refusal) = answer else {
+    let Err(refusal) = answer else {
         return form::refusal_of(0);
     };
     refusal

@@ -8,12 +8,13 @@ ghost use Rattle.layout.specs.Asks.{AskRecord};
 ghost use Rattle.layout.specs.Lists.{begun_of, opened_of, list_answer, list_count, filled};
 
 use crate::placements::{Laying, Placement, Step};
-use crate::{LayoutAnswer, deciding, placements};
+use crate::{Layout, deciding, placements};
+use form::Refusal;
 
 // Before the first record: the answer, how many records there are, none for a refusal, and what is laid out already.
 #[derive(Clone, Copy)]
 pub struct Begun {
-    pub answer: LayoutAnswer,
+    pub answer: Result<Layout, Refusal>,
     pub count: usize,
     pub before: Laying,
 }
@@ -21,7 +22,7 @@ pub struct Begun {
 // The same, and the table that the records are made by.
 #[derive(Clone, Copy)]
 pub struct Opened {
-    pub answer: LayoutAnswer,
+    pub answer: Result<Layout, Refusal>,
     pub count: usize,
     pub before: Laying,
     pub table: [u32; 64],
@@ -37,7 +38,7 @@ pub fn begin_with(d: &[u8], room: usize, table: &mut [u32; 64]) -> Begun
         × (verdict d.now ≡ 0 → Tabled d.now table.new) }
 {
     let answer = deciding::layout_with(d, table);
-    let LayoutAnswer::Laid(layout) = answer else {
+    let Ok(layout) = answer else {
         return Begun {
             answer: answer,
             count: 0,
@@ -47,7 +48,7 @@ pub fn begin_with(d: &[u8], room: usize, table: &mut [u32; 64]) -> Begun
     let arguments = description::byte_at(d, 8);
     if room < arguments {
         return Begun {
-            answer: LayoutAnswer::Refused(form::refusal_of(11)),
+            answer: Err(form::refusal_of(11)),
             count: 0,
             before: placements::laying_fresh(false),
         };
@@ -89,7 +90,7 @@ fn place_by(d: &[u8], before: Laying, i: usize, opened: Opened) -> Step
 
 // Fills the list that the caller lends with one record for each argument; entries past A stay, and so does the whole list where
 // the answer is a refusal.
-pub fn lay_out(d: &[u8], list: &mut [Placement]) -> LayoutAnswer
+pub fn lay_out(d: &[u8], list: &mut [Placement]) -> Result<Layout, Refusal>
     ensures { (result ≡ list_answer d.now (length list.old))
         × (list.new ≡ filled (placement_at d.now) (list_count d.now (length list.old)) list.old) }
 {

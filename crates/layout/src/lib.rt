@@ -2,16 +2,17 @@
 #![tactic(auto)]
 
 pub use deciding::{check, layout_of, layout_with, refusal_in, used_after};
+pub use described::Described;
 pub use lent_list::{Begun, begin_with, lay_out};
-pub use needing::{StackAnswer, StackNeed, needs_stack};
+pub use needing::{StackNeed, needs_stack};
 pub use placements::{Laying, Placement, Step, laying_fresh, place_argument, step_of};
 
+mod described; // a description and the table of its types
 mod placements; // the record of one argument, and what is used after some of them
 mod deciding; // the verdict 1 to 10, and the layout of any bytes
 mod lent_list; // one record for each argument, into a list that the caller lends; 11
 mod needing; // whether the stack is needed, at the first argument that goes there
 
-use form::Refusal;
 use places::{ReturnPlace, Used};
 use units::Bytes;
 
@@ -32,10 +33,4 @@ pub struct Layout {
     pub hidden: bool,
     // After the named arguments: where a walk starts.
     pub named: Used,
-}
-
-#[derive(Clone, Copy)]
-pub enum LayoutAnswer {
-    Laid(Layout),
-    Refused(Refusal),
 }

@@ -15,11 +15,6 @@ pub struct StackNeed {
     pub looked: usize,
 }
 
-#[derive(Clone, Copy)]
-pub enum StackAnswer {
-    Known(StackNeed),
-    Refused(Refusal),
-}
 
 // The first argument that goes to the stack, or A where there is none: no stack is used before it, and some after it, since no type is empty.
 fn first_stacked(d: &[u8], table: &[u32; 64]) -> usize
@@ -43,24 +38,24 @@ fn first_stacked(d: &[u8], table: &[u32; 64]) -> usize
 }
 
 // Whether any bytes' call needs the stack, or which of 1 to 9 refuses them: an area that is too large is one that is needed.
-pub fn needs_stack(d: &[u8]) -> StackAnswer
+pub fn needs_stack(d: &[u8]) -> Result<StackNeed, Refusal>
     ensures { result ≡ stack_answer d.now }
 {
     let mut table = [0u32; 64];
     let number = uses::uses_refusal_with(d, &mut table);
     if number != 0 {
-        return StackAnswer::Refused(types::refusal_for(d, number));
+        return Err(types::refusal_for(d, number));
     }
     classify::fill_classes(d, &mut table);
     let arguments = description::byte_at(d, 8);
     let first = first_stacked(d, &table);
     if first < arguments {
-        return StackAnswer::Known(StackNeed {
+        return Ok(StackNeed {
             needed: true,
             looked: first + 1,
         });
     }
-    StackAnswer::Known(StackNeed {
+    Ok(StackNeed {
         needed: false,
         looked: arguments,
     })

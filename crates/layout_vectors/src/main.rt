@@ -8,7 +8,7 @@ ghost use Rattle.layout.specs.Lists.{begun_of};
 ghost use Rattle.layout.specs.Verdict.{verdict};
 
 use form::Refusal;
-use layout::{Begun, Layout, LayoutAnswer, Placement, StackAnswer};
+use layout::{Begun, Layout, Placement};
 use places::{Place, Register, ReturnPlace, Used};
 use units::Registers;
 
@@ -226,15 +226,15 @@ fn answer_layout(rt: &impl Print, d: &[u8], room: usize) {
     let begun = layout::begin_with(d, room, &mut table);
     let answer = begun.answer;
     match answer {
-        LayoutAnswer::Laid(layout) => print_laid(rt, d, room, begun, layout, &table),
-        LayoutAnswer::Refused(refusal) => print_refusal(rt, refusal),
+        Ok(layout) => print_laid(rt, d, room, begun, layout, &table),
+        Err(refusal) => print_refusal(rt, refusal),
     }
 }
 
 fn answer_need(rt: &impl Print, d: &[u8]) {
     let answer = layout::needs_stack(d);
     match answer {
-        StackAnswer::Known(need) => {
+        Ok(need) => {
             if need.needed {
                 print(rt, b"needs yes ");
             } else {
@@ -243,7 +243,7 @@ fn answer_need(rt: &impl Print, d: &[u8]) {
             print_number(rt, b"", need.looked as u64);
             print(rt, b"\n");
         }
-        StackAnswer::Refused(refusal) => print_refusal(rt, refusal),
+        Err(refusal) => print_refusal(rt, refusal),
     }
 }
 

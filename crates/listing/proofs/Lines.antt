@@ -1,4 +1,5 @@
 -- The lines of a listing, from the words that are stored. Assumes nothing.
+use Rattle.std.specs.Prelude.{Ok, Result}
 use mathlib.Core.Path.{◌≡◌, sym, ap, ap₂, ◌∙◌}
 use mathlib.Core.List.{List, ◌++◌, append_assoc, append-nil}
 use Prim.Native.Nat.{ℕ, zero, suc, ◌+◌, ◌*◌, ◌≤◌, ◌<◌}
@@ -12,8 +13,6 @@ use Rattle.places.specs.declared.Used.{Used}
 use Rattle.layout.specs.declared.Layout.{Layout}
 use Rattle.layout.specs.declared.placements.Laying.{Laying}
 use Rattle.layout.specs.declared.placements.Step.{Step}
-use Rattle.layout.specs.declared.LayoutAnswer.{LayoutAnswer}
-use Rattle.layout.specs.declared.LayoutAnswer.TheVariants.{Laid}
 use Rattle.layout.specs.Asks.{AskRecord}
 use Rattle.layout.specs.Layout.{layout_of, layout_answer}
 use Rattle.layout.specs.Placements.{laying_fresh, laying_at, placement_at, step_at}
@@ -25,6 +24,7 @@ use Rattle.listing.proofs.Written.{wrote_none, wrote_join, wrote_more, wrote_sam
 use Rattle.listing.specs.Words.{numbered, walk, gp, fp, over, newline}
 use Rattle.listing.specs.Listing.{head_line, record_line, record_lines, return_line, walk_line, laid_text, text_of, listing}
 use Rattle.listing.specs.Asks.{Accepted}
+use Rattle.form.specs.declared.Refusal.{Refusal}
 
 -- the last record
 records-last : (d : List ℕ) (n k : ℕ) → record_lines d k (suc n) ≡ record_lines d k n ++ record_line (k + n) (placement_at d (k + n))
@@ -104,11 +104,11 @@ laid-is d l all first k variadic v w x y =
     (wrote_join (wrote_join (wrote_same v (ap₂ (λ (m n : ℕ). head_line m n l) all first)) w) (wrote_same x (ap (λ (n : ℕ). return_line n l.returns) k)))
     (wrote_same y (ap (λ (n : ℕ). walk_line n l.named) variadic))
 
-pub accepted-laid : (d : List ℕ) (l : Layout) → layout_answer d ≡ Laid l → Accepted d l
+pub accepted-laid : (d : List ℕ) (l : Layout) → layout_answer d ≡ Ok l → Accepted d l
 accepted-laid d l e = let k = laid-accepted d l e in record { right = k.0; laid = k.1 }
 
 -- the whole text at the start of the buffer
-module _ (d out : List ℕ) (answer : LayoutAnswer) (e : answer ≡ layout_answer d) (room : 8192 ≡ length out) {after : List ℕ} {end : ℕ} (w : Wrote 4540 out 0 (text_of d answer) after end) where
+module _ (d out : List ℕ) (answer : Result Layout Refusal) (e : answer ≡ layout_answer d) (room : 8192 ≡ length out) {after : List ℕ} {end : ℕ} (w : Wrote 4540 out 0 (text_of d answer) after end) where
   text-is : text_of d answer ≡ listing d
   unfolding listing
   text-is = ap (text_of d) e

@@ -1,13 +1,11 @@
 -- The lister's text: document 01, "The lister"; document 02, request 2026-07. Assumes nothing: these are definitions.
-use Rattle.std.specs.Prelude.{Bool, true, false, ◌||◌, List, [], ◌++◌, ℕ, zero, suc, ◌+◌, ◌*◌, eqb}
+use Rattle.std.specs.Prelude.{Bool, true, false, ◌||◌, List, [], ◌++◌, ℕ, zero, suc, ◌+◌, ◌*◌, eqb, Err, Ok, Result}
 use Rattle.description.specs.Description.{variadic_in, named_in, arguments_in, return_in}
 use Rattle.form.specs.declared.Refusal.{Refusal}
 use Rattle.places.specs.declared.Used.{Used}
 use Rattle.places.specs.declared.ReturnPlace.{ReturnPlace}
 use Rattle.layout.specs.declared.Layout.{Layout}
 use Rattle.layout.specs.declared.placements.Placement.{Placement}
-use Rattle.layout.specs.declared.LayoutAnswer.{LayoutAnswer}
-use Rattle.layout.specs.declared.LayoutAnswer.TheVariants.{Laid, Refused}
 use Rattle.layout.specs.Layout.{layout_answer}
 use Rattle.layout.specs.Placements.{placement_at}
 use Rattle.listing.specs.Decimal.{decimal}
@@ -70,9 +68,9 @@ refused_line r = numbered refused r.number ++ wrong_words (names_type r.number) 
 unfoldable pub laid_text : List ℕ → Layout → List ℕ
 laid_text d l = head_line (arguments_in d) (named_in d) l ++ record_lines d 0 (arguments_in d) ++ return_line (return_in d) l.returns ++ walk_line (variadic_in d) l.named
 
-abbrev pub text_of : List ℕ → LayoutAnswer → List ℕ
-text_of d (Laid l) = laid_text d l
-text_of d (Refused r) = refused_line r
+abbrev pub text_of : List ℕ → Result Layout Refusal → List ℕ
+text_of d (Ok l) = laid_text d l
+text_of d (Err r) = refused_line r
 
 unfoldable pub listing : List ℕ → List ℕ
 listing d = text_of d (layout_answer d)

@@ -15,7 +15,7 @@ ghost use Rattle.listing.specs.Written.{Wrote};
 ghost use Rattle.listing.specs.Listing.{record_lines, laid_text, listing};
 ghost use Rattle.listing.specs.Asks.{Accepted};
 
-use layout::{Layout, LayoutAnswer};
+use layout::Layout;
 
 // A line for each argument.
 fn put_records(
@@ -68,7 +68,7 @@ pub fn write_listing(d: &[u8], out: &mut [u8; 8192]) -> usize
     let mut table = [0u32; 64];
     let answer = layout::layout_with(d, &mut table);
     match answer {
-        LayoutAnswer::Laid(layout) => put_laid(d, out, layout, &table),
-        LayoutAnswer::Refused(refusal) => line_writing::put_refused(out, refusal),
+        Ok(layout) => put_laid(d, out, layout, &table),
+        Err(refusal) => line_writing::put_refused(out, refusal),
     }
 }

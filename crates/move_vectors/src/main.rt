@@ -5,7 +5,6 @@
 ghost use Rattle.std.specs.Prelude.{◌≡◌, true, ◌<◌, ◌≤◌, length};
 
 use form::Refusal;
-use moving::{GatherAnswer, PlaceAnswer};
 
 // More than the file has, so that the program ends whatever it reads.
 const RECORDS: usize = 100000;
@@ -80,16 +79,16 @@ fn answer(
     out: &mut [u8],
 ) {
     match moving::place_values(d, hidden, values, registers, upper, stack) {
-        PlaceAnswer::Placed(count) => print_number(rt, b"placed ", count.0 as u64),
-        PlaceAnswer::Refused(refusal) => print_refusal(rt, refusal),
+        Ok(count) => print_number(rt, b"placed ", count.0 as u64),
+        Err(refusal) => print_refusal(rt, refusal),
     }
     print_bytes(rt, b"registers", registers);
     print_bytes(rt, b"upper", upper);
     print_bytes(rt, b"stack", stack);
     fill(out);
     match moving::gather_values(d, registers, upper, stack, out) {
-        GatherAnswer::Gathered(address) => print_number(rt, b"gathered ", address),
-        GatherAnswer::Refused(refusal) => print_refusal(rt, refusal),
+        Ok(address) => print_number(rt, b"gathered ", address),
+        Err(refusal) => print_refusal(rt, refusal),
     }
     print_bytes(rt, b"values", out);
 }

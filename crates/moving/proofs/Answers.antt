@@ -1,4 +1,5 @@
 -- What the two calls answer and leave, from what they call. Assumes nothing.
+use Rattle.std.specs.Prelude.{Err, Ok, Result}
 use mathlib.Core.Path.{◌≡◌, refl, sym, ap, ◌∙◌}
 use mathlib.Core.Bool.{Bool, true, false, cond}
 use mathlib.Core.List.{List, ◌++◌}
@@ -16,7 +17,6 @@ use Rattle.form.specs.Reading.{refusal_of}
 use Rattle.types.specs.Wrong.{refusal_for}
 use Rattle.types.proofs.Wrong.{no_type}
 use Rattle.layout.specs.declared.Layout.{Layout}
-use Rattle.layout.specs.declared.LayoutAnswer.TheVariants.{Laid, Refused}
 use Rattle.layout.specs.declared.placements.Laying.{Laying}
 use Rattle.layout.specs.Arguments.{hidden}
 use Rattle.layout.specs.Placements.{laying_fresh}
@@ -30,12 +30,9 @@ use Rattle.moving.specs.Frames.{placed_in, gathered_in, own_address}
 use Rattle.moving.specs.Orders.{wrong_length, first_broken, wrong_bool, place_refusal, gather_refusal}
 use Rattle.moving.specs.Answers.{place_answer, registers_after, upper_after, stack_after, gather_answer, values_after}
 use Rattle.moving.specs.Asks.{Lent}
-use Rattle.moving.specs.declared.PlaceAnswer.{PlaceAnswer}
-use Rattle.moving.specs.declared.PlaceAnswer.TheVariants.{Placed, Refused as NotPlaced}
-use Rattle.moving.specs.declared.GatherAnswer.{GatherAnswer}
-use Rattle.moving.specs.declared.GatherAnswer.TheVariants.{Gathered, Refused as NotGathered}
 use Rattle.moving.proofs.Orders.{gather-before, gather-behind, place-before, place-behind, place-stopped, broken-holds, broken-none}
 use Rattle.moving.proofs.Amd64.{amd64-ordered, right-lent, own-used, own-unused}
+use Rattle.units.specs.declared.Registers.{Registers}
 
 -- ---- by which number gathering is refused, and placing too where there is one
 
@@ -51,31 +48,31 @@ module _ (d : List ℕ) (v r y s : ℕ) where
 -- ---- placing
 
 module _ (d : List ℕ) (h : ℕ) (vals r y s : List ℕ) where
-  abbrev pub PlaceEnd : PlaceAnswer → List ℕ → List ℕ → List ℕ → Type 0
+  abbrev pub PlaceEnd : Result Registers Refusal → List ℕ → List ℕ → List ℕ → Type 0
   PlaceEnd x r' y' s' =
       (x ≡ place_answer amd64 d h vals (length r) (length y) (length s))
       × ((r' ≡ registers_after amd64 d h vals r y s) × ((y' ≡ upper_after amd64 d h vals r y s) × (s' ≡ stack_after amd64 d h vals r y s)))
 
-  place-refused : (x : Refusal) (n : ℕ) → x ≡ refusal_for d n → place_refusal amd64 d h vals (length r) (length y) (length s) ≡ n → (n ≡ 0 → ⊥) → PlaceEnd (NotPlaced x) r y s
+  place-refused : (x : Refusal) (n : ℕ) → x ≡ refusal_for d n → place_refusal amd64 d h vals (length r) (length y) (length s) ≡ n → (n ≡ 0 → ⊥) → PlaceEnd (Err x) r y s
   unfolding place_answer registers_after upper_after stack_after
   place-refused x n e f z =
       let q = ne_eqb (place_refusal amd64 d h vals (length r) (length y) (length s)) 0 (λ p. z (sym f ∙ p)) in
-      (rw q (ap NotPlaced (e ∙ ap (refusal_for d) (sym f))), (rw q, (rw q, rw q)))
+      (rw q (ap Err (e ∙ ap (refusal_for d) (sym f))), (rw q, (rw q, rw q)))
 
   -- 1 to 11
-  place-as_gather : (x : Refusal) (n : ℕ) → x ≡ refusal_for d n → gather_refusal amd64 d (length vals) (length r) (length y) (length s) ≡ n → (n ≡ 0 → ⊥) → PlaceEnd (NotPlaced x) r y s
+  place-as_gather : (x : Refusal) (n : ℕ) → x ≡ refusal_for d n → gather_refusal amd64 d (length vals) (length r) (length y) (length s) ≡ n → (n ≡ 0 → ⊥) → PlaceEnd (Err x) r y s
   place-as_gather x n e f z = place-refused x n e (place-before amd64 amd64-ordered d h vals (length r) (length y) (length s) (λ p. z (sym f ∙ p)) ∙ f) z
 
-  pub place-laid_not : (x z : Refusal) → layout_answer d ≡ Refused z → x ≡ z → PlaceEnd (NotPlaced x) r y s
+  pub place-laid_not : (x z : Refusal) → layout_answer d ≡ Err z → x ≡ z → PlaceEnd (Err x) r y s
   place-laid_not x z a e =
       let nonzero = refused-nonzero d z a in
       place-as_gather x (verdict d) (e ∙ refused-verdict d z a) (refused-early d (length vals) (length r) (length y) (length s) nonzero) nonzero
 
-  module _ (l : Layout) (laid : layout_answer d ≡ Laid l) where
+  module _ (l : Layout) (laid : layout_answer d ≡ Ok l) where
     same-lengths : (b : Bool) → wrong_length l (length vals) (length r) (length y) (length s) ≡ b → wrong_length (layout_of d) (length vals) (length r) (length y) (length s) ≡ b
     same-lengths b e = ap (λ (x : Layout). wrong_length x (length vals) (length r) (length y) (length s)) (sym (laid-accepted d l laid).1) ∙ e
 
-    pub place-wrong_length : (x : Refusal) → x ≡ refusal_of 11 → wrong_length l (length vals) (length r) (length y) (length s) ≡ true → PlaceEnd (NotPlaced x) r y s
+    pub place-wrong_length : (x : Refusal) → x ≡ refusal_of 11 → wrong_length l (length vals) (length r) (length y) (length s) ≡ true → PlaceEnd (Err x) r y s
     place-wrong_length x e w =
         place-as_gather x 11 (e ∙ sym (no_type d 11 refl refl)) (by_lengths d (length vals) (length r) (length y) (length s) (laid-accepted d l laid).0 true (same-lengths true w)) (λ z. omega arith)
 
@@ -94,7 +91,7 @@ module _ (d : List ℕ) (h : ℕ) (vals r y s : List ℕ) where
         address_is : wrong_address (model_in d) (hidden d) h ≡ a
         address_is = ap (λ (b : Bool). wrong_address (model_in d) b h) (sym place-hidden) ∙ sym wide
 
-        pub place-wrong_address : (x : Refusal) → x ≡ refusal_of 27 → a ≡ true → PlaceEnd (NotPlaced x) r y s
+        pub place-wrong_address : (x : Refusal) → x ≡ refusal_of 27 → a ≡ true → PlaceEnd (Err x) r y s
         place-wrong_address x e t =
             let stops : first (amd64.address_order d h) ≡ 27 = rw (address_is ∙ t) in
             place-refused x 27 (e ∙ sym (no_type d 27 refl refl))
@@ -104,12 +101,12 @@ module _ (d : List ℕ) (h : ℕ) (vals r y s : List ℕ) where
         place-late : (b : Bool) → wrong_bool amd64 d vals ≡ b → place_refusal amd64 d h vals (length r) (length y) (length s) ≡ cond b 12 0
         place-late b e = place-behind amd64 amd64-ordered d h vals (length r) (length y) (length s) lengths-right (address_is a wide ∙ narrow, tt) b e
 
-        pub place-wrong_bool : (x : Refusal) → x ≡ refusal_of 12 → n < m → PlaceEnd (NotPlaced x) r y s
+        pub place-wrong_bool : (x : Refusal) → x ≡ refusal_of 12 → n < m → PlaceEnd (Err x) r y s
         place-wrong_bool x e t =
             place-refused x 12 (e ∙ sym (no_type d 12 refl refl)) (place-late true (broken-holds amd64 d vals (omega (arith, found, all)))) (λ z. omega arith)
 
         pub place-done : (r'' y'' s'' : List ℕ) → m ≤ n → length r'' ≡ length r → length y'' ≡ length y → r'' ++ (y'' ++ s'') ≡ placed_in (frame_of d) h vals
-            → PlaceEnd (Placed l.used.vector) r'' y'' s''
+            → PlaceEnd (Ok l.used.vector) r'' y'' s''
         unfolding place_answer registers_after upper_after stack_after layout_of
         place-done r'' y'' s'' t k o img =
             let none = place-late false (broken-none amd64 d vals (omega (arith, found, all))) in
@@ -117,7 +114,7 @@ module _ (d : List ℕ) (h : ℕ) (vals r y s : List ℕ) where
             let long : length r'' ≡ 176 = k ∙ place-lengths.registers in
             let above : length y'' ≡ 128 = o ∙ place-lengths.upper in
             let behind : y'' ++ s'' ≡ drop 176 (placed_in (frame_of d) h vals) = sym (drop_at r'' (y'' ++ s'') 176 long) ∙ ap (drop 176) img in (
-              rw q (ap Placed (ap (λ (x : Layout). x.used.vector) (laid-accepted d l laid).1)),
+              rw q (ap Ok (ap (λ (x : Layout). x.used.vector) (laid-accepted d l laid).1)),
               (
                 rw q (sym (take_at r'' (y'' ++ s'') 176 long) ∙ ap (take 176) img),
                 (rw q (sym (take_at y'' s'' 128 above) ∙ ap (take 128) behind), rw q (sym (drop_at y'' s'' 128 above) ∙ ap (drop 128) behind)),
@@ -127,25 +124,25 @@ module _ (d : List ℕ) (h : ℕ) (vals r y s : List ℕ) where
 -- ---- gathering
 
 module _ (d r y s v : List ℕ) where
-  abbrev pub GatherEnd : GatherAnswer → List ℕ → Type 0
+  abbrev pub GatherEnd : Result ℕ Refusal → List ℕ → Type 0
   GatherEnd x v' = (x ≡ gather_answer amd64 d r y s (length v)) × (v' ≡ values_after amd64 d r y s v)
 
-  gather-refused : (x : Refusal) (n : ℕ) → x ≡ refusal_for d n → gather_refusal amd64 d (length v) (length r) (length y) (length s) ≡ n → (n ≡ 0 → ⊥) → GatherEnd (NotGathered x) v
+  gather-refused : (x : Refusal) (n : ℕ) → x ≡ refusal_for d n → gather_refusal amd64 d (length v) (length r) (length y) (length s) ≡ n → (n ≡ 0 → ⊥) → GatherEnd (Err x) v
   unfolding gather_answer values_after
   gather-refused x n e f z =
       let q = ne_eqb (gather_refusal amd64 d (length v) (length r) (length y) (length s)) 0 (λ p. z (sym f ∙ p)) in
-      (rw q (ap NotGathered (e ∙ ap (refusal_for d) (sym f))), rw q)
+      (rw q (ap Err (e ∙ ap (refusal_for d) (sym f))), rw q)
 
-  pub gather-laid_not : (x z : Refusal) → layout_answer d ≡ Refused z → x ≡ z → GatherEnd (NotGathered x) v
+  pub gather-laid_not : (x z : Refusal) → layout_answer d ≡ Err z → x ≡ z → GatherEnd (Err x) v
   gather-laid_not x z a e =
       let nonzero = refused-nonzero d z a in
       gather-refused x (verdict d) (e ∙ refused-verdict d z a) (refused-early d (length v) (length r) (length y) (length s) nonzero) nonzero
 
-  module _ (l : Layout) (laid : layout_answer d ≡ Laid l) where
+  module _ (l : Layout) (laid : layout_answer d ≡ Ok l) where
     same-lengths_2 : (b : Bool) → wrong_length l (length v) (length r) (length y) (length s) ≡ b → wrong_length (layout_of d) (length v) (length r) (length y) (length s) ≡ b
     same-lengths_2 b e = ap (λ (x : Layout). wrong_length x (length v) (length r) (length y) (length s)) (sym (laid-accepted d l laid).1) ∙ e
 
-    pub gather-wrong_length : (x : Refusal) → x ≡ refusal_of 11 → wrong_length l (length v) (length r) (length y) (length s) ≡ true → GatherEnd (NotGathered x) v
+    pub gather-wrong_length : (x : Refusal) → x ≡ refusal_of 11 → wrong_length l (length v) (length r) (length y) (length s) ≡ true → GatherEnd (Err x) v
     gather-wrong_length x e w =
         gather-refused x 11 (e ∙ sym (no_type d 11 refl refl)) (by_lengths d (length v) (length r) (length y) (length s) (laid-accepted d l laid).0 true (same-lengths_2 true w)) (λ z. omega arith)
 
@@ -157,20 +154,20 @@ module _ (d r y s v : List ℕ) where
       unfolding layout_of
       gather-first b t e f = f ∙ ap laying_fresh (e ∙ ap (λ (x : Layout). x.hidden) (laid-accepted d l laid).1)
 
-      gather-done : (x : ℕ) (v' : List ℕ) → x ≡ own_address (frame_of d) (r ++ (y ++ s)) → v' ≡ gathered_in (frame_of d) (r ++ (y ++ s)) → GatherEnd (Gathered x) v'
+      gather-done : (x : ℕ) (v' : List ℕ) → x ≡ own_address (frame_of d) (r ++ (y ++ s)) → v' ≡ gathered_in (frame_of d) (r ++ (y ++ s)) → GatherEnd (Ok x) v'
       unfolding gather_answer values_after
       gather-done x v' e f =
           let q = eq-eqb (gather_refusal amd64 d (length v) (length r) (length y) (length s)) 0 (by_lengths d (length v) (length r) (length y) (length s) gather-lengths.accepted false (same-lengths_2 false w)) in
-          (rw q (ap Gathered e), rw q f)
+          (rw q (ap Ok e), rw q f)
 
       is_hidden : (b : Bool) → l.hidden ≡ b → hidden d ≡ b
       unfolding layout_of
       is_hidden b e = sym (ap (λ (x : Layout). x.hidden) (laid-accepted d l laid).1) ∙ e
 
-      pub gather_none : (v' : List ℕ) → l.hidden ≡ false → v' ≡ gathered_in (frame_of d) (r ++ (y ++ s)) → GatherEnd (Gathered 0) v'
+      pub gather_none : (v' : List ℕ) → l.hidden ≡ false → v' ≡ gathered_in (frame_of d) (r ++ (y ++ s)) → GatherEnd (Ok 0) v'
       gather_none v' e f = gather-done 0 v' (sym (own-unused d (r ++ (y ++ s)) (is_hidden false e))) f
 
-      pub gather-address : (x : ℕ) (v' : List ℕ) → l.hidden ≡ true → x ≡ address_in r → v' ≡ gathered_in (frame_of d) (r ++ (y ++ s)) → GatherEnd (Gathered x) v'
+      pub gather-address : (x : ℕ) (v' : List ℕ) → l.hidden ≡ true → x ≡ address_in r → v' ≡ gathered_in (frame_of d) (r ++ (y ++ s)) → GatherEnd (Ok x) v'
       unfolding address_in
       gather-address x v' e g f =
           let long : length r ≡ 176 = gather-lengths.registers in

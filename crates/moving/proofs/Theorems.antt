@@ -1,4 +1,5 @@
 -- The theorems on placing and gathering (B8 to B12, C4), of any layout that is ordered: each from the laws of frames and of orders. Assumes nothing.
+use Rattle.std.specs.Prelude.{Err, Ok, Result}
 use mathlib.Core.Path.{◌≡◌, sym, ap, ap₂, ◌∙◌}
 use mathlib.Core.Bool.{true, false, cond}
 use mathlib.Core.List.{List, ◌++◌}
@@ -14,12 +15,10 @@ use Rattle.moving.specs.Movers.{Mover, Ordered}
 use Rattle.moving.specs.Orders.{place_refusal, gather_refusal}
 use Rattle.moving.specs.Answers.{place_answer, registers_after, upper_after, stack_after, images_after, gather_answer, values_after}
 use Rattle.moving.specs.Statements.{PlacesAll, AddressUnseen, GathersPlaced, Clean, ComesBack, PlacesGathered, UnusedUnseen, TwelveExactly, NoSharedImage}
-use Rattle.moving.specs.declared.PlaceAnswer.{PlaceAnswer}
-use Rattle.moving.specs.declared.PlaceAnswer.TheVariants.{Placed, Refused as NotPlaced}
-use Rattle.moving.specs.declared.GatherAnswer.{GatherAnswer}
-use Rattle.moving.specs.declared.GatherAnswer.TheVariants.{Gathered, Refused as NotGathered}
 use Rattle.moving.proofs.Frames.{length-placed, length-gathered, image-placed, placed-zero, unused_gathered, placed-unseen, gathered-placed, own-placed, placed-image, placed-gathered}
 use Rattle.moving.proofs.Orders.{Fits, gather-fits, fits-gather, place-behind, place-accepted, place-twelve, broken-some, some-broken, broken-never, never_broken}
+use Rattle.form.specs.declared.Refusal.{Refusal}
+use Rattle.units.specs.declared.Registers.{Registers}
 
 module _ (M : Mover) (O : Ordered M) where
   -- ---- what is sure of a call that is accepted, and what stands in the buffers after it
@@ -74,7 +73,7 @@ module _ (M : Mover) (O : Ordered M) where
     unfolding values_after
     values-are = rw (eq-eqb (gather_refusal M d (length v) (length r) (length y) (length s)) 0 ok)
 
-    answer-is : gather_answer M d r y s (length v) ≡ Gathered (own_address (M.frame d) (r ++ (y ++ s)))
+    answer-is : gather_answer M d r y s (length v) ≡ Ok (own_address (M.frame d) (r ++ (y ++ s)))
     unfolding gather_answer
     answer-is = rw (eq-eqb (gather_refusal M d (length v) (length r) (length y) (length s)) 0 ok)
 
@@ -95,8 +94,8 @@ module _ (M : Mover) (O : Ordered M) where
     image (λ x. drop (M.frame d).upper (drop (M.frame d).registers x)) s,
   )
     where
-      answer : ℕ → PlaceAnswer
-      answer n = cond (eqb n 0) (Placed (M.count d)) (NotPlaced (M.told d n))
+      answer : ℕ → Result Registers Refusal
+      answer n = cond (eqb n 0) (Ok (M.count d)) (Err (M.told d n))
 
       same : place_refusal M d h vals (length r) (length y) (length s) ≡ place_refusal M d g vals (length r) (length y) (length s)
       same = rw (O.unseen d h g e)
@@ -118,7 +117,7 @@ module _ (M : Mover) (O : Ordered M) where
       fits-gather M O d (length v) (length q) (length w) (length t)
       (record { accepted = f.accepted; values = l ∙ f.values; registers = long.0; upper = long.1; stack = long.2 }) in (
         answer-is d q w t v again
-            ∙ ap Gathered
+            ∙ ap Ok
             (ap (own_address (M.frame d)) (all_are d h vals r y s ok)
             ∙ own-placed (M.frame d) sound h vals (O.fits d h b (place-accepted M O d h vals (length r) (length y) (length s) ok).1)),
         values-are d q w t v again ∙ ap (gathered_in (M.frame d)) (all_are d h vals r y s ok) ∙ gathered-placed (M.frame d) sound h vals f.values,
@@ -130,10 +129,10 @@ module _ (M : Mover) (O : Ordered M) where
       let z = unused_gathered (M.frame d) (r ++ (y ++ s)) (q ++ (w ++ t)) same in
       (ap answer z.1 ∙ rw (e, g, f), ap left z.0 ∙ rw (e, g, f))
     where
-      answer : ℕ → GatherAnswer
+      answer : ℕ → Result ℕ Refusal
       answer x =
-          cond (eqb (gather_refusal M d (length v) (length r) (length y) (length s)) 0) (Gathered x)
-          (NotGathered (M.told d (gather_refusal M d (length v) (length r) (length y) (length s))))
+          cond (eqb (gather_refusal M d (length v) (length r) (length y) (length s)) 0) (Ok x)
+          (Err (M.told d (gather_refusal M d (length v) (length r) (length y) (length s))))
 
       left : List ℕ → List ℕ
       left x = cond (eqb (gather_refusal M d (length v) (length r) (length y) (length s)) 0) x v

@@ -1,12 +1,11 @@
 -- What is said of placing and gathering, of any layout and any bytes (theorems B8 to B12 and C4). Assumes nothing: these are definitions.
-use Rattle.std.specs.Prelude.{◌≡◌, List, [], ◌++◌, ◌↔◌, ℕ, ◌^◌, ◌<◌, length, get_or}
+use Rattle.std.specs.Prelude.{◌≡◌, List, [], ◌++◌, ◌↔◌, ℕ, ◌^◌, ◌<◌, length, get_or, Ok}
 use Rattle.addresses.specs.Addresses.{All}
 use Rattle.form.specs.Order.{NoneHolds}
 use Rattle.moving.specs.Frames.{gathered_in, own_address, passed, Unused, IsImage}
 use Rattle.moving.specs.Movers.{Mover}
 use Rattle.moving.specs.Orders.{BrokenAt, place_refusal, gather_refusal}
 use Rattle.moving.specs.Answers.{place_answer, gather_answer, registers_after, upper_after, stack_after, images_after, values_after}
-use Rattle.moving.specs.declared.GatherAnswer.TheVariants.{Gathered}
 
 module _ (M : Mover) where
   -- B8: accepted, the images are those, and no others
@@ -26,7 +25,7 @@ module _ (M : Mover) where
   GathersPlaced = (d : List ℕ) (h : ℕ) (values r y s v : List ℕ) → h < 2 ^ 64 → place_refusal M d h values (length r) (length y) (length s) ≡ 0
       → length v ≡ length values
       → (gather_answer M d (registers_after M d h values r y s) (upper_after M d h values r y s) (stack_after M d h values r y s) (length v)
-      ≡ Gathered (passed (M.frame d) h))
+      ≡ Ok (passed (M.frame d) h))
       × (values_after M d (registers_after M d h values r y s) (upper_after M d h values r y s) (stack_after M d h values r y s) v ≡ values)
 
   -- "unused bytes are zero and each _Bool argument's byte is 0 or 1", and the hidden address is one that may be placed

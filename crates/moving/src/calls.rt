@@ -3,9 +3,9 @@ ghost use Rattle.std.specs.Prelude.{◌≡◌, length};
 ghost use Rattle.moving.specs.Images.{amd64};
 ghost use Rattle.moving.specs.Answers.{place_answer, registers_after, upper_after, stack_after, gather_answer, values_after};
 
-use crate::{GatherAnswer, PlaceAnswer, filling, refusals};
-use layout::LayoutAnswer;
-use units::Bytes;
+use crate::{filling, refusals};
+use form::Refusal;
+use units::{Bytes, Registers};
 
 // Places packed values: every byte of the three images is written, or none.
 pub fn place_values(
@@ -15,7 +15,7 @@ pub fn place_values(
     registers: &mut [u8],
     upper: &mut [u8],
     stack: &mut [u8],
-) -> PlaceAnswer
+) -> Result<Registers, Refusal>
     ensures { (result ≡ place_answer amd64 d.now hidden values.now (length registers.old) (length upper.old)
         (length stack.old))
         × ((registers.new
@@ -27,8 +27,8 @@ pub fn place_values(
 {
     let mut table = [0u32; 64];
     let answer = layout::layout_with(d, &mut table);
-    let LayoutAnswer::Laid(layout) = answer else {
-        return PlaceAnswer::Refused(layout::refusal_in(answer));
+    let Ok(layout) = answer else {
+        return Err(layout::refusal_in(answer));
     };
     if refusals::wrong_length(
         layout,
@@ -37,13 +37,13 @@ pub fn place_values(
         Bytes(upper.len()),
         Bytes(stack.len()),
     ) {
-        return PlaceAnswer::Refused(form::refusal_of(11));
+        return Err(form::refusal_of(11));
     }
     if refusals::wrong_address(d, layout.hidden, hidden) {
-        return PlaceAnswer::Refused(form::refusal_of(27));
+        return Err(form::refusal_of(27));
     }
     if refusals::first_broken(d, values, &table) < description::byte_at(d, 8) {
-        return PlaceAnswer::Refused(form::refusal_of(12));
+        return Err(form::refusal_of(12));
     }
     let count = layout.used.vector;
     filling::fill_images(
@@ -56,7 +56,7 @@ pub fn place_values(
         stack,
         &table,
     );
-    PlaceAnswer::Placed(count)
+    Ok(count)
 }
 
 // Gathers the values again, packed, and answers the hidden address.
@@ -66,15 +66,15 @@ pub fn gather_values(
     upper: &[u8],
     stack: &[u8],
     values: &mut [u8],
-) -> GatherAnswer
+) -> Result<u64, Refusal>
     ensures { (result ≡ gather_answer amd64 d.now registers.now upper.now stack.now (length values.old))
         × (values.new
         ≡ values_after amd64 d.now registers.now upper.now stack.now values.old) }
 {
     let mut table = [0u32; 64];
     let answer = layout::layout_with(d, &mut table);
-    let LayoutAnswer::Laid(layout) = answer else {
-        return GatherAnswer::Refused(layout::refusal_in(answer));
+    let Ok(layout) = answer else {
+        return Err(layout::refusal_in(answer));
     };
     if refusals::wrong_length(
         layout,
@@ -83,7 +83,7 @@ pub fn gather_values(
         Bytes(upper.len()),
         Bytes(stack.len()),
     ) {
-        return GatherAnswer::Refused(form::refusal_of(11));
+        return Err(form::refusal_of(11));
     }
     let passed = layout.hidden;
     filling::gather_all(
@@ -96,7 +96,7 @@ pub fn gather_values(
         &table,
     );
     if !passed {
-        return GatherAnswer::Gathered(0);
+        return Ok(0);
     }
-    GatherAnswer::Gathered(images::address_in(registers))
+    Ok(images::address_in(registers))
 }

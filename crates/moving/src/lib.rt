@@ -7,20 +7,3 @@ pub use refusals::{broken_byte, wrong_address};
 mod filling; // the images filled, and the values gathered
 mod refusals; // 11, 27 and 12
 mod calls; // the calls: place_values, gather_values
-
-use form::Refusal;
-use units::Registers;
-
-#[derive(Clone, Copy)]
-pub enum PlaceAnswer {
-    // The vector count, for al.
-    Placed(Registers),
-    Refused(Refusal),
-}
-
-#[derive(Clone, Copy)]
-pub enum GatherAnswer {
-    // The hidden address, 0 where none is used.
-    Gathered(u64),
-    Refused(Refusal),
-}

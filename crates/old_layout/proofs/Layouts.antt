@@ -1,4 +1,5 @@
 -- The layout of the 386 kind from its parts, and what an answer says. Assumes nothing.
+use Rattle.std.specs.Prelude.{Err, Ok}
 use mathlib.Core.Path.{◌≡◌, refl, sym, ap, ◌∙◌}
 use mathlib.Core.Bool.{Bool, true, false, cond}
 use mathlib.Core.List.{List}
@@ -19,7 +20,6 @@ use Rattle.old_layout.specs.Layout.{return_place, returned_size, layout_of, layo
 use Rattle.old_layout.specs.Asks.{IsLaid}
 use Rattle.old_layout.specs.declared.laying.Laying.{Laying}
 use Rattle.old_layout.specs.declared.OldLayout.{OldLayout}
-use Rattle.old_layout.specs.declared.OldAnswer.TheVariants.{Laid, Refused}
 use Rattle.old_layout.proofs.Arguments.{arguments-few, offset-low}
 use Rattle.old_layout.proofs.Verdict.{ten, no_ten}
 
@@ -47,15 +47,15 @@ module _ (d : List ℕ) (first all : Laying) (fl : IsLaid d (named_in d) first) 
       λ i. record { area = record { 0 = area i }; values = record { 0 = values i }; returns = p i; returned = record { 0 = s i }; hidden = q i; popped = record { 0 = popped i }; start = record { 0 = start i } }
 
 -- the answer
-answered : (d : List ℕ) (b : Bool) → eqb (verdict d) 0 ≡ b → layout_answer d ≡ cond b (Laid (layout_of d)) (Refused (refusal_for d (verdict d)))
+answered : (d : List ℕ) (b : Bool) → eqb (verdict d) 0 ≡ b → layout_answer d ≡ cond b (Ok (layout_of d)) (Err (refusal_for d (verdict d)))
 unfolding layout_answer
 answered d b e = rw e
 
-answer-laid : (d : List ℕ) (l : OldLayout) → l ≡ layout_of d → verdict d ≡ 0 → Laid l ≡ layout_answer d
-answer-laid d l e v = ap Laid e ∙ sym (answered d true (eq-eqb (verdict d) 0 v))
+answer-laid : (d : List ℕ) (l : OldLayout) → l ≡ layout_of d → verdict d ≡ 0 → Ok l ≡ layout_answer d
+answer-laid d l e v = ap Ok e ∙ sym (answered d true (eq-eqb (verdict d) 0 v))
 
-pub answer-refused : (d : List ℕ) (n : ℕ) (r : Refusal) → r ≡ refusal_for d n → verdict d ≡ n → (n ≡ 0 → ⊥) → Refused r ≡ layout_answer d
-answer-refused d n r e v z = ap Refused (e ∙ ap (refusal_for d) (sym v)) ∙ sym (answered d false (ne_eqb (verdict d) 0 (λ q. z (sym v ∙ q))))
+pub answer-refused : (d : List ℕ) (n : ℕ) (r : Refusal) → r ≡ refusal_for d n → verdict d ≡ n → (n ≡ 0 → ⊥) → Err r ≡ layout_answer d
+answer-refused d n r e v z = ap Err (e ∙ ap (refusal_for d) (sym v)) ∙ sym (answered d false (ne_eqb (verdict d) 0 (λ q. z (sym v ∙ q))))
 
 -- by the area that was found
 module _ (d : List ℕ) (right : uses_refusal d ≡ 0) (l : OldLayout) (is : l ≡ layout_of d) where
@@ -63,19 +63,19 @@ module _ (d : List ℕ) (right : uses_refusal d ≡ 0) (l : OldLayout) (is : l �
   unfolding layout_of
   area-is = ap (λ (k : OldLayout). k.area.0) is
 
-  pub answer-wide : (r : Refusal) → r ≡ refusal_of 10 → ltb 16384 l.area.0 ≡ true → Refused r ≡ layout_answer d
+  pub answer-wide : (r : Refusal) → r ≡ refusal_of 10 → ltb 16384 l.area.0 ≡ true → Err r ≡ layout_answer d
   answer-wide r e h = answer-refused d 10 r (e ∙ sym (no_type d 10 refl refl)) (ten d right (omega (arith, area-is, ltb-true 16384 l.area.0 h))) (λ z. omega arith)
 
-  pub answer-small : ltb 16384 l.area.0 ≡ false → Laid l ≡ layout_answer d
+  pub answer-small : ltb 16384 l.area.0 ≡ false → Ok l ≡ layout_answer d
   answer-small h = answer-laid d l is (no_ten d right (omega (arith, area-is, ltb-false 16384 l.area.0 h)))
 
 -- an answer that is known says which verdict there is
-pub laid-accepted : (d : List ℕ) (l : OldLayout) → layout_answer d ≡ Laid l → (verdict d ≡ 0) × (l ≡ layout_of d)
+pub laid-accepted : (d : List ℕ) (l : OldLayout) → layout_answer d ≡ Ok l → (verdict d ≡ 0) × (l ≡ layout_of d)
 laid-accepted d l e = by (eqb (verdict d) 0) refl
   where
     by : (b : Bool) → eqb (verdict d) 0 ≡ b → (verdict d ≡ 0) × (l ≡ layout_of d)
-    by true q = (eqb-true (verdict d) 0 q, let z : Laid l ≡ Laid (layout_of d) = sym e ∙ answered d true q in cc)
-    by false q = absurd (let z : Laid l ≡ Refused (refusal_for d (verdict d)) = sym e ∙ answered d false q in let f : ◌≡◌ {A = ℕ} 0 1 = cc in omega arith)
+    by true q = (eqb-true (verdict d) 0 q, let z : Ok l ≡ Ok (layout_of d) = sym e ∙ answered d true q in cc)
+    by false q = absurd (let z : Ok l ≡ Err (refusal_for d (verdict d)) = sym e ∙ answered d false q in let f : ◌≡◌ {A = ℕ} 0 1 = cc in omega arith)
 
 -- an answer carries the description's refusal
 pub told : (d : List ℕ) → refusal_in (layout_answer d) ≡ refusal_for d (verdict d)

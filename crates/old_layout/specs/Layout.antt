@@ -1,5 +1,5 @@
 -- What a layout of the 386 kind answers: document 02, request 2026-12. Assumes nothing: these are definitions.
-use Rattle.std.specs.Prelude.{cond, ◌&&◌, List, ℕ, leb, eqb}
+use Rattle.std.specs.Prelude.{cond, ◌&&◌, List, ℕ, leb, eqb, Err, Ok, Result}
 use Rattle.description.specs.Description.{named_in, return_in, kind_at, a_at}
 use Rattle.form.specs.declared.Refusal.{Refusal}
 use Rattle.form.specs.Reading.{refusal_of}
@@ -12,8 +12,6 @@ use Rattle.intel386.specs.Verdict.{verdict}
 use Rattle.old_layout.specs.declared.OldReturn.{OldReturn}
 use Rattle.old_layout.specs.declared.OldReturn.TheVariants.{Void, Memory, Eax, EdxEax, St0}
 use Rattle.old_layout.specs.declared.OldLayout.{OldLayout}
-use Rattle.old_layout.specs.declared.OldAnswer.{OldAnswer}
-use Rattle.old_layout.specs.declared.OldAnswer.TheVariants.{Laid, Refused}
 
 -- "Results are in eax, in edx and eax for 8-byte integers, or st0 for the floats": code 4 is long long, 6 to 8 are float, double and long double
 unfoldable pub result_of : ℕ → OldReturn
@@ -40,10 +38,10 @@ layout_of d = record {
 }
 
 -- 1 to 6, 28, 7 to 10
-unfoldable pub layout_answer : List ℕ → OldAnswer
-layout_answer d = cond (eqb (verdict d) 0) (Laid (layout_of d)) (Refused (refusal_for d (verdict d)))
+unfoldable pub layout_answer : List ℕ → Result OldLayout Refusal
+layout_answer d = cond (eqb (verdict d) 0) (Ok (layout_of d)) (Err (refusal_for d (verdict d)))
 
 -- the refusal that an answer carries
-abbrev pub refusal_in : OldAnswer → Refusal
-refusal_in (Laid l) = refusal_of 0
-refusal_in (Refused r) = r
+abbrev pub refusal_in : Result OldLayout Refusal → Refusal
+refusal_in (Ok l) = refusal_of 0
+refusal_in (Err r) = r

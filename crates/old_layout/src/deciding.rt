@@ -8,7 +8,7 @@ ghost use Rattle.old_layout.specs.Layout.{layout_of, layout_answer};
 ghost use Rattle.old_layout.specs.Asks.{Known};
 
 use crate::laying::Laying;
-use crate::{OldAnswer, OldLayout, laying, used_types};
+use crate::{OldLayout, laying, used_types};
 use form::Refusal;
 use units::Bytes;
 
@@ -46,25 +46,25 @@ fn lay(d: &[u8], table: &[u32; 64]) -> OldLayout
 // ---- any bytes
 
 // The layout of any bytes, or which of 1 to 6, 28 and 7 to 10 refuses them. Where none does, the table holds each type's size and alignment.
-pub fn old_layout_with(d: &[u8], table: &mut [u32; 64]) -> OldAnswer
+pub fn old_layout_with(d: &[u8], table: &mut [u32; 64]) -> Result<OldLayout, Refusal>
     ensures { (result ≡ layout_answer d.now)
         × (table.new ≡ sizes_after d.now table.old)
         × (verdict d.now ≡ 0 → Sizes d.now (types_in d.now) table.new) }
 {
     let number = used_types::uses_refusal_with(d, table);
     if number != 0 {
-        return OldAnswer::Refused(old_types::refusal_for(d, number));
+        return Err(old_types::refusal_for(d, number));
     }
     let layout = lay(d, table);
     let area = layout.area;
     if units::over(area, Bytes(16384)) {
-        return OldAnswer::Refused(form::refusal_of(10));
+        return Err(form::refusal_of(10));
     }
-    OldAnswer::Laid(layout)
+    Ok(layout)
 }
 
 // The layout of any bytes, or their refusal.
-pub fn old_layout_of(d: &[u8]) -> OldAnswer
+pub fn old_layout_of(d: &[u8]) -> Result<OldLayout, Refusal>
     ensures { result ≡ layout_answer d.now }
 {
     let mut table = [0u32; 64];
@@ -78,7 +78,7 @@ pub fn old_check(d: &[u8]) -> Refusal
     ensures { result ≡ refusal_for d.now (verdict d.now) }
 {
     let answer = old_layout_of(d);
-    let OldAnswer::Refused(refusal) = answer else {
+    let Err(refusal) = answer else {
         return form::refusal_of(0);
     };
     refusal

@@ -7,7 +7,6 @@ mod used_types; // which types a call may use: 8 and 9, behind 1 to 6, 28 and 7
 mod laying; // the arguments, one behind the other, and where the value is returned
 mod deciding; // the verdict, and the layout of any bytes
 
-use form::Refusal;
 use units::Bytes;
 
 // Where a value is returned; edx has the upper half of an 8-byte integer.
@@ -35,10 +34,4 @@ pub struct OldLayout {
     pub popped: Bytes,
     // Behind the named arguments: where a walk starts.
     pub start: Bytes,
-}
-
-#[derive(Clone, Copy)]
-pub enum OldAnswer {
-    Laid(OldLayout),
-    Refused(Refusal),
 }

@@ -6,7 +6,8 @@ ghost use Rattle.old_types.specs.Table.{Sizes, sizes_after};
 ghost use Rattle.old_types.specs.Questions.{question_refusal, extent_answer, run_answer};
 
 use crate::refusals;
-use questions::{ExtentAnswer, RunAnswer};
+use form::Refusal;
+use types::Extent;
 use units::Bytes;
 
 // Which refusal a question about type t gets, or 0: then the table has an entry for each type.
@@ -34,52 +35,52 @@ fn question_refusal(d: &[u8], t: u8) -> u8
 }
 
 // Size and alignment of type t.
-pub fn old_extent(d: &[u8], t: u8) -> ExtentAnswer
+pub fn old_extent(d: &[u8], t: u8) -> Result<Extent, Refusal>
     ensures { result ≡ extent_answer d.now t }
 {
     let mut table = [0u32; 64];
     let number = question_refusal_with(d, t, &mut table);
     if number != 0 {
-        return ExtentAnswer::Refused(refusals::refusal_for(d, number));
+        return Err(refusals::refusal_for(d, number));
     }
-    ExtentAnswer::Known(types::extent_in(&table, t as usize))
+    Ok(types::extent_in(&table, t as usize))
 }
 
 // ---- the run of members
 
 // The part that an answer names; empty for a refusal or another kind.
-fn part_in(run: RunAnswer, d: &[u8]) -> &[u8]
+fn part_in(run: Result<Option<(Bytes, usize)>, Refusal>, d: &[u8]) -> &[u8]
     requires { RunFits run (length d.now) }
     ensures { result.now ≡ run_in run d.now }
 {
     match run {
-        RunAnswer::Run(offset, count) => {
+        Ok(Some((offset, count))) => {
             let start = offset.0;
             let end = start + count;
             &d[start..end]
         }
-        RunAnswer::NoRun => &d[..0],
-        RunAnswer::Refused(_) => &d[..0],
+        Ok(None) => &d[..0],
+        Err(_) => &d[..0],
     }
 }
 
 // Where type t's run of members lies in the description.
-pub fn old_run_at(d: &[u8], t: u8) -> RunAnswer
+pub fn old_run_at(d: &[u8], t: u8) -> Result<Option<(Bytes, usize)>, Refusal>
     ensures { (result ≡ run_answer d.now t) × RunFits result (length d.now) }
 {
     let number = question_refusal(d, t);
     if number != 0 {
-        return RunAnswer::Refused(refusals::refusal_for(d, number));
+        return Err(refusals::refusal_for(d, number));
     }
     let k = t as usize;
     let kind = description::kind_at(d, k);
     if kind < 2 {
-        return RunAnswer::NoRun;
+        return Ok(None);
     }
     let first = description::a_at(d, k);
     let count = description::count_at(d, k);
     let types = description::byte_at(d, 5);
-    RunAnswer::Run(Bytes(11 + 4 * types + first), count)
+    Ok(Some((Bytes(11 + 4 * types + first), count)))
 }
 
 // The part of the description that holds type t's run; empty for a refusal or another kind.

@@ -1,13 +1,12 @@
 -- What planning answers, and what it leaves in the lent list: the refusals 1 to 10, then 11; "A refusal returns its number only and writes nothing". Assumes
 -- nothing: these are definitions.
-use Rattle.std.specs.Prelude.{cond, List, [], ◌∷◌, ◌++◌, ℕ, ltb, eqb, length}
+use Rattle.std.specs.Prelude.{cond, List, [], ◌∷◌, ◌++◌, ℕ, ltb, eqb, length, Err, Ok, Result}
 use Rattle.addresses.specs.Addresses.{run, scatter}
 use Rattle.form.specs.Order.{Rule, rule, first}
 use Rattle.types.specs.Wrong.{refusal_for}
 use Rattle.layout.specs.Verdict.{check_order}
 use Rattle.plans.specs.Cuts.{Head, plan_of}
-use Rattle.planning.specs.declared.PlanAnswer.{PlanAnswer}
-use Rattle.planning.specs.declared.PlanAnswer.TheVariants.{Planned, Refused as NotPlanned}
+use Rattle.form.specs.declared.Refusal.{Refusal}
 
 -- the numbers xs, written over a list from entry i on
 abbrev pub overwritten : List ℕ → ℕ → List ℕ → List ℕ
@@ -36,8 +35,8 @@ unfoldable pub plan_refusal : List ℕ → ℕ → ℕ
 plan_refusal d room = first (plan_order d room)
 
 -- how many numbers the plan has
-unfoldable pub plan_answer : List ℕ → ℕ → PlanAnswer
-plan_answer d room = cond (eqb (plan_refusal d room) 0) (Planned (length (plan_of d))) (NotPlanned (refusal_for d (plan_refusal d room)))
+unfoldable pub plan_answer : List ℕ → ℕ → Result ℕ Refusal
+plan_answer d room = cond (eqb (plan_refusal d room) 0) (Ok (length (plan_of d))) (Err (refusal_for d (plan_refusal d room)))
 
 -- the list at exit: the plan, and behind it what stood there
 unfoldable pub plan_after : List ℕ → List ℕ → List ℕ

@@ -7,9 +7,10 @@ ghost use Rattle.layout.specs.Verdict.{verdict};
 ghost use Rattle.plans.specs.Cuts.{address_kind, head_of, plan_of};
 ghost use Rattle.planning.specs.Planning.{overwritten, call_numbers, return_numbers, plan_answer, plan_after};
 
-use crate::{PlanAnswer, joining, lists, numbers};
+use crate::{joining, lists, numbers};
 use description::Model;
-use layout::{Layout, LayoutAnswer};
+use form::Refusal;
+use layout::Layout;
 
 // ---- what stands before the lists
 
@@ -86,17 +87,17 @@ fn write_plan(d: &[u8], layout: Layout, table: &[u32; 64], plan: &mut [u16]) -> 
 }
 
 // The plan of any bytes, or which of 1 to 10 refuses them; 11 for a list of fewer than 392 numbers.
-pub fn plan_of(d: &[u8], plan: &mut [u16]) -> PlanAnswer
+pub fn plan_of(d: &[u8], plan: &mut [u16]) -> Result<usize, Refusal>
     ensures { (result ≡ plan_answer d.now (length plan.old)) × (plan.new ≡ plan_after d.now plan.old) }
 {
     let mut table = [0u32; 64];
     let answer = layout::layout_with(d, &mut table);
-    let LayoutAnswer::Laid(layout) = answer else {
-        return PlanAnswer::Refused(layout::refusal_in(answer));
+    let Ok(layout) = answer else {
+        return Err(layout::refusal_in(answer));
     };
     if plan.len() < 392 {
-        return PlanAnswer::Refused(form::refusal_of(11));
+        return Err(form::refusal_of(11));
     }
     let end = write_plan(d, layout, &table, plan);
-    PlanAnswer::Planned(end)
+    Ok(end)
 }

@@ -8,12 +8,3 @@ mod numbers; // numbers of 16 bits
 mod joining; // the moves of all arguments, neighbours joined
 mod lists; // the lists of a plan
 mod calls; // the call: plan_of
-
-use form::Refusal;
-
-#[derive(Clone, Copy)]
-pub enum PlanAnswer {
-    // How many numbers the plan has.
-    Planned(usize),
-    Refused(Refusal),
-}

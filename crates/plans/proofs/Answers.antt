@@ -1,4 +1,5 @@
 -- Placing and gathering by a plan of an accepted description answer and leave what the description does. Assumes nothing.
+use Rattle.std.specs.Prelude.{Err, Ok}
 use mathlib.Core.Path.{◌≡◌, refl, sym, ap, ap₂, ◌∙◌}
 use mathlib.Core.Bool.{Bool, true, false, cond, ◌&&◌}
 use mathlib.Core.List.{List, ◌∷◌, ◌++◌}
@@ -25,8 +26,6 @@ use Rattle.layout.specs.Arguments.{value_start}
 use Rattle.moving.specs.Images.{frame_of, amd64}
 use Rattle.moving.specs.Orders.{is_bool, broken_byte, broken_bool, first_broken, wrong_bool, wrong_length, place_refusal, gather_refusal}
 use Rattle.moving.specs.Answers.{place_answer, registers_after, upper_after, stack_after, images_after, gather_answer, values_after}
-use Rattle.moving.specs.declared.PlaceAnswer.TheVariants.{Placed, Refused as NotPlaced}
-use Rattle.moving.specs.declared.GatherAnswer.TheVariants.{Gathered, Refused as NotGathered}
 use Rattle.moving.proofs.Orders.{gather-behind, place-before, place-behind, place-stopped}
 use Rattle.moving.proofs.Amd64.{amd64-ordered, right-lent, placed-lent}
 use Rattle.plans.specs.Plans.{bools_in, wrong_lengths, some_broken, place_refusal_by, gather_refusal_by, placed_by, gathered_by, place_answer_by, image_after_by, gather_answer_by, values_after_by}
@@ -109,7 +108,7 @@ module _ (d : List ℕ) where
       plan_place_answer =
           let n = place_refusal amd64 d h vals 176 128 s in
           let told : refusal_for d n ≡ refusal_of n = rw place_is (late_refusal d L A B) in
-          rw (plan_place_refusal, plan_vectors d) (ap (λ (x : Refusal). cond (eqb n 0) (Placed (used_at d (arguments_in d)).vector) (NotPlaced x)) (sym told))
+          rw (plan_place_refusal, plan_vectors d) (ap (λ (x : Refusal). cond (eqb n 0) (Ok (used_at d (arguments_in d)).vector) (Err x)) (sym told))
 
     module _ (values s : ℕ) where
       gather-is : gather_refusal amd64 d values 176 128 s ≡ cond (wrong_length (layout_of d) values 176 128 s) 11 0
@@ -152,7 +151,7 @@ module _ (d : List ℕ) where
       plan_gather_answer =
           let told : refusal_for d G ≡ refusal_of G = rw (gather-is (length vals) (length s)) (late_refusal d (wrong_length (layout_of d) (length vals) 176 128 (length s)) false false) in
           rw (room-is 0 vals r y s l m, plan_gather_refusal (length vals) (length s), l, m, plan_address d accepted (r ++ (y ++ s)))
-          (ap (λ (x : Refusal). cond (eqb G 0) (Gathered (own_address (frame_of d) (r ++ (y ++ s)))) (NotGathered x)) (sym told))
+          (ap (λ (x : Refusal). cond (eqb G 0) (Ok (own_address (frame_of d) (r ++ (y ++ s)))) (Err x)) (sym told))
 
       pub plan_values_after : values_after_by (plan_of d) (r ++ (y ++ s)) vals ≡ values_after amd64 d r y s vals
       unfolding values_after_by values_after

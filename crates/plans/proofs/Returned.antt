@@ -1,4 +1,5 @@
 -- Putting and taking by a plan of an accepted description answer and leave what the description does. Assumes nothing.
+use Rattle.std.specs.Prelude.{Err, Ok}
 use mathlib.Core.Path.{◌≡◌, refl, sym, ap, ap₂, ◌∙◌}
 use mathlib.Core.Bool.{Bool, true, false, cond, not, ◌&&◌}
 use mathlib.Core.List.{List, [], ◌∷◌, ◌++◌, append-nil}
@@ -24,8 +25,6 @@ use Rattle.returning.specs.Image.{blank_return, return_image, return_value, retu
 use Rattle.returning.specs.Returned.{return_length}
 use Rattle.returning.specs.Orders.{wrong_length, wrong_bool, put_refusal, take_refusal}
 use Rattle.returning.specs.Answers.{put_answer, image_after, upper_after, images_after, take_answer, value_after}
-use Rattle.returning.specs.declared.PutAnswer.TheVariants.{Put, Refused as NotPut}
-use Rattle.returning.specs.declared.TakeAnswer.TheVariants.{Taken, Refused as NotTaken}
 use Rattle.returning.proofs.Values.{memory_hidden}
 use Rattle.returning.proofs.Orders.{put-accepted, take-accepted}
 use Rattle.plans.specs.Moves.{Move, turned_all, sources, targets}
@@ -107,7 +106,7 @@ module _ (d : List ℕ) where
       plan_put_answer =
           let n = put_refusal d h v 80 y in
           let told : refusal_for d n ≡ refusal_of n = rw put_is (late_refusal d L A B) in
-          rw plan_put_refusal (ap (λ (x : Refusal). cond (eqb n 0) Put (NotPut x)) (sym told))
+          rw plan_put_refusal (ap (λ (x : Refusal). cond (eqb n 0) (Ok tt) (Err x)) (sym told))
 
     module _ (h : ℕ) (v i y : List ℕ) (l : length i ≡ 80) where
       room-is : length (i ++ y) ≡ 80 + length y
@@ -144,7 +143,7 @@ module _ (d : List ℕ) where
       plan_take_answer =
           let told : refusal_for d T ≡ refusal_of T = rw take-is (late_refusal d (wrong_length (return_length d) (length v) 80 (length y)) false false) in
           rw (room-is 0 v i y l, plan_take_refusal, plan_taken_address (i ++ y))
-          (ap (λ (x : Refusal). cond (eqb T 0) (Taken (returned_address (return_place d) (i ++ y))) (NotTaken x)) (sym told))
+          (ap (λ (x : Refusal). cond (eqb T 0) (Ok (returned_address (return_place d) (i ++ y))) (Err x)) (sym told))
 
       plan_take_value : returned_after_by (plan_of d) (i ++ y) v ≡ value_after d i y v
       unfolding returned_after_by value_after

@@ -4,18 +4,16 @@
 --   4 how many eights, 5 fours, 6 parts, 7 bools; 8 to 15 the returned value (Returned.antt);
 --   from 16 on the eights and the fours (source, target), the parts (source, target, bytes), the bools (source).
 -- A source is a byte of the values, a target one of the images: register image, upper image and stack image, one behind the other.
-use Rattle.std.specs.Prelude.{Bool, true, false, cond, not, ◌&&◌, ◌||◌, List, [], ◌∷◌, ◌++◌, ℕ, zero, suc, ◌+◌, ◌*◌, leb, ltb, eqb, length, get_or}
+use Rattle.std.specs.Prelude.{Bool, true, false, cond, not, ◌&&◌, ◌||◌, List, [], ◌∷◌, ◌++◌, ℕ, zero, suc, ◌+◌, ◌*◌, leb, ltb, eqb, length, get_or, Err, Ok, Result}
 use Rattle.addresses.specs.Addresses.{run, gather}
 use Rattle.form.specs.Order.{Rule, rule, first}
 use Rattle.form.specs.Reading.{refusal_of}
 use Rattle.places.specs.Images.{stack_at}
 use Rattle.moving.specs.Frames.{Frame, empty_in, own_address}
 use Rattle.moving.specs.Images.{framed}
-use Rattle.moving.specs.declared.PlaceAnswer.{PlaceAnswer}
-use Rattle.moving.specs.declared.PlaceAnswer.TheVariants.{Placed, Refused as NotPlaced}
-use Rattle.moving.specs.declared.GatherAnswer.{GatherAnswer}
-use Rattle.moving.specs.declared.GatherAnswer.TheVariants.{Gathered, Refused as NotGathered}
 use Rattle.plans.specs.Moves.{Move, move_all, turned_all, all_fit}
+use Rattle.form.specs.declared.Refusal.{Refusal}
+use Rattle.units.specs.declared.Registers.{Registers}
 
 -- ---- what stands where
 
@@ -122,17 +120,17 @@ gathered_by plan image vals = move_all vals image (turned_all (moves_in plan))
 
 -- ---- what is answered and left: a refusal changes nothing
 
-unfoldable pub place_answer_by : List ℕ → ℕ → List ℕ → ℕ → PlaceAnswer
+unfoldable pub place_answer_by : List ℕ → ℕ → List ℕ → ℕ → Result Registers Refusal
 place_answer_by plan h vals image =
-    cond (eqb (place_refusal_by plan h vals image) 0) (Placed (record { 0 = vectors_in plan })) (NotPlaced (refusal_of (place_refusal_by plan h vals image)))
+    cond (eqb (place_refusal_by plan h vals image) 0) (Ok (record { 0 = vectors_in plan })) (Err (refusal_of (place_refusal_by plan h vals image)))
 
 -- the images at exit, image at entry
 unfoldable pub image_after_by : List ℕ → ℕ → List ℕ → List ℕ → List ℕ
 image_after_by plan h vals image = cond (eqb (place_refusal_by plan h vals (length image)) 0) (placed_by plan h vals) image
 
-unfoldable pub gather_answer_by : List ℕ → List ℕ → ℕ → GatherAnswer
+unfoldable pub gather_answer_by : List ℕ → List ℕ → ℕ → Result ℕ Refusal
 gather_answer_by plan image values =
-    cond (eqb (gather_refusal_by plan values (length image)) 0) (Gathered (own_address (frame_by plan) image)) (NotGathered (refusal_of (gather_refusal_by plan values (length image))))
+    cond (eqb (gather_refusal_by plan values (length image)) 0) (Ok (own_address (frame_by plan) image)) (Err (refusal_of (gather_refusal_by plan values (length image))))
 
 -- the values at exit, vals at entry
 unfoldable pub values_after_by : List ℕ → List ℕ → List ℕ → List ℕ

@@ -1,19 +1,16 @@
 -- What a plan says of the returned value. Of any numbers. Assumes nothing: these are definitions.
 --   8 its bytes, 9 whether it is a _Bool (0 no), 10 to 12 and 13 to 15 two moves (source, target, bytes), of 0 bytes where there is none.
 -- A source is a byte of the value, a target one of the return image or, behind its 80 bytes, of the upper return image.
-use Rattle.std.specs.Prelude.{Bool, cond, not, ◌&&◌, ◌||◌, List, [], ◌∷◌, ℕ, ◌+◌, leb, ltb, eqb, length, get_or, replicate}
+use Rattle.std.specs.Prelude.{Bool, cond, not, ◌&&◌, ◌||◌, List, [], ◌∷◌, ℕ, ◌+◌, leb, ltb, eqb, length, get_or, replicate, Err, Ok, Result}
 use Rattle.addresses.specs.Addresses.{gather}
 use Rattle.form.specs.Order.{Rule, rule, first}
 use Rattle.form.specs.Reading.{refusal_of}
 use Rattle.images.specs.Words.{number}
 use Rattle.returning.specs.Moved.{upper_at}
 use Rattle.returning.specs.Image.{rax, blank_return}
-use Rattle.returning.specs.declared.PutAnswer.{PutAnswer}
-use Rattle.returning.specs.declared.PutAnswer.TheVariants.{Put, Refused as NotPut}
-use Rattle.returning.specs.declared.TakeAnswer.{TakeAnswer}
-use Rattle.returning.specs.declared.TakeAnswer.TheVariants.{Taken, Refused as NotTaken}
 use Rattle.plans.specs.Moves.{Move, move_all, turned_all, all_fit}
 use Rattle.plans.specs.Plans.{head_length, used_by, wide_address, triples}
+use Rattle.form.specs.declared.Refusal.{Refusal}
 
 abbrev pub returned_in : List ℕ → ℕ
 returned_in plan = get_or plan 8 0
@@ -64,15 +61,15 @@ taken_by plan image n = move_all (replicate n 0) image (turned_all (return_moves
 unfoldable pub address_by : List ℕ → List ℕ → ℕ
 address_by plan image = cond (used_by plan) (number (gather image rax)) 0
 
-unfoldable pub put_answer_by : List ℕ → ℕ → List ℕ → ℕ → PutAnswer
-put_answer_by plan h v image = cond (eqb (put_refusal_by plan h v image) 0) Put (NotPut (refusal_of (put_refusal_by plan h v image)))
+unfoldable pub put_answer_by : List ℕ → ℕ → List ℕ → ℕ → Result (Unit {0}) Refusal
+put_answer_by plan h v image = cond (eqb (put_refusal_by plan h v image) 0) (Ok tt) (Err (refusal_of (put_refusal_by plan h v image)))
 
 unfoldable pub return_image_by : List ℕ → ℕ → List ℕ → List ℕ → List ℕ
 return_image_by plan h v image = cond (eqb (put_refusal_by plan h v (length image)) 0) (put_by plan h v) image
 
-unfoldable pub take_answer_by : List ℕ → List ℕ → ℕ → TakeAnswer
+unfoldable pub take_answer_by : List ℕ → List ℕ → ℕ → Result ℕ Refusal
 take_answer_by plan image value =
-    cond (eqb (take_refusal_by plan value (length image)) 0) (Taken (address_by plan image)) (NotTaken (refusal_of (take_refusal_by plan value (length image))))
+    cond (eqb (take_refusal_by plan value (length image)) 0) (Ok (address_by plan image)) (Err (refusal_of (take_refusal_by plan value (length image))))
 
 unfoldable pub returned_after_by : List ℕ → List ℕ → List ℕ → List ℕ
 returned_after_by plan image v = cond (eqb (take_refusal_by plan (length v) (length image)) 0) (taken_by plan image (length v)) v

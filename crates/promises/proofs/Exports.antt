@@ -1,4 +1,5 @@
 -- The calls of a C host do what the demands say. Assumes nothing.
+use Rattle.std.specs.Prelude.{Err, None, Ok, Option, Result, Some}
 use mathlib.Core.Path.{◌≡◌, refl, sym, ap, ap₂, ◌∙◌, subst}
 use mathlib.Core.Logic.{◌≢◌}
 use mathlib.Core.Bool.{Bool, true, false, cond}
@@ -36,13 +37,11 @@ use Rattle.layout.specs.Placements.{placement_at}
 use Rattle.layout.specs.Lists.{list_refusal, list_count, filled}
 use Rattle.layout.proofs.Lists.{list_accepted, list_room}
 use Rattle.layout.proofs.Records.{values-packed}
-use Rattle.moving.specs.declared.GatherAnswer.TheVariants.{Gathered as GatheredBack}
 use Rattle.moving.specs.Images.{addresses_of, amd64}
 use Rattle.moving.specs.Frames.{gathered_in}
 use Rattle.moving.proofs.Amd64.{passed-hidden}
 use Rattle.moving.specs.Orders.{place_refusal, gather_refusal}
 use Rattle.moving.specs.Answers.{place_answer, gather_answer, registers_after, upper_after, stack_after, images_after, values_after}
-use Rattle.returning.specs.declared.TakeAnswer.TheVariants.{Taken as TakenOut}
 use Rattle.returning.specs.Image.{return_value, in_memory, trimmed}
 use Rattle.returning.specs.Orders.{put_refusal, take_refusal}
 use Rattle.returning.specs.Answers.{put_answer, take_answer, image_after, upper_after as returned_upper, images_after as returned_images, value_after}
@@ -54,8 +53,6 @@ use Rattle.station.proofs.Attachments.{detach-right, detach-done as detached}
 use Rattle.station.proofs.Changes.{wrong_refuses, idle-refuses, wrong_eleven, change_eleven as eleven-wrong, change-wrong, change-idle, change-parts}
 use Rattle.station.proofs.Kcb.{kcb-refusal, kcb-lent}
 use Rattle.station.proofs.Orders.{kept, left}
-use Rattle.walk.specs.declared.showing.ShownAnswer.{ShownAnswer}
-use Rattle.walk.specs.declared.showing.ShownAnswer.TheVariants.{Registers, Stack, Apart, Refused}
 use Rattle.walk.specs.declared.Walk.{Walk as Standing}
 use Rattle.walk.specs.Orders.{Ask, asking, wrong_registers, other_type, wrong_stack, open_refusal, step_refusal, show_refusal}
 use Rattle.histories.specs.Calls.{Desk, Call, attaching, detaching, changing, opening, stepping, showing, numbering, writing, with_walk, call, calls, answer, answers}
@@ -128,6 +125,7 @@ use Rattle.promises.proofs.Demand2.{demand_2}
 use Rattle.promises.proofs.MemberOffsets.{same_lie}
 use Rattle.promises.proofs.Demand3.{demand_3}
 use Rattle.promises.proofs.BringingBack.{bringing_back}
+use Rattle.walk.specs.declared.showing.Shown.{Shown}
 
 -- ---- a call that is told by a number
 
@@ -475,17 +473,17 @@ steps-flat s seat old a =
           (ap walk_meant (t.left old ∙ kept n _ old e) ∙ walk-means (step_walk kcb x seat y a) ∙ (demand_2.steps.walk x seat y a e).0, (demand_2.steps.walk x seat y a e).1);
     }
 
-shown_read_lem : (x : ShownAnswer) → shown_read (part_shown x) ≡ shown_part x
-shown_read_lem (Registers p) = refl
-shown_read_lem (Stack p) = refl
-shown_read_lem Apart = refl
-shown_read_lem (Refused r) = refl
+shown_read_lem : (x : Result (Option Shown) Refusal) → shown_read (part_shown x) ≡ shown_part x
+shown_read_lem (Ok (Some (Registers p))) = refl
+shown_read_lem (Ok (Some (Stack p))) = refl
+shown_read_lem (Ok None) = refl
+shown_read_lem (Err r) = refl
 
-shown-bytes : (x : ShownAnswer) (registers stack : List ℕ) → bytes_in (part_shown x) registers stack ≡ shown_bytes x registers stack
-shown-bytes (Registers p) registers stack = refl
-shown-bytes (Stack p) registers stack = refl
-shown-bytes Apart registers stack = refl
-shown-bytes (Refused r) registers stack = refl
+shown-bytes : (x : Result (Option Shown) Refusal) (registers stack : List ℕ) → bytes_in (part_shown x) registers stack ≡ shown_bytes x registers stack
+shown-bytes (Ok (Some (Registers p))) registers stack = refl
+shown-bytes (Ok (Some (Stack p))) registers stack = refl
+shown-bytes (Ok None) registers stack = refl
+shown-bytes (Err r) registers stack = refl
 
 shows-flat : (s : Station) (seat : List ℕ) (w : Walk) (a : Ask)
     → ShowsFlat s seat w a (shown_refusal (shown_answer kcb (station_meant s) seat (walk_meant w) a)) (part_shown (shown_answer kcb (station_meant s) seat (walk_meant w) a))
@@ -601,7 +599,7 @@ exports = record {
 
 back : (d : List ℕ) (h : ℕ) (values r y s d' r' y' s' v : List ℕ) → h < 2 ^ 64 → place_refusal amd64 d h values (length r) (length y) (length s) ≡ 0
     → d' ≡ d → r' ≡ registers_after amd64 d h values r y s → y' ≡ upper_after amd64 d h values r y s → s' ≡ stack_after amd64 d h values r y s → length v ≡ length values
-    → (gather_answer amd64 d' r' y' s' (length v) ≡ GatheredBack (cond (hidden d) h 0)) × (values_after amd64 d' r' y' s' v ≡ values)
+    → (gather_answer amd64 d' r' y' s' (length v) ≡ Ok (cond (hidden d) h 0)) × (values_after amd64 d' r' y' s' v ≡ values)
 back d h values r y s d' r' y' s' v small p e f k g l = rw (e, f, k, g, ← passed-hidden d h) (demand_2.moving.gathers_placed d h values r y s v small p l)
 
 -- an accepted placing is accepted by its order
@@ -642,7 +640,7 @@ never_the_same c e r w q v a b z y d h registers upper stack =
 
 taken_back : (d : List ℕ) (h : ℕ) (v i y d' i' y' w : List ℕ) → h < 2 ^ 64 → put_refusal d h v (length i) (length y) ≡ 0 → d' ≡ d → i' ≡ image_after d h v i y → y' ≡ returned_upper d h v i y
     → length w ≡ length v
-    → (take_answer d' i' y' (length w) ≡ TakenOut (cond (in_memory (return_place d)) h 0)) × (value_after d' i' y' w ≡ trimmed (return_place d) v)
+    → (take_answer d' i' y' (length w) ≡ Ok (cond (in_memory (return_place d)) h 0)) × (value_after d' i' y' w ≡ trimmed (return_place d) v)
 taken_back d h v i y d' i' y' w small p e f g l = rw (e, f, g) (bringing_back.takes_put d h v i y w small p l)
 
 pub takes_back : TakesBack

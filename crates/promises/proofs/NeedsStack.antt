@@ -1,4 +1,5 @@
 -- Request 2026-10, of the definitions and of the call. Assumes nothing.
+use Rattle.std.specs.Prelude.{Err, Ok}
 use mathlib.Core.Path.{◌≡◌, refl, sym, ap, ◌∙◌}
 use mathlib.Core.Logic.{◌≢◌}
 use mathlib.Core.Bool.{Bool, true, false, not}
@@ -19,7 +20,6 @@ use Rattle.layout.specs.Verdict.{verdict}
 use Rattle.layout.specs.Layout.{layout_of, layout_answer}
 use Rattle.layout.specs.StackNeeds.{stack_need, stack_answer}
 use Rattle.layout.specs.declared.needing.StackNeed.{StackNeed as Need}
-use Rattle.layout.specs.declared.needing.StackAnswer.TheVariants.{Known, Refused as NotKnown}
 use Rattle.layout.proofs.Verdict.{verdict-uses, no_ten, ten, accepted-uses}
 use Rattle.layout.proofs.Needed.{never_ten, only_ten, stack-needed}
 use Rattle.station.proofs.Orders.{kept}
@@ -47,7 +47,7 @@ use Rattle.promises.proofs.Exports.{fills, told-number, along}
 
 need_means_outcome : (d : List ℕ) → of_need (stack_answer d) ≡ outcome (uses_refusal d) ((stack_need d).needed, (stack_need d).looked)
 unfolding stack_answer refusal_for refusal_by refusal_at
-need_means_outcome d = decided of_need (Known (stack_need d)) (λ n. NotKnown (refusal_for d n)) ((stack_need d).needed, (stack_need d).looked) refl (λ n. refl) (uses_refusal d)
+need_means_outcome d = decided of_need (Ok (stack_need d)) (λ n. Err (refusal_for d n)) ((stack_need d).needed, (stack_need d).looked) refl (λ n. refl) (uses_refusal d)
 
 need_answered : (d : List ℕ) → Answered (of_need (stack_answer d)) (need_order d) ((stack_need d).needed, (stack_need d).looked)
 unfolding uses_refusal

@@ -1,4 +1,5 @@
 -- Request 2026-01: the type that each call's refusal names is the lowest that breaks the rule. Assumes nothing.
+use Rattle.std.specs.Prelude.{Err, Ok}
 use mathlib.Core.Path.{◌≡◌, refl, sym, subst, ◌∙◌}
 use mathlib.Core.Logic.{◌≢◌}
 use mathlib.Core.Bool.{Bool, true, false, cond, ◌&&◌, ◌||◌, true≢false}
@@ -11,7 +12,6 @@ use Rattle.description.specs.Description.{types_in, header_of, model_in}
 use Rattle.form.specs.Conditions.{wrong_record, first_broken}
 use Rattle.form.specs.Order.{Rule, rule, first, form_refusal}
 use Rattle.form.specs.Reading.{refusal_at, refusal_by, refusal_of, reading_of}
-use Rattle.form.specs.declared.Reading.TheVariants.{Accepted, Refused as NotRead}
 use Rattle.form.proofs.Form.{broken-first, broken-least}
 use Rattle.types.specs.Large.{too_large, first_large}
 use Rattle.types.specs.Wrong.{refusal_for}
@@ -86,7 +86,7 @@ read_names : (d : List ℕ) → Names d (refusal_read (reading_of d))
 unfolding reading_of form_refusal refusal_of refusal_at wrong_record
 read_names d = by (first (form_order d)) refl
   where
-    by : (n : ℕ) → first (form_order d) ≡ n → Names d (refusal_read (cond (eqb n 0) (Accepted (header_of d)) (NotRead (refusal_at n (cond (eqb n 6) (first_broken d) 0)))))
+    by : (n : ℕ) → first (form_order d) ≡ n → Names d (refusal_read (cond (eqb n 0) (Ok (header_of d)) (Err (refusal_at n (cond (eqb n 6) (first_broken d) 0)))))
     by zero e = record { six = λ p. absurd (omega (arith, p)); seven = λ p. absurd (omega (arith, p)); other = λ p q. refl }
     by (suc m) e = rw (ne_eqb (suc m) 0 (λ z. omega (arith, z))) (record {
       six = λ p. rw (eq-eqb (suc m) 6 p) (

@@ -3,7 +3,7 @@
 -- gathered back are the same bytes. Images gathered and placed again, with their own hidden address, are the same images exactly when their unused
 -- bytes are zero and each _Bool argument's byte is 0 or 1." Request 2026-06: "Demands 2 and 3 count the second image among the images". Each statement is a
 -- type, under the label of docs/CONTRACTS.md; proofs/Demand2.antt proves `Demand2`. Assumes nothing: these are definitions.
-use Rattle.std.specs.Prelude.{◌≡◌, ◌↔◌, ◌⊎◌, Bool, true, false, cond, not, ◌&&◌, ◌||◌, List, [], ◌∷◌, map, ℕ, zero, suc, ◌+◌, ◌*◌, ◌/◌, ◌%◌, ◌≤◌, ◌<◌, ltb, eqb, length, get_or, set}
+use Rattle.std.specs.Prelude.{◌≡◌, ◌↔◌, ◌⊎◌, Bool, true, false, cond, not, ◌&&◌, ◌||◌, List, [], ◌∷◌, map, ℕ, zero, suc, ◌+◌, ◌*◌, ◌/◌, ◌%◌, ◌≤◌, ◌<◌, ltb, eqb, length, get_or, set, Ok, Result}
 use Rattle.addresses.specs.Addresses.{run}
 use Rattle.description.specs.declared.Model.{Model}
 use Rattle.description.specs.declared.Model.TheVariants.{Lp64, Ilp32}
@@ -33,8 +33,6 @@ use Rattle.places.specs.Places.{eights, Place, in_registers, on_stack}
 use Rattle.places.specs.Recorded.{place_of}
 use Rattle.places.specs.Statements.{LowestOffset, RoundedUp, Lacks, Fit, general_number, vector_number, numbers_in, kind_in}
 use Rattle.layout.specs.declared.placements.Placement.{Placement}
-use Rattle.layout.specs.declared.LayoutAnswer.{LayoutAnswer}
-use Rattle.layout.specs.declared.LayoutAnswer.TheVariants.{Laid}
 use Rattle.layout.specs.Arguments.{shape_at, is_void, return_classes, return_place, hidden, used_first, used_at, area_of}
 use Rattle.layout.specs.Verdict.{verdict}
 use Rattle.layout.specs.Layout.{layout_of, layout_answer}
@@ -53,6 +51,8 @@ use Rattle.walk.specs.declared.Walk.{Walk}
 use Rattle.walk.specs.Offsets.{walk_at, source_in, read_at, step}
 use Rattle.walk.specs.Orders.{Ask, step_refusal}
 use Rattle.walk.specs.Steps.{moved_on, bytes_at, step_walk, step_out}
+use Rattle.layout.specs.declared.Layout.{Layout}
+use Rattle.form.specs.declared.Refusal.{Refusal}
 
 -- ---- B1: sizes and alignments, which `type_size`, `type_align` and every record give
 
@@ -367,11 +367,11 @@ pub record B13Steps : Type 0 where
 -- ---- B14: "The cases above are proved of the definitions by a single theorem over a list of them"
 
 -- what the definitions say of a case's bytes, the layout and all records, and what the paper says
-abbrev pub derived : Case → LayoutAnswer × List Placement
+abbrev pub derived : Case → Result Layout Refusal × List Placement
 derived c = (layout_answer c.bytes, map (placement_at c.bytes) (run 0 (arguments_in c.bytes)))
 
-abbrev pub stated : Case → LayoutAnswer × List Placement
-stated c = (Laid c.laid, c.records)
+abbrev pub stated : Case → Result Layout Refusal × List Placement
+stated c = (Ok c.laid, c.records)
 
 pub record B14Cases : Type 0 where
   -- the lister's case, P1 to P11 and those of request 2026-06, 000's figure 3.32 with its __m256 among them, from description bytes

@@ -3,14 +3,12 @@
 -- plus one, or A where there is none. Refusals: 1..9 as before; 10 is not given here." `StackNeeded` (layout/specs/StackNeeds.antt) states the sentences of the
 -- definitions; what the call of a C host does is said of every outcome that its contract admits. proofs/NeedsStack.antt proves `NeedsStack`. Assumes nothing: these
 -- are definitions.
-use Rattle.std.specs.Prelude.{◌≡◌, ◌≢◌, Bool, true, not, List, ℕ, eqb}
+use Rattle.std.specs.Prelude.{◌≡◌, ◌≢◌, Bool, true, not, List, ℕ, eqb, Err, Ok, Result}
 use denote.Triple.Entry.{Res}
 use denote.Triple.Clauses.{Lasts}
 use Rattle.tightness.specs.Tight.{Call as Made, Admits}
 use Rattle.form.specs.declared.Refusal.{Refusal}
 use Rattle.form.specs.Order.{NoneHolds}
-use Rattle.layout.specs.declared.needing.StackAnswer.{StackAnswer}
-use Rattle.layout.specs.declared.needing.StackAnswer.TheVariants.{Known, Refused as NotKnown}
 use Rattle.layout.specs.StackNeeds.{stack_need, stack_answer, StackNeeded}
 use Rattle.flat.specs.declared.StackNeed.{StackNeed}
 use Rattle.flat.specs.declared.Layout.{Layout}
@@ -23,9 +21,9 @@ use Rattle.promises.specs.Calls.{Ensures}
 use Rattle.promises.specs.Exports.{Fills}
 
 -- yes or no, and the count of arguments looked at
-abbrev pub of_need : StackAnswer → Meaning (Bool × ℕ)
-of_need (Known n) = accepted (n.needed, n.looked)
-of_need (NotKnown r) = refused r.number
+abbrev pub of_need : Result StackNeed Refusal → Meaning (Bool × ℕ)
+of_need (Ok n) = accepted (n.needed, n.looked)
+of_need (Err r) = refused r.number
 
 abbrev pub need_read : StackNeed → Bool × ℕ
 need_read n = ((need_meant n).needed, (need_meant n).looked)

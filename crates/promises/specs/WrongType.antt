@@ -1,11 +1,9 @@
 -- Request 2026-01, "Where the type is wrong", beside demand 1: "Refusals 6 and 7 now return the lowest type number that breaks the rule, and every
 -- call that passes such a refusal on passes the number too. All other refusals give 0 there." proofs/WrongType.antt proves `WrongType`.
 -- Assumes nothing: these are definitions.
-use Rattle.std.specs.Prelude.{◌≡◌, ◌≢◌, true, List, ℕ, ◌<◌}
+use Rattle.std.specs.Prelude.{◌≡◌, ◌≢◌, true, List, ℕ, ◌<◌, Err, Ok, Result}
 use Rattle.description.specs.Description.{types_in, model_in}
 use Rattle.form.specs.declared.Refusal.{Refusal}
-use Rattle.form.specs.declared.Reading.{Reading}
-use Rattle.form.specs.declared.Reading.TheVariants.{Accepted, Refused as NotRead}
 use Rattle.form.specs.Reading.{refusal_of, reading_of}
 use Rattle.form.specs.Conditions.{broken_record}
 use Rattle.types.specs.Size.{size_ty}
@@ -25,6 +23,7 @@ use Rattle.station.specs.Attachment.{described, attach_refusal, detach_refusal, 
 use Rattle.walk.specs.declared.Walk.{Walk}
 use Rattle.finishing.specs.Rest.{AskRest, finish_refusal}
 use Rattle.walk.specs.Orders.{Ask, open_refusal, step_refusal, show_refusal}
+use Rattle.description.specs.declared.Header.{Header}
 
 -- k is the lowest of n types that breaks a rule
 pub record Lowest (Breaks : ℕ → Type 0) (n k : ℕ) : Type 0 where
@@ -41,9 +40,9 @@ pub record Names (d : List ℕ) (r : Refusal) : Type 0 where
   pub other : r.number ≢ 6 → r.number ≢ 7 → r.ty ≡ 0
 
 -- the refusal of a form that is read, none where it is accepted
-abbrev pub refusal_read : Reading → Refusal
-refusal_read (Accepted h) = refusal_of 0
-refusal_read (NotRead r) = r
+abbrev pub refusal_read : Result Header Refusal → Refusal
+refusal_read (Ok h) = refusal_of 0
+refusal_read (Err r) = r
 
 -- the refusal of each call, as its contract gives it: of the description that is handed in, or of the one in the seat
 pub record WrongType : Type 0 where

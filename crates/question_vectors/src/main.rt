@@ -6,7 +6,6 @@ ghost use Rattle.std.specs.Prelude.{◌≡◌, true, ◌<◌, ◌≤◌, length}
 
 use classes::Class;
 use form::Refusal;
-use questions::{AlignAnswer, ClassesAnswer, RunAnswer, SizeAnswer};
 use units::Bytes;
 
 // More than the file has, so that the program ends whatever it reads.
@@ -48,21 +47,21 @@ fn print_class(rt: &impl Print, class: Class) {
 
 fn print_align(rt: &impl Print, d: &[u8], t: u8) {
     match questions::type_align(d, t) {
-        AlignAnswer::Align(align) => print_number(rt, b" align ", align.0 as u64),
-        AlignAnswer::Refused(refusal) => print_refusal(rt, refusal),
+        Ok(align) => print_number(rt, b" align ", align.0 as u64),
+        Err(refusal) => print_refusal(rt, refusal),
     }
 }
 
 fn print_classes(rt: &impl Print, d: &[u8], t: u8) {
     match questions::type_classes(d, t) {
-        ClassesAnswer::Classes(first, second, third, fourth) => {
+        Ok((first, second, third, fourth)) => {
             print(rt, b" classes");
             print_class(rt, first);
             print_class(rt, second);
             print_class(rt, third);
             print_class(rt, fourth);
         }
-        ClassesAnswer::Refused(refusal) => print_refusal(rt, refusal),
+        Err(refusal) => print_refusal(rt, refusal),
     }
 }
 
@@ -112,18 +111,18 @@ fn print_run(rt: &impl Print, d: &[u8], t: u8) {
     let part = questions::member_run(d, t);
     let mut offsets = [0usize; 255];
     match questions::run_at(d, t) {
-        RunAnswer::Run(offset, count) => {
+        Ok(Some((offset, count))) => {
             print_number(rt, b" run ", offset.0 as u64);
             print_part(rt, part);
             ask_offsets(rt, d, t, count, &mut offsets);
         }
-        RunAnswer::NoRun => {
+        Ok(None) => {
             print(rt, b" run none");
             if part.len() != 0 {
                 print_part(rt, part);
             }
         }
-        RunAnswer::Refused(refusal) => print_refusal(rt, refusal),
+        Err(refusal) => print_refusal(rt, refusal),
     }
 }
 
@@ -136,8 +135,8 @@ fn print_known(rt: &impl Print, d: &[u8], t: u8, size: Bytes) {
 
 fn answer(rt: &impl Print, d: &[u8], t: u8) {
     match questions::type_size(d, t) {
-        SizeAnswer::Size(size) => print_known(rt, d, t, size),
-        SizeAnswer::Refused(refusal) => print_refusal(rt, refusal),
+        Ok(size) => print_known(rt, d, t, size),
+        Err(refusal) => print_refusal(rt, refusal),
     }
     print(rt, b"\n");
 }

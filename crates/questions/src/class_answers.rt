@@ -2,25 +2,26 @@
 ghost use Rattle.std.specs.Prelude.{◌≡◌};
 ghost use Rattle.questions.specs.Runs.{classes_answer};
 
-use crate::{ClassesAnswer, refusals};
+use crate::refusals;
 use classes::Class;
+use form::Refusal;
 
 // The classes of type t's eightbytes.
-pub fn type_classes(d: &[u8], t: u8) -> ClassesAnswer
+pub fn type_classes(d: &[u8], t: u8) -> Result<(Class, Class, Class, Class), Refusal>
     ensures { result ≡ classes_answer d.now t }
 {
     let mut table = [0u32; 64];
     let number = refusals::question_refusal_with(d, t, &mut table);
     if number != 0 {
-        return ClassesAnswer::Refused(types::refusal_for(d, number));
+        return Err(types::refusal_for(d, number));
     }
     classify::fill_classes(d, &mut table);
     let k = t as usize;
     if classify::is_wide(&table, k) {
-        return ClassesAnswer::Classes(Class::Sse, Class::SseUp, Class::SseUp, Class::SseUp);
+        return Ok((Class::Sse, Class::SseUp, Class::SseUp, Class::SseUp));
     }
     let classes = classify::classes_in(&table, k);
     let first = classes[0];
     let second = classes[1];
-    ClassesAnswer::Classes(first, second, Class::NoClass, Class::NoClass)
+    Ok((first, second, Class::NoClass, Class::NoClass))
 }

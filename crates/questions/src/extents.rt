@@ -2,66 +2,68 @@
 ghost use Rattle.std.specs.Prelude.{◌≡◌};
 ghost use Rattle.questions.specs.Questions.{size_answer, align_answer, refusal_in, extent_answer};
 
-use crate::{AlignAnswer, ExtentAnswer, SizeAnswer, refusals};
+use crate::refusals;
 use form::Refusal;
+use types::Extent;
+use units::Bytes;
 
 // The refusal that an answer carries, for a caller that passes it on.
-pub fn refusal_in(answer: ExtentAnswer) -> Refusal
+pub fn refusal_in(answer: Result<Extent, Refusal>) -> Refusal
     ensures { result ≡ refusal_in answer }
 {
     match answer {
-        ExtentAnswer::Known(_) => form::refusal_of(0),
-        ExtentAnswer::Refused(refusal) => refusal,
+        Ok(_) => form::refusal_of(0),
+        Err(refusal) => refusal,
     }
 }
 
 // How many bytes the type has, or the refusal.
-fn size_in(answer: ExtentAnswer) -> SizeAnswer
+fn size_in(answer: Result<Extent, Refusal>) -> Result<Bytes, Refusal>
     ensures { result ≡ size_answer answer }
 {
-    let ExtentAnswer::Known(extent) = answer else {
-        return SizeAnswer::Refused(refusal_in(answer));
+    let Ok(extent) = answer else {
+        return Err(refusal_in(answer));
     };
     let size = extent.size;
-    SizeAnswer::Size(size)
+    Ok(size)
 }
 
 // What the type's offset must be a multiple of, or the refusal.
-fn align_in(answer: ExtentAnswer) -> AlignAnswer
+fn align_in(answer: Result<Extent, Refusal>) -> Result<Bytes, Refusal>
     ensures { result ≡ align_answer answer }
 {
-    let ExtentAnswer::Known(extent) = answer else {
-        return AlignAnswer::Refused(refusal_in(answer));
+    let Ok(extent) = answer else {
+        return Err(refusal_in(answer));
     };
     let align = extent.align;
-    AlignAnswer::Align(align)
+    Ok(align)
 }
 
 // ---- both
 
 // Size and alignment of type t.
-pub fn type_extent(d: &[u8], t: u8) -> ExtentAnswer
+pub fn type_extent(d: &[u8], t: u8) -> Result<Extent, Refusal>
     ensures { result ≡ extent_answer d.now t }
 {
     let mut table = [0u32; 64];
     let number = refusals::question_refusal_with(d, t, &mut table);
     if number != 0 {
-        return ExtentAnswer::Refused(types::refusal_for(d, number));
+        return Err(types::refusal_for(d, number));
     }
-    ExtentAnswer::Known(types::extent_in(&table, t as usize))
+    Ok(types::extent_in(&table, t as usize))
 }
 
 // ---- one alone
 
 // How many bytes type t has.
-pub fn type_size(d: &[u8], t: u8) -> SizeAnswer
+pub fn type_size(d: &[u8], t: u8) -> Result<Bytes, Refusal>
     ensures { result ≡ size_answer (extent_answer d.now t) }
 {
     size_in(type_extent(d, t))
 }
 
 // What type t's offset must be a multiple of.
-pub fn type_align(d: &[u8], t: u8) -> AlignAnswer
+pub fn type_align(d: &[u8], t: u8) -> Result<Bytes, Refusal>
     ensures { result ≡ align_answer (extent_answer d.now t) }
 {
     align_in(type_extent(d, t))

@@ -5,7 +5,6 @@
 ghost use Rattle.std.specs.Prelude.{◌≡◌, true, ◌<◌, ◌≤◌, length};
 
 use form::Refusal;
-use returning::{PutAnswer, TakeAnswer};
 
 // More than the file has, so that the program ends whatever it reads.
 const RECORDS: usize = 100000;
@@ -79,15 +78,15 @@ fn answer(
     out: &mut [u8],
 ) {
     match returning::put_returned(d, hidden, value, image, upper) {
-        PutAnswer::Put => print(rt, b"put\n"),
-        PutAnswer::Refused(refusal) => print_refusal(rt, refusal),
+        Ok(()) => print(rt, b"put\n"),
+        Err(refusal) => print_refusal(rt, refusal),
     }
     print_bytes(rt, b"image", image);
     print_bytes(rt, b"upper", upper);
     fill(out);
     match returning::take_returned(d, image, upper, out) {
-        TakeAnswer::Taken(address) => print_number(rt, b"taken ", address),
-        TakeAnswer::Refused(refusal) => print_refusal(rt, refusal),
+        Ok(address) => print_number(rt, b"taken ", address),
+        Err(refusal) => print_refusal(rt, refusal),
     }
     print_bytes(rt, b"value", out);
 }

@@ -1,4 +1,5 @@
 -- The theorems on putting and taking a returned value, each from the laws of the image and of orders. Assumes nothing.
+use Rattle.std.specs.Prelude.{Err, Ok, Result}
 use mathlib.Core.Path.{◌≡◌, refl, sym, ap, ap₂, ◌∙◌}
 use mathlib.Core.Bool.{Bool, true, false, cond, true≢false}
 use mathlib.Core.List.{List, ◌++◌}
@@ -30,12 +31,10 @@ use Rattle.returning.specs.Orders.{put_refusal, take_refusal}
 use Rattle.returning.specs.Asks.{Lent}
 use Rattle.returning.specs.Answers.{put_answer, image_after, upper_after, images_after, take_answer, value_after, put_number, take_number}
 use Rattle.returning.specs.Statements.{Unused, PutsAll, AddressUnseen, TakesPut, SameElsewhere, ReturnsBool, Clean, ComesBack, PutsTaken, UnusedUnseen, RefusalsTold, TwelveExactly, TwentySevenExactly, NeverTwelve, PointerUpper, HiddenUpper, NoSharedImage}
-use Rattle.returning.specs.declared.PutAnswer.{PutAnswer}
-use Rattle.returning.specs.declared.PutAnswer.TheVariants.{Put, Refused as NotPut}
-use Rattle.returning.specs.declared.TakeAnswer.TheVariants.{Taken, Refused as NotTaken}
 use Rattle.returning.proofs.Values.{memory_hidden, accepted-returnable, bool-place, bool-length, bool-seen, pointer-place, pointer-length}
 use Rattle.returning.proofs.Orders.{put-accepted, take-accepted, take-never, put-twenty_seven, put-twelve, put-none, twelve_lent, address-lent, bool-broken, broken-bool, bool-right}
 use Rattle.returning.proofs.Images.{blank-unseen, length-image, length-value, value-image, address-image, image-zero, put-image, image-put, image-value, own-address, value_same, address_same}
+use Rattle.form.specs.declared.Refusal.{Refusal}
 
 -- ---- what stands in the buffers after a call that is accepted
 
@@ -74,7 +73,7 @@ module _ (d img up v : List ℕ) (accepted : take_refusal d img up (length v) �
   unfolding value_after
   value-is = rw (eq-eqb (take_refusal d img up (length v)) 0 accepted)
 
-  answer-is : take_answer d img up (length v) ≡ Taken (returned_address (return_place d) (img ++ up))
+  answer-is : take_answer d img up (length v) ≡ Ok (returned_address (return_place d) (img ++ up))
   unfolding take_answer
   answer-is = rw (eq-eqb (take_refusal d img up (length v)) 0 accepted)
 
@@ -95,8 +94,8 @@ address_unseen d h g v i y e = (ap answer same, image (take upper_at) i, image (
     none : hidden d ≡ false
     none = sym (memory_hidden d) ∙ e
 
-    answer : ℕ → PutAnswer
-    answer n = cond (eqb n 0) Put (NotPut (refusal_for d n))
+    answer : ℕ → Result (Unit {0}) Refusal
+    answer n = cond (eqb n 0) (Ok tt) (Err (refusal_for d n))
 
     same : put_refusal d h v (length i) (length y) ≡ put_refusal d g v (length i) (length y)
     same = rw (none, address-unused (model_in d) h, address-unused (model_in d) g)
@@ -117,7 +116,7 @@ takes_put d h v i y w b a e =
     let ok : take_refusal d img up (length w) ≡ 0 =
     (take-accepted d img up (length w)).1 (record { accepted = l.accepted; value = e ∙ l.value; image = image-long d h v i y a; upper = upper_long d h v i y a }) in (
       answer-is d img up w ok
-          ∙ ap Taken (ap (returned_address (return_place d)) (images_are d h v i y a) ∙ address-image (return_place d) (return_length d) s h v b),
+          ∙ ap Ok (ap (returned_address (return_place d)) (images_are d h v i y a) ∙ address-image (return_place d) (return_length d) s h v b),
       value-is d img up w ok
           ∙ ap₂ (return_value (return_place d)) (e ∙ l.value) (images_are d h v i y a)
           ∙ value-image (return_place d) (return_length d) s h v l.value,
@@ -148,7 +147,7 @@ module _ (d img up i y v : List ℕ) (as_long : length img ≡ length i) (as_hig
   unfolding take_answer value_after
   refused-same t =
       let u : eqb (take_refusal d i y (length v)) 0 ≡ false = rw refusal-same at t in
-      (rw (t, u) (ap (λ (m : ℕ). NotTaken (refusal_for d m)) refusal-same), rw (t, u))
+      (rw (t, u) (ap (λ (m : ℕ). Err (refusal_for d m)) refusal-same), rw (t, u))
 
 pub unused_unseen : UnusedUnseen
 unused_unseen d img up i y v e f same = by (eqb (take_refusal d img up (length v)) 0) refl
@@ -160,26 +159,26 @@ unused_unseen d img up i y v e f same = by (eqb (take_refusal d img up (length v
         let ok = eqb-true (take_refusal d img up (length v)) 0 t in
         let n : length v ≡ return_length d = ((take-accepted d img up (length v)).0 ok).value in
         let other = sym (refusal-same d img up i y v e f) ∙ ok in (
-          answer-is d img up v ok ∙ ap Taken (address_same (return_place d) (return_length d) (img ++ up) (i ++ y) same) ∙ sym (answer-is d i y v other),
+          answer-is d img up v ok ∙ ap Ok (address_same (return_place d) (return_length d) (img ++ up) (i ++ y) same) ∙ sym (answer-is d i y v other),
           value-is d img up v ok ∙ ap (λ (m : ℕ). return_value (return_place d) m (img ++ up)) n ∙ value_same (return_place d) (return_length d) (img ++ up) (i ++ y) same
               ∙ ap (λ (m : ℕ). return_value (return_place d) m (i ++ y)) (sym n) ∙ sym (value-is d i y v other),
         )
 
 -- the number of an answer that is made by whether the number is 0
 module _ (d : List ℕ) (n : ℕ) where
-  put-told : put_number (cond (eqb n 0) Put (NotPut (refusal_for d n))) ≡ n
+  put-told : put_number (cond (eqb n 0) (Ok tt) (Err (refusal_for d n))) ≡ n
   unfolding refusal_for refusal_by refusal_at
   put-told = by (eqb n 0) refl
     where
-      by : (b : Bool) → eqb n 0 ≡ b → put_number (cond b Put (NotPut (refusal_for d n))) ≡ n
+      by : (b : Bool) → eqb n 0 ≡ b → put_number (cond b (Ok tt) (Err (refusal_for d n))) ≡ n
       by true e = sym (eqb-true n 0 e)
       by false e = refl
 
-  take-told : (h : ℕ) → take_number (cond (eqb n 0) (Taken h) (NotTaken (refusal_for d n))) ≡ n
+  take-told : (h : ℕ) → take_number (cond (eqb n 0) (Ok h) (Err (refusal_for d n))) ≡ n
   unfolding refusal_for refusal_by refusal_at
   take-told h = by (eqb n 0) refl
     where
-      by : (b : Bool) → eqb n 0 ≡ b → take_number (cond b (Taken h) (NotTaken (refusal_for d n))) ≡ n
+      by : (b : Bool) → eqb n 0 ≡ b → take_number (cond b (Ok h) (Err (refusal_for d n))) ≡ n
       by true e = sym (eqb-true n 0 e)
       by false e = refl
 

@@ -1,19 +1,16 @@
 -- What putting and taking answer, and what they leave in the lent buffers: document 01, "A refusal returns its number only and writes
 -- nothing". Assumes nothing: these are definitions.
-use Rattle.std.specs.Prelude.{cond, List, ◌++◌, ℕ, eqb, length, take, drop}
+use Rattle.std.specs.Prelude.{cond, List, ◌++◌, ℕ, eqb, length, take, drop, Err, Ok, Result}
 use Rattle.types.specs.Wrong.{refusal_for}
 use Rattle.layout.specs.Arguments.{return_place}
 use Rattle.returning.specs.Moved.{upper_at}
 use Rattle.returning.specs.Image.{return_image, return_value, returned_address}
 use Rattle.returning.specs.Orders.{put_refusal, take_refusal}
-use Rattle.returning.specs.declared.PutAnswer.{PutAnswer}
-use Rattle.returning.specs.declared.PutAnswer.TheVariants.{Put, Refused as NotPut}
-use Rattle.returning.specs.declared.TakeAnswer.{TakeAnswer}
-use Rattle.returning.specs.declared.TakeAnswer.TheVariants.{Taken, Refused as NotTaken}
+use Rattle.form.specs.declared.Refusal.{Refusal}
 
-unfoldable pub put_answer : List ℕ → ℕ → List ℕ → ℕ → ℕ → PutAnswer
+unfoldable pub put_answer : List ℕ → ℕ → List ℕ → ℕ → ℕ → Result (Unit {0}) Refusal
 put_answer d h v image_length upper_length =
-    cond (eqb (put_refusal d h v image_length upper_length) 0) Put (NotPut (refusal_for d (put_refusal d h v image_length upper_length)))
+    cond (eqb (put_refusal d h v image_length upper_length) 0) (Ok tt) (Err (refusal_for d (put_refusal d h v image_length upper_length)))
 
 -- the return image and the upper return image at exit, i and y at entry
 unfoldable pub image_after : List ℕ → ℕ → List ℕ → List ℕ → List ℕ → List ℕ
@@ -27,25 +24,25 @@ abbrev pub images_after : List ℕ → ℕ → List ℕ → List ℕ → List �
 images_after d h v i y = image_after d h v i y ++ upper_after d h v i y
 
 -- the hidden address, 0 where none is carried
-unfoldable pub take_answer : List ℕ → List ℕ → List ℕ → ℕ → TakeAnswer
+unfoldable pub take_answer : List ℕ → List ℕ → List ℕ → ℕ → Result ℕ Refusal
 take_answer d image upper value_length =
-    cond (eqb (take_refusal d image upper value_length) 0) (Taken (returned_address (return_place d) (image ++ upper)))
-    (NotTaken (refusal_for d (take_refusal d image upper value_length)))
+    cond (eqb (take_refusal d image upper value_length) 0) (Ok (returned_address (return_place d) (image ++ upper)))
+    (Err (refusal_for d (take_refusal d image upper value_length)))
 
 -- the value at exit, v at entry
 unfoldable pub value_after : List ℕ → List ℕ → List ℕ → List ℕ → List ℕ
 value_after d image upper v = cond (eqb (take_refusal d image upper (length v)) 0) (return_value (return_place d) (length v) (image ++ upper)) v
 
 -- the paper's number of an answer: 0 where it is accepted
-abbrev pub put_number : PutAnswer → ℕ
-put_number Put = 0
-put_number (NotPut r) = r.number
+abbrev pub put_number : Result (Unit {0}) Refusal → ℕ
+put_number (Ok tt) = 0
+put_number (Err r) = r.number
 
-abbrev pub take_number : TakeAnswer → ℕ
-take_number (Taken h) = 0
-take_number (NotTaken r) = r.number
+abbrev pub take_number : Result ℕ Refusal → ℕ
+take_number (Ok h) = 0
+take_number (Err r) = r.number
 
 -- the hidden address that taking answers, 0 where it is refused
-abbrev pub taken_address : TakeAnswer → ℕ
-taken_address (Taken h) = h
-taken_address (NotTaken r) = 0
+abbrev pub taken_address : Result ℕ Refusal → ℕ
+taken_address (Ok h) = h
+taken_address (Err r) = 0

@@ -1,5 +1,5 @@
 -- What is said of putting and taking a returned value, of any bytes: document 02, requests 2026-02, 2026-06 and 2026-11. Assumes nothing: these are definitions.
-use Rattle.std.specs.Prelude.{◌≡◌, true, false, cond, List, ◌++◌, ◌↔◌, ◌≢◌, ℕ, ◌^◌, ◌≤◌, ◌<◌, length, get_or}
+use Rattle.std.specs.Prelude.{◌≡◌, true, false, cond, List, ◌++◌, ◌↔◌, ◌≢◌, ℕ, ◌^◌, ◌≤◌, ◌<◌, length, get_or, Ok}
 use Rattle.addresses.specs.Addresses.{gather, Absent}
 use Rattle.description.specs.Description.{return_in, model_in, kind_at, a_at, IsBytes}
 use Rattle.description.specs.declared.Model.TheVariants.{Ilp32}
@@ -13,7 +13,6 @@ use Rattle.returning.specs.Returned.{return_length}
 use Rattle.returning.specs.Orders.{put_refusal, take_refusal}
 use Rattle.returning.specs.Answers.{put_answer, image_after, upper_after, images_after, take_answer, value_after, put_number, take_number}
 use Rattle.returning.specs.Asks.{Lent}
-use Rattle.returning.specs.declared.TakeAnswer.TheVariants.{Taken}
 
 -- the byte at k holds none of a value's n bytes, and no part of the hidden address
 pub record Unused (place : ReturnPlace) (n k : ℕ) : Type 0 where
@@ -45,7 +44,7 @@ AddressUnseen = (d : List ℕ) (h g : ℕ) (v i y : List ℕ) → in_memory (ret
 -- "Putting then taking gives the same value, those six bytes apart", and the hidden address where it is carried
 abbrev pub TakesPut : Type 0
 TakesPut = (d : List ℕ) (h : ℕ) (v i y w : List ℕ) → h < 2 ^ 64 → put_refusal d h v (length i) (length y) ≡ 0 → length w ≡ length v
-    → (take_answer d (image_after d h v i y) (upper_after d h v i y) (length w) ≡ Taken (cond (in_memory (return_place d)) h 0))
+    → (take_answer d (image_after d h v i y) (upper_after d h v i y) (length w) ≡ Ok (cond (in_memory (return_place d)) h 0))
     × (value_after d (image_after d h v i y) (upper_after d h v i y) w ≡ trimmed (return_place d) v)
 
 -- and the very same value of every other class

@@ -2,8 +2,8 @@
 ghost use Rattle.std.specs.Prelude.{◌≡◌, length};
 ghost use Rattle.returning.specs.Answers.{put_answer, image_after, upper_after, take_answer, value_after};
 
-use crate::{PutAnswer, TakeAnswer, refusals, return_image};
-use layout::LayoutAnswer;
+use crate::{refusals, return_image};
+use form::Refusal;
 use units::Bytes;
 
 // Puts a returned value into the return images: every byte of them is written, or none. The hidden address is looked at only where
@@ -14,14 +14,14 @@ pub fn put_returned(
     value: &[u8],
     image: &mut [u8],
     upper: &mut [u8],
-) -> PutAnswer
+) -> Result<(), Refusal>
     ensures { (result ≡ put_answer d.now hidden value.now (length image.old) (length upper.old))
         × ((image.new ≡ image_after d.now hidden value.now image.old upper.old)
         × (upper.new ≡ upper_after d.now hidden value.now image.old upper.old)) }
 {
     let answer = layout::layout_of(d);
-    let LayoutAnswer::Laid(layout) = answer else {
-        return PutAnswer::Refused(layout::refusal_in(answer));
+    let Ok(layout) = answer else {
+        return Err(layout::refusal_in(answer));
     };
     let place = layout.returns;
     let right = return_image::length_for(place, layout.returned);
@@ -31,26 +31,26 @@ pub fn put_returned(
         Bytes(image.len()),
         Bytes(upper.len()),
     ) {
-        return PutAnswer::Refused(form::refusal_of(11));
+        return Err(form::refusal_of(11));
     }
     if moving::wrong_address(d, layout.hidden, hidden) {
-        return PutAnswer::Refused(form::refusal_of(27));
+        return Err(form::refusal_of(27));
     }
     if refusals::wrong_bool(d, value) {
-        return PutAnswer::Refused(form::refusal_of(12));
+        return Err(form::refusal_of(12));
     }
     return_image::put_value(place, hidden, value, image, upper);
-    PutAnswer::Put
+    Ok(())
 }
 
 // Takes the returned value out of the return images, and answers the hidden address.
-pub fn take_returned(d: &[u8], image: &[u8], upper: &[u8], value: &mut [u8]) -> TakeAnswer
+pub fn take_returned(d: &[u8], image: &[u8], upper: &[u8], value: &mut [u8]) -> Result<u64, Refusal>
     ensures { (result ≡ take_answer d.now image.now upper.now (length value.old))
         × (value.new ≡ value_after d.now image.now upper.now value.old) }
 {
     let answer = layout::layout_of(d);
-    let LayoutAnswer::Laid(layout) = answer else {
-        return TakeAnswer::Refused(layout::refusal_in(answer));
+    let Ok(layout) = answer else {
+        return Err(layout::refusal_in(answer));
     };
     let place = layout.returns;
     let right = return_image::length_for(place, layout.returned);
@@ -60,8 +60,8 @@ pub fn take_returned(d: &[u8], image: &[u8], upper: &[u8], value: &mut [u8]) -> 
         Bytes(image.len()),
         Bytes(upper.len()),
     ) {
-        return TakeAnswer::Refused(form::refusal_of(11));
+        return Err(form::refusal_of(11));
     }
     return_image::take_value(place, image, upper, value);
-    TakeAnswer::Taken(return_image::returned_address(place, image))
+    Ok(return_image::returned_address(place, image))
 }

@@ -8,18 +8,3 @@ pub use return_image::{length_for, parts_of};
 mod return_image; // a value into the return images and out again
 mod refusals; // 11 and 12
 mod calls; // the calls: put_returned, take_returned
-
-use form::Refusal;
-
-#[derive(Clone, Copy)]
-pub enum PutAnswer {
-    Put,
-    Refused(Refusal),
-}
-
-#[derive(Clone, Copy)]
-pub enum TakeAnswer {
-    // The hidden address, 0 where none is carried.
-    Taken(u64),
-    Refused(Refusal),
-}

@@ -8,7 +8,6 @@ use std::env::{Env, FillError};
 use std::fs::File;
 use std::io::{Error, Read};
 use telling::{print, refuse_usage};
-use tidying::LengthAnswer;
 
 // The system's numbers of the errors: a name that is too long, and bytes that are no text.
 const ENAMETOOLONG: i32 = 36;
@@ -26,11 +25,11 @@ fn tidy(rt: &HostRuntime, d: &[u8]) {
     let mut out = [0u8; 586];
     let answer = tidying::tidy_length(d);
     match answer {
-        LengthAnswer::Length(length) => {
+        Ok(length) => {
             let end = length.0;
             write_tidy(rt, d, &mut out[..end]);
         }
-        LengthAnswer::Refused(refusal) => telling::refused(rt, refusal),
+        Err(refusal) => telling::refused(rt, refusal),
     }
 }
 

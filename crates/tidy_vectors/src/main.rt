@@ -5,7 +5,6 @@
 ghost use Rattle.std.specs.Prelude.{◌≡◌, true, ◌<◌, ◌≤◌, length};
 
 use form::Refusal;
-use tidying::LengthAnswer;
 
 // More than the file has, so that the program ends whatever it reads.
 const RECORDS: usize = 100000;
@@ -71,8 +70,8 @@ fn fill(out: &mut [u8]) {
 // The length of the tidy form, and the form into a buffer that is of that length or not.
 fn answer(rt: &impl Print, d: &[u8], out: &mut [u8]) {
     match tidying::tidy_length(d) {
-        LengthAnswer::Length(length) => print_number(rt, b"length ", length.0 as u64),
-        LengthAnswer::Refused(refusal) => print_refusal(rt, refusal),
+        Ok(length) => print_number(rt, b"length ", length.0 as u64),
+        Err(refusal) => print_refusal(rt, refusal),
     }
     fill(out);
     let refusal = tidying::tidy(d, out);

@@ -1,4 +1,5 @@
 -- Which answer tidying gives, from what the code looks at. Assumes nothing.
+use Rattle.std.specs.Prelude.{Err, Ok}
 use mathlib.Core.Path.{◌≡◌, refl, sym, ap, ◌∙◌}
 use mathlib.Core.Logic.{◌↔◌, ◌≢◌}
 use mathlib.Core.Bool.{Bool, true, false, cond}
@@ -26,8 +27,6 @@ use Rattle.tidying.specs.Tidy.{separate, return_number, tidy_of}
 use Rattle.tidying.specs.Answers.{tidied, too_many, other_length, length_order, tidy_order, length_refusal, tidy_refusal, length_answer, tidy_after, count_answer}
 use Rattle.tidying.specs.Statements.{Tidiable}
 use Rattle.tidying.specs.Asks.{AllNumbered, AskWrite, AskHead}
-use Rattle.tidying.specs.declared.LengthAnswer.TheVariants.{Length, Refused}
-use Rattle.tidying.specs.declared.calls.Counting.TheVariants.{Counted, Refused as NoCount}
 use Rattle.tidying.proofs.All.{all-headed, return_low}
 use Rattle.tidying.proofs.Stores.{write_many, write_low, write_length, number_at}
 
@@ -91,7 +90,7 @@ module _ (d : List ℕ) where
   pub accepted-number : (r : Refusal) → r ≡ refusal_for d (verdict d) → r.number ≡ 0 → verdict d ≡ 0
   accepted-number r e h = sym (number_in d (verdict d)) ∙ ap (λ (x : Refusal). x.number) (sym e) ∙ h
 
-  count-refused : (n : ℕ) → length_refusal d ≡ n → n ≢ 0 → (r : Refusal) → r ≡ refusal_for d n → NoCount r ≡ count_answer d
+  count-refused : (n : ℕ) → length_refusal d ≡ n → n ≢ 0 → (r : Refusal) → r ≡ refusal_for d n → Err r ≡ count_answer d
   unfolding count_answer
   count-refused n e h r q = rw (e, ne_eqb n 0 h, q)
 
@@ -100,7 +99,7 @@ module _ (d : List ℕ) where
     refused : verdict d ≢ 0
     refused q = h (ap (λ (x : Refusal). x.number) e ∙ number_in d (verdict d) ∙ q)
 
-    pub count-early : NoCount r ≡ count_answer d
+    pub count-early : Err r ≡ count_answer d
     count-early = count-refused (verdict d) (length-verdict refused) refused r e
 
     pub early_refuses : length_refusal d ≢ 0
@@ -108,13 +107,13 @@ module _ (d : List ℕ) where
 
   -- 29
   module _ (v : verdict d ≡ 0) (m : ℕ) (em : m ≡ separate (table_of (call_of d))) where
-    pub count-many : 255 < m → (r : Refusal) → r ≡ refusal_of 29 → NoCount r ≡ count_answer d
+    pub count-many : 255 < m → (r : Refusal) → r ≡ refusal_of 29 → Err r ≡ count_answer d
     count-many l r e = count-refused 29 (twenty_nine v (omega (arith, l, em))) (λ z. omega (arith, z)) r (e ∙ sym (no_type d 29 refl refl))
 
     pub many-refuses : 255 < m → length_refusal d ≢ 0
     many-refuses l q = omega (arith, l, em, length-few q)
 
-    pub count-counted : m ≤ 255 → (n : ℕ) → n ≡ length (table_of (call_of d)) → Counted n m ≡ count_answer d
+    pub count-counted : m ≤ 255 → (n : ℕ) → n ≡ length (table_of (call_of d)) → Ok (n, m) ≡ count_answer d
     unfolding count_answer
     count-counted l n en = rw (no_twenty_nine v (omega (arith, l, em)), en, em)
 
@@ -133,32 +132,32 @@ counted-length d new old w n m r en em er = omega (arith, er, en, em, write_leng
 
 module _ (d : List ℕ) where
   answered : (b : Bool) → eqb (length_refusal d) 0 ≡ b
-      → count_answer d ≡ cond b (Counted (length (table_of (call_of d))) (separate (table_of (call_of d)))) (NoCount (refusal_for d (length_refusal d)))
+      → count_answer d ≡ cond b (Ok (length (table_of (call_of d)), separate (table_of (call_of d)))) (Err (refusal_for d (length_refusal d)))
   unfolding count_answer
   answered b e = rw e
 
   -- a count that is there
-  pub counted : (n m : ℕ) → count_answer d ≡ Counted n m → (length_refusal d ≡ 0) × ((n ≡ length (table_of (call_of d))) × (m ≡ separate (table_of (call_of d))))
+  pub counted : (n m : ℕ) → count_answer d ≡ Ok (n, m) → (length_refusal d ≡ 0) × ((n ≡ length (table_of (call_of d))) × (m ≡ separate (table_of (call_of d))))
   counted n m e = by (eqb (length_refusal d) 0) refl
     where
       by : (b : Bool) → eqb (length_refusal d) 0 ≡ b → (length_refusal d ≡ 0) × ((n ≡ length (table_of (call_of d))) × (m ≡ separate (table_of (call_of d))))
-      by true q = let z : Counted n m ≡ Counted (length (table_of (call_of d))) (separate (table_of (call_of d))) = sym e ∙ answered true q in (eqb-true (length_refusal d) 0 q, (cc, cc))
-      by false q = absurd (let z : Counted n m ≡ NoCount (refusal_for d (length_refusal d)) = sym e ∙ answered false q in let f : ◌≡◌ {A = ℕ} 0 1 = cc in omega arith)
+      by true q = let z : Ok (n, m) ≡ Ok (length (table_of (call_of d)), separate (table_of (call_of d))) = sym e ∙ answered true q in (eqb-true (length_refusal d) 0 q, (cc, cc))
+      by false q = absurd (let z : Ok (n, m) ≡ Err (refusal_for d (length_refusal d)) = sym e ∙ answered false q in let f : ◌≡◌ {A = ℕ} 0 1 = cc in omega arith)
 
   -- one that is not
-  not_counted : (r : Refusal) → count_answer d ≡ NoCount r → (length_refusal d ≢ 0) × (r ≡ refusal_for d (length_refusal d))
+  not_counted : (r : Refusal) → count_answer d ≡ Err r → (length_refusal d ≢ 0) × (r ≡ refusal_for d (length_refusal d))
   not_counted r e = by (eqb (length_refusal d) 0) refl
     where
       by : (b : Bool) → eqb (length_refusal d) 0 ≡ b → (length_refusal d ≢ 0) × (r ≡ refusal_for d (length_refusal d))
-      by true q = absurd (let z : NoCount r ≡ Counted (length (table_of (call_of d))) (separate (table_of (call_of d))) = sym e ∙ answered true q in let f : ◌≡◌ {A = ℕ} 0 1 = cc in omega arith)
-      by false q = let z : NoCount r ≡ NoCount (refusal_for d (length_refusal d)) = sym e ∙ answered false q in (eqb-false (length_refusal d) 0 q, cc)
+      by true q = absurd (let z : Err r ≡ Ok (length (table_of (call_of d)), separate (table_of (call_of d))) = sym e ∙ answered true q in let f : ◌≡◌ {A = ℕ} 0 1 = cc in omega arith)
+      by false q = let z : Err r ≡ Err (refusal_for d (length_refusal d)) = sym e ∙ answered false q in (eqb-false (length_refusal d) 0 q, cc)
 
   -- the length
-  pub length-refused : (f r : Refusal) → count_answer d ≡ NoCount f → r ≡ f → Refused r ≡ length_answer d
+  pub length-refused : (f r : Refusal) → count_answer d ≡ Err f → r ≡ f → Err r ≡ length_answer d
   unfolding length_answer
   length-refused f r e q = let h = not_counted f e in rw (ne_eqb (length_refusal d) 0 h.0, q, h.1)
 
-  pub length-known : length_refusal d ≡ 0 → (n : Bytes) → n.0 ≡ length (tidied d) → Length n ≡ length_answer d
+  pub length-known : length_refusal d ≡ 0 → (n : Bytes) → n.0 ≡ length (tidied d) → Ok n ≡ length_answer d
   unfolding length_answer
   length-known z n q = rw (z, ← q)
 
@@ -173,7 +172,7 @@ module _ (d out : List ℕ) where
   behind v b e = first-behind (length_order d) (rule 11 (other_length d (length out)) ∷ []) (length-positive d) v ∙ rw e
 
   -- 1 to 10, and 29
-  pub tidy-early : (f r : Refusal) → count_answer d ≡ NoCount f → r ≡ f → (r ≡ refusal_for d (tidy_refusal d (length out))) × (out ≡ tidy_after d out)
+  pub tidy-early : (f r : Refusal) → count_answer d ≡ Err f → r ≡ f → (r ≡ refusal_for d (tidy_refusal d (length out))) × (out ≡ tidy_after d out)
   unfolding tidy_refusal length_refusal
   tidy-early f r e q =
       let h = not_counted d f e in

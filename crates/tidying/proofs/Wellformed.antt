@@ -1,4 +1,5 @@
 -- What the table of a tidy form is sure of, read from its bytes. Assumes nothing.
+use Rattle.std.specs.Prelude.{Err, Ok}
 use mathlib.Core.Path.{◌≡◌, refl, sym, ap, ◌∙◌}
 use mathlib.Core.Bool.{Bool, true, false, cond}
 use mathlib.Core.List.{List, [], ◌∷◌}
@@ -22,7 +23,6 @@ use Rattle.tidying.specs.Ordered.{at, Ordered}
 use Rattle.tidying.specs.Tidy.{members_of, many_of, separate, kind_of, second_of, count_of, tidy_by, tidy_of}
 use Rattle.tidying.specs.Asks.{run_length}
 use Rattle.tidying.specs.Answers.{tidied, length_refusal, length_answer}
-use Rattle.tidying.specs.declared.LengthAnswer.TheVariants.{Length, Refused}
 use Rattle.tidying.specs.Statements.{runs_before, TidyTable, Tidiable}
 use Rattle.tidying.proofs.Reached.{table-right}
 use Rattle.tidying.proofs.Bytes.{start_of, types-tidy, members-tidy, kind-tidy, second-tidy, count-tidy}
@@ -91,17 +91,17 @@ tidied-short d t =
     let right = accepted-uses d t.accepted in
     omega (arith, length-tidy (table_of (call_of d)) (call_of d), types-low d right, t.room, many-call d, accepted-counts d (accepted-form d (accepted-types d right)))
 
-answered : (d : List ℕ) (b : Bool) → eqb (length_refusal d) 0 ≡ b → length_answer d ≡ cond b (Length (record { 0 = length (tidied d) })) (Refused (refusal_for d (length_refusal d)))
+answered : (d : List ℕ) (b : Bool) → eqb (length_refusal d) 0 ≡ b → length_answer d ≡ cond b (Ok (record { 0 = length (tidied d) })) (Err (refusal_for d (length_refusal d)))
 unfolding length_answer
 answered d b q = rw q
 
-pub answer-short : (d : List ℕ) (n : Bytes) → length_answer d ≡ Length n → n.0 ≤ 586
+pub answer-short : (d : List ℕ) (n : Bytes) → length_answer d ≡ Ok n → n.0 ≤ 586
 answer-short d n e = by (eqb (length_refusal d) 0) refl
   where
     by : (b : Bool) → eqb (length_refusal d) 0 ≡ b → n.0 ≤ 586
     by true q =
         let z = eqb-true (length_refusal d) 0 q in
-        let s : Length n ≡ Length (record { 0 = length (tidied d) }) = sym e ∙ answered d true q in
+        let s : Ok n ≡ Ok (record { 0 = length (tidied d) }) = sym e ∙ answered d true q in
         let f : n.0 ≡ length (tidied d) = cc in
         omega (arith, f, tidied-short d (record { accepted = length-accepted d z; room = length-few d z }))
-    by false q = absurd (let s : Length n ≡ Refused (refusal_for d (length_refusal d)) = sym e ∙ answered d false q in let f : ◌≡◌ {A = ℕ} 0 1 = cc in omega arith)
+    by false q = absurd (let s : Ok n ≡ Err (refusal_for d (length_refusal d)) = sym e ∙ answered d false q in let f : ◌≡◌ {A = ℕ} 0 1 = cc in omega arith)

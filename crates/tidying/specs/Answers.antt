@@ -1,18 +1,15 @@
 -- What tidying answers: request 2026-03, "Refusals: after 10, 29 where the separate runs need over 255 members, then 11 where the lent out
 -- buffer is not of the tidy length". Of any bytes. Assumes nothing: these are definitions.
-use Rattle.std.specs.Prelude.{Bool, cond, not, List, [], ◌∷◌, ◌++◌, ℕ, ltb, eqb, length}
+use Rattle.std.specs.Prelude.{Bool, cond, not, List, [], ◌∷◌, ◌++◌, ℕ, ltb, eqb, length, Err, Ok, Result}
 use Rattle.form.specs.Order.{Rule, rule, first}
 use Rattle.types.specs.Wrong.{refusal_for}
 use Rattle.layout.specs.Verdict.{check_order}
 use Rattle.tidying.specs.Call.{call_of}
 use Rattle.tidying.specs.Numbering.{table_of}
 use Rattle.tidying.specs.Tidy.{separate, tidy_of}
-use Rattle.tidying.specs.declared.LengthAnswer.{LengthAnswer}
-use Rattle.tidying.specs.declared.LengthAnswer.TheVariants.{Length, Refused}
-use Rattle.tidying.specs.declared.calls.Counting.{Counting}
-use Rattle.tidying.specs.declared.calls.Counting.TheVariants.{Counted, Refused as NoCount}
 use Rattle.form.specs.declared.Refusal.{Refusal}
 use Rattle.form.specs.Reading.{refusal_of}
+use Rattle.units.specs.declared.Bytes.{Bytes}
 
 -- the tidy form of a description
 abbrev pub tidied : List ℕ → List ℕ
@@ -40,19 +37,19 @@ tidy_order d room = length_order d ++ rule 11 (other_length d room) ∷ []
 unfoldable pub tidy_refusal : List ℕ → ℕ → ℕ
 tidy_refusal d room = first (tidy_order d room)
 
-unfoldable pub length_answer : List ℕ → LengthAnswer
-length_answer d = cond (eqb (length_refusal d) 0) (Length (record { 0 = length (tidied d) })) (Refused (refusal_for d (length_refusal d)))
+unfoldable pub length_answer : List ℕ → Result Bytes Refusal
+length_answer d = cond (eqb (length_refusal d) 0) (Ok (record { 0 = length (tidied d) })) (Err (refusal_for d (length_refusal d)))
 
 -- the lent buffer at exit: a refusal leaves it as it was
 unfoldable pub tidy_after : List ℕ → List ℕ → List ℕ
 tidy_after d out = cond (eqb (tidy_refusal d (length out)) 0) (tidied d) out
 
 -- how many types the tidy form has, and how many members
-unfoldable pub count_answer : List ℕ → Counting
+unfoldable pub count_answer : List ℕ → Result (ℕ × ℕ) Refusal
 count_answer d =
-    cond (eqb (length_refusal d) 0) (Counted (length (table_of (call_of d))) (separate (table_of (call_of d)))) (NoCount (refusal_for d (length_refusal d)))
+    cond (eqb (length_refusal d) 0) (Ok (length (table_of (call_of d)), separate (table_of (call_of d)))) (Err (refusal_for d (length_refusal d)))
 
 -- the refusal that this carries
-abbrev pub refusal_in : Counting → Refusal
-refusal_in (Counted n m) = refusal_of 0
-refusal_in (NoCount r) = r
+abbrev pub refusal_in : Result (ℕ × ℕ) Refusal → Refusal
+refusal_in (Ok (n, m)) = refusal_of 0
+refusal_in (Err r) = r

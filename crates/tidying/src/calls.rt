@@ -8,47 +8,41 @@ ghost use Rattle.tidying.specs.Tidy.{separate, return_number, tidy_of};
 ghost use Rattle.tidying.specs.Answers.{length_refusal, tidy_refusal, length_answer, count_answer, refusal_in, tidy_after};
 ghost use Rattle.tidying.specs.Asks.{Blank, AllNumbered, AskWrite};
 
-use crate::{LengthAnswer, marking, numbering, writing};
+use crate::{marking, numbering, writing};
 use form::Refusal;
 use units::Bytes;
 
-// How many types and how many members the tidy form has.
-#[derive(Clone, Copy)]
-pub enum Counting {
-    Counted(usize, usize),
-    Refused(Refusal),
-}
 
 // The refusal that a count carries.
-fn refusal_in(count: Counting) -> Refusal
+fn refusal_in(count: Result<(usize, usize), Refusal>) -> Refusal
     ensures { result ≡ refusal_in count }
 {
     match count {
-        Counting::Counted(_, _) => form::refusal_of(0),
-        Counting::Refused(refusal) => refusal,
+        Ok((_, _)) => form::refusal_of(0),
+        Err(refusal) => refusal,
     }
 }
 
 // ---- numbered and counted
 
 // Numbers the types of any bytes that can be tidied: 1 to 10, then 29.
-fn count_with(d: &[u8], new: &mut [u8; 64], old: &mut [u8; 64]) -> Counting
+fn count_with(d: &[u8], new: &mut [u8; 64], old: &mut [u8; 64]) -> Result<(usize, usize), Refusal>
     requires { Blank new.old }
     ensures { (result ≡ count_answer d.now)
         × (length_refusal d.now ≡ 0 → AskWrite d.now new.new old.new (length (table_of (call_of d.now)))) }
 {
     let refusal = layout::check(d);
     if refusal.number != 0 {
-        return Counting::Refused(refusal);
+        return Err(refusal);
     }
     let mut marks = [0u64; 64];
     marking::mark_all(d, &mut marks);
     let types = numbering::reach_all(d, new, old, &marks);
     let members = writing::separate_members(d, old, types);
     if 255 < members {
-        return Counting::Refused(form::refusal_of(29));
+        return Err(form::refusal_of(29));
     }
-    Counting::Counted(types, members)
+    Ok((types, members))
 }
 
 // The length of a tidy form of so many types and members.
@@ -88,16 +82,16 @@ fn write(d: &[u8], new: &[u8; 64], old: &[u8; 64], n: usize, members: usize, out
 // ---- any bytes
 
 // How many bytes the tidy form of a description has, or which of 1 to 10 and 29 refuses it.
-pub fn tidy_length(d: &[u8]) -> LengthAnswer
+pub fn tidy_length(d: &[u8]) -> Result<Bytes, Refusal>
     ensures { result ≡ length_answer d.now }
 {
     let mut new = [255u8; 64];
     let mut old = [0u8; 64];
     let count = count_with(d, &mut new, &mut old);
-    let Counting::Counted(types, members) = count else {
-        return LengthAnswer::Refused(refusal_in(count));
+    let Ok((types, members)) = count else {
+        return Err(refusal_in(count));
     };
-    LengthAnswer::Length(length_of(d, types, members))
+    Ok(length_of(d, types, members))
 }
 
 // The tidy form of a description, written to a buffer of exactly its length; a refusal leaves the buffer as it is.
@@ -108,7 +102,7 @@ pub fn tidy(d: &[u8], out: &mut [u8]) -> Refusal
     let mut new = [255u8; 64];
     let mut old = [0u8; 64];
     let count = count_with(d, &mut new, &mut old);
-    let Counting::Counted(types, members) = count else {
+    let Ok((types, members)) = count else {
         return refusal_in(count);
     };
     let length = length_of(d, types, members);

@@ -7,13 +7,3 @@ mod marking; // a mark for each type, equal for equal ones
 mod numbering; // the numbers of the types, as each is first completed
 mod writing; // the bytes of the tidy form, one after the other
 mod calls; // the calls: tidy_length, tidy
-
-use form::Refusal;
-use units::Bytes;
-
-// How many bytes the tidy form has.
-#[derive(Clone, Copy)]
-pub enum LengthAnswer {
-    Length(Bytes),
-    Refused(Refusal),
-}

@@ -1,4 +1,5 @@
 -- What makes a contract tight. Assumes nothing.
+use Rattle.std.specs.Prelude.{Err, Ok, Result}
 use mathlib.Core.Path.{◌≡◌, refl, sym, ◌∙◌, ap}
 use mathlib.Core.Logic.{∥∥₁_elim}
 use mathlib.Core.List.{List, [], ◌∷◌, ◌++◌}
@@ -15,10 +16,10 @@ use Rattle.places.proofs.Records.{asked-same}
 use Rattle.station.specs.Paper.{Paper}
 use Rattle.walk.specs.declared.Fetch.{Fetch}
 use Rattle.walk.specs.declared.Fetch.TheVariants.{One, Two, Stack}
-use Rattle.walk.specs.declared.Standing.{Standing}
-use Rattle.walk.specs.declared.Standing.TheVariants.{Before, Refused}
 use Rattle.walk.specs.Offsets.{Source, from_registers, from_stack, source_of}
 use Rattle.walk.specs.Asks.{IsStanding}
+use Rattle.form.specs.declared.Refusal.{Refusal}
+use Rattle.places.specs.declared.Shape.{Shape}
 
 -- the values of a Rattle type are coded by trees of numbers, so that two of them are equal in one way only: those of a result, and lists of bytes
 abbrev pub result : (T : Ended) (c : Call T) → Coded (Res T.signature c.lifetimes)
@@ -56,11 +57,11 @@ fetch_source (Stack o) = refl
 pub source-same : (r q : Fetch) → source_of r ≡ source_of q → r ≡ q
 source-same r q e = sym (fetch_source r) ∙ ap fetch_of e ∙ fetch_source q
 
-pub standing-same : (P : Paper) (n : ℕ) (d : List ℕ) (p : ℕ) (r q : Standing) → IsStanding P n d p r → IsStanding P n d p q → r ≡ q
-standing-same P n d p (Before s) (Before t) e f = ap Before (asked-same s t (e.1 ∙ sym f.1))
-standing-same P n d p (Before s) (Refused t) e f = absurd (f.0 e.0)
-standing-same P n d p (Refused s) (Before t) e f = absurd (e.0 f.0)
-standing-same P n d p (Refused s) (Refused t) e f = ap Refused (e.1 ∙ sym f.1)
+pub standing-same : (P : Paper) (n : ℕ) (d : List ℕ) (p : ℕ) (r q : Result Shape Refusal) → IsStanding P n d p r → IsStanding P n d p q → r ≡ q
+standing-same P n d p (Ok s) (Ok t) e f = ap Ok (asked-same s t (e.1 ∙ sym f.1))
+standing-same P n d p (Ok s) (Err t) e f = absurd (f.0 e.0)
+standing-same P n d p (Err s) (Ok t) e f = absurd (e.0 f.0)
+standing-same P n d p (Err s) (Err t) e f = ap Err (e.1 ∙ sym f.1)
 
 -- ---- two slices of which a contract says what they are together: what is lent keeps its length, so it says what each is
 

@@ -1,4 +1,5 @@
 -- Whether a walk goes on: which number, exactly; and what is known where it does. Assumes nothing.
+use Rattle.std.specs.Prelude.{Err, Ok, Result}
 use mathlib.Core.Path.{◌≡◌, refl, sym, ap, ◌∙◌}
 use mathlib.Core.Logic.{◌↔◌, ◌≢◌}
 use mathlib.Core.Bool.{Bool, true, false, cond, not, ◌||◌}
@@ -25,8 +26,6 @@ use Rattle.places.specs.Recorded.{asked}
 use Rattle.places.proofs.Fits.{after-bounds}
 use Rattle.types.specs.Decode.{ty_at}
 use Rattle.layout.specs.declared.Layout.{Layout}
-use Rattle.layout.specs.declared.LayoutAnswer.{LayoutAnswer}
-use Rattle.layout.specs.declared.LayoutAnswer.TheVariants.{Laid, Refused as Not}
 use Rattle.layout.specs.Arguments.{is_named, shape_at as layout_shape, shapes_from, hidden, used_at as layout_used}
 use Rattle.layout.specs.Verdict.{verdict}
 use Rattle.layout.specs.Layout.{layout_of, layout_answer, refusal_in}
@@ -42,23 +41,23 @@ use Rattle.station.proofs.Kcb.{kcb-verdict, kcb-refusal, kcb-arguments, kcb-area
 use Rattle.walk.specs.declared.Walk.{Walk}
 use Rattle.walk.specs.Offsets.{walk_at}
 use Rattle.walk.specs.Orders.{Ask, asking, with_offsets, standing, wrong_registers, other_number, astray, at_end, other_type, wrong_stack, walk_order, step_order, show_order, step_refusal, show_refusal, rest_refusal}
-use Rattle.walk.specs.declared.Standing.{Standing}
 use Rattle.walk.specs.Asks.{IsStanding}
 use Rattle.walk.proofs.Opens.{standing-is}
 use Rattle.form.proofs.Order.{first-behind, first-before, positive-append, accepts-exactly, refuses-exactly}
+use Rattle.places.specs.declared.Shape.{Shape}
 
 -- ---- the layout's answer
 
-pub laid-right : (d : List ℕ) (r : LayoutAnswer) (l : Layout) → r ≡ layout_answer d → r ≡ Laid l → (verdict_of kcb d ≡ 0) × (l ≡ layout_of d)
+pub laid-right : (d : List ℕ) (r : Result Layout Refusal) (l : Layout) → r ≡ layout_answer d → r ≡ Ok l → (verdict_of kcb d ≡ 0) × (l ≡ layout_of d)
 laid-right d r l e p = let z = laid-accepted d l (sym e ∙ p) in (kcb-verdict d ∙ z.0, z.1)
 
-pub laid-uses : (d : List ℕ) (r : LayoutAnswer) (l : Layout) → r ≡ layout_answer d → r ≡ Laid l → uses_refusal d ≡ 0
+pub laid-uses : (d : List ℕ) (r : Result Layout Refusal) (l : Layout) → r ≡ layout_answer d → r ≡ Ok l → uses_refusal d ≡ 0
 laid-uses d r l e p = accepted-uses d (laid-accepted d l (sym e ∙ p)).0
 
-pub refused-right : (d : List ℕ) (r : LayoutAnswer) (q v : Refusal) → r ≡ layout_answer d → r ≡ Not q → v ≡ refusal_in r
+pub refused-right : (d : List ℕ) (r : Result Layout Refusal) (q v : Refusal) → r ≡ layout_answer d → r ≡ Err q → v ≡ refusal_in r
     → (v ≡ refusal_under kcb d (verdict_of kcb d)) × (verdict_of kcb d ≢ 0)
 refused-right d r q v e p w =
-    let z : layout_answer d ≡ Not q = sym e ∙ p in
+    let z : layout_answer d ≡ Err q = sym e ∙ p in
     (w ∙ ap refusal_in p ∙ refused-verdict d q z ∙ sym (kcb-refusal d (verdict d)) ∙ ap (refusal_under kcb d) (sym (kcb-verdict d)), λ v. refused-nonzero d q z (sym (kcb-verdict d) ∙ v))
 
 pub headed : (d : List ℕ) → uses_refusal d ≡ 0 → 11 ≤ length d
@@ -265,7 +264,7 @@ unfolding rest_refusal other_type wrong_stack
 rest-blind P s seat w regs stack ty = refl
 
 -- the rest of the checks, made in the seat at the station's length
-pub stands_there : (P : Paper) (s : Station) (seat : List ℕ) (w : Walk) (regs stack : List ℕ) (ty : ℕ) (r : Standing)
+pub stands_there : (P : Paper) (s : Station) (seat : List ℕ) (w : Walk) (regs stack : List ℕ) (ty : ℕ) (r : Result Shape Refusal)
     → wrong_seat s seat ≡ false → length regs ≡ P.registers → s.attached ≡ true
     → IsStanding P (rest_refusal P s (take s.length.0 seat) w (asking [] stack ty [])) (take s.length.0 seat) w.position r
     → IsStanding P (show_refusal P s seat w (asking regs stack ty [])) (described s seat) w.position r

@@ -1,4 +1,5 @@
 -- Open: which number, exactly, and the record. Assumes nothing.
+use Rattle.std.specs.Prelude.{Err, Ok, Result}
 use mathlib.Core.Path.{◌≡◌, sym, ap, ◌∙◌}
 use mathlib.Core.Logic.{◌↔◌, ◌≢◌}
 use mathlib.Core.Bool.{true, false, cond, not}
@@ -23,8 +24,6 @@ use Rattle.station.specs.Attachment.{wrong_seat, described}
 use Rattle.station.proofs.Attachments.{under-high}
 use Rattle.station.proofs.Kcb.{kcb-used}
 use Rattle.walk.specs.declared.Walk.{Walk}
-use Rattle.walk.specs.declared.OpenAnswer.{OpenAnswer}
-use Rattle.walk.specs.declared.OpenAnswer.TheVariants.{Opened, Refused}
 use Rattle.walk.specs.Offsets.{walk_at}
 use Rattle.walk.specs.Orders.{with_offsets, standing, variadic_order, open_order, open_refusal}
 use Rattle.walk.specs.Steps.{opened_if, open_walk, open_answer}
@@ -34,17 +33,17 @@ use Rattle.form.proofs.Order.{first-behind, first-before, positive-append, accep
 
 module _ (P : Paper) (d : List ℕ) where
   -- a refusal that is passed on
-  pub opened-not : (n m : ℕ) (r : Refusal) (w : Walk) → r ≡ refusal_under P d m → 0 < m → n ≡ m → Refused r ≡ opened_if P d n w
+  pub opened-not : (n m : ℕ) (r : Refusal) (w : Walk) → r ≡ refusal_under P d m → 0 < m → n ≡ m → Err r ≡ opened_if P d n w
   unfolding opened_if
-  opened-not n m r w e l p = rw (p, ne_eqb m 0 (λ q. omega arith)) (ap Refused e)
+  opened-not n m r w e l p = rw (p, ne_eqb m 0 (λ q. omega arith)) (ap Err e)
 
   -- one of the walk's own
-  pub opened-refused : (n m : ℕ) (r : Refusal) (w : Walk) → r ≡ refusal_of m → 7 < m → n ≡ m → Refused r ≡ opened_if P d n w
+  pub opened-refused : (n m : ℕ) (r : Refusal) (w : Walk) → r ≡ refusal_of m → 7 < m → n ≡ m → Err r ≡ opened_if P d n w
   opened-refused n m r w e l p = opened-not n m r w (e ∙ sym (under-high P d m l)) (omega arith) p
 
-  pub opened-done : (n : ℕ) (v w : Walk) → n ≡ 0 → v ≡ w → Opened v ≡ opened_if P d n w
+  pub opened-done : (n : ℕ) (v w : Walk) → n ≡ 0 → v ≡ w → Ok v ≡ opened_if P d n w
   unfolding opened_if
-  opened-done n v w p e = rw (eq-eqb n 0 p) (ap Opened e)
+  opened-done n v w p e = rw (eq-eqb n 0 p) (ap Ok e)
 
 module _ (P : Paper) (d : List ℕ) where
   pub variadic-early : verdict_of P d ≢ 0 → first (variadic_order P d) ≡ verdict_of P d
@@ -102,15 +101,15 @@ module _ (P : Paper) (s : Station) (seat : List ℕ) where
   unfolding open_refusal
   open_refuses n h = refuses-exactly (open_order P s seat) n h
 
-  pub answer-wrong : (r : Refusal) → r ≡ refusal_of 11 → wrong_seat s seat ≡ true → Refused r ≡ open_answer P s seat
+  pub answer-wrong : (r : Refusal) → r ≡ refusal_of 11 → wrong_seat s seat ≡ true → Err r ≡ open_answer P s seat
   unfolding open_answer
   answer-wrong r q e = opened-refused P _ _ 11 r _ q (omega arith) (open_wrong e)
 
-  pub answer-idle : (r : Refusal) → r ≡ refusal_of 13 → wrong_seat s seat ≡ false → s.attached ≡ false → Refused r ≡ open_answer P s seat
+  pub answer-idle : (r : Refusal) → r ≡ refusal_of 13 → wrong_seat s seat ≡ false → s.attached ≡ false → Err r ≡ open_answer P s seat
   unfolding open_answer
   answer-idle r q e a = opened-refused P _ _ 13 r _ q (omega arith) (open_idle e a)
 
-  pub answer-rest : (r : OpenAnswer) → wrong_seat s seat ≡ false → s.attached ≡ true
+  pub answer-rest : (r : Result Walk Refusal) → wrong_seat s seat ≡ false → s.attached ≡ true
       → r ≡ opened_if P (take s.length.0 seat) (first (variadic_order P (take s.length.0 seat))) (standing P (take s.length.0 seat) s.number (P.named (take s.length.0 seat)))
       → r ≡ open_answer P s seat
   unfolding open_answer open_walk described

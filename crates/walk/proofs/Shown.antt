@@ -1,4 +1,5 @@
 -- Show: which part, that it lies within its image, and that it holds the bytes that a step would copy. Assumes nothing.
+use Rattle.std.specs.Prelude.{Err, None, Ok, Option, Result, Some}
 use mathlib.Core.Path.{◌≡◌, refl, sym, ap, ◌∙◌}
 use mathlib.Core.Logic.{◌≢◌}
 use mathlib.Core.Bool.{Bool, true, false, cond, false≢true, true≢false}
@@ -29,8 +30,6 @@ use Rattle.station.specs.Attachment.{described}
 use Rattle.station.proofs.Attachments.{under_none}
 use Rattle.walk.specs.declared.Walk.{Walk}
 use Rattle.walk.specs.declared.Fetch.{Fetch}
-use Rattle.walk.specs.declared.Standing.{Standing}
-use Rattle.walk.specs.declared.Standing.TheVariants.{Before, Refused as Not}
 use Rattle.walk.specs.Offsets.{Source, read_at, bytes_from, source_of, source_in}
 use Rattle.walk.specs.Orders.{Ask, offsets_of, show_refusal}
 use Rattle.walk.specs.Steps.{bytes_at}
@@ -38,9 +37,8 @@ use Rattle.walk.specs.Asks.{InBounds, IsStanding, refusal_in}
 use Rattle.walk.proofs.Unnamed.{narrow-seated}
 use Rattle.walk.proofs.Passes.{Ready, ready, kcb-reads, kcb-room}
 use Rattle.walk.specs.declared.showing.Part.{Part}
-use Rattle.walk.specs.declared.showing.ShownAnswer.{ShownAnswer}
-use Rattle.walk.specs.declared.showing.ShownAnswer.TheVariants.{Registers, Apart, Refused}
 use Rattle.walk.specs.Show.{one_piece, head_of, whole, part_in, shown_bytes, Lies, shown_in, shown_answer, show_part}
+use Rattle.walk.specs.declared.showing.Shown.{Shown}
 
 -- ---- one part of one image
 
@@ -90,7 +88,7 @@ unfolding place
 part_lies u o stack h seat m = by (fits u o.kinds) refl
   where
     regs : (b : Bool) → fits u o.kinds ≡ true → one_piece o.kinds ≡ b
-        → Lies (cond b (Registers (record { offset = record { 0 = head_of (slots (registers_for u.general.0 u.vector.0 o.kinds)) }; length = record { 0 = o.size } })) Apart) 176 stack
+        → Lies (cond b (Ok (Some (Registers (record { offset = record { 0 = head_of (slots (registers_for u.general.0 u.vector.0 o.kinds)) }; length = record { 0 = o.size } })))) (Ok None)) 176 stack
     regs false e p = tt
     regs true e p = (one-run o.kinds u.general.0 u.vector.0 o.size 176 h.led p (h.room (fits-true u o.kinds e).some).0 (slots-inside 176 u o h seat e)).1
 
@@ -104,7 +102,7 @@ unfolding place
 part_bytes base slot u o a h seat l m = by (fits u o.kinds) refl
   where
     regs : (b : Bool) → fits u o.kinds ≡ true → one_piece o.kinds ≡ b
-        → shown_bytes (cond b (Registers (record { offset = record { 0 = head_of (slots (registers_for u.general.0 u.vector.0 o.kinds)) }; length = record { 0 = o.size } })) Apart) a.registers a.stack
+        → shown_bytes (cond b (Ok (Some (Registers (record { offset = record { 0 = head_of (slots (registers_for u.general.0 u.vector.0 o.kinds)) }; length = record { 0 = o.size } })))) (Ok None)) a.registers a.stack
         ≡ cond b (gather (a.registers ++ a.stack) (spread (slots (registers_for u.general.0 u.vector.0 o.kinds)) o.size)) []
     regs false e p = refl
     regs true e p =
@@ -144,19 +142,19 @@ shows_none P s seat w a h = rw (ne_eqb (show_refusal P s seat w a) 0 h)
 
 -- ---- as code has it
 
-pub number_is : (P : Paper) (n : ℕ) (d : List ℕ) (p : ℕ) (t : Standing) (r : Refusal) → IsStanding P n d p t → r ≡ refusal_in t → r ≡ refusal_under P d n
-number_is P n d p (Before c) r h e = e ∙ sym (under_none P d 0 refl) ∙ ap (refusal_under P d) (sym h.0)
-number_is P n d p (Not q) r h e = e ∙ h.1
+pub number_is : (P : Paper) (n : ℕ) (d : List ℕ) (p : ℕ) (t : Result Shape Refusal) (r : Refusal) → IsStanding P n d p t → r ≡ refusal_in t → r ≡ refusal_under P d n
+number_is P n d p (Ok c) r h e = e ∙ sym (under_none P d 0 refl) ∙ ap (refusal_under P d) (sym h.0)
+number_is P n d p (Err q) r h e = e ∙ h.1
 
-module _ (s : Station) (seat : List ℕ) (w : Walk) (a : Ask) (t : Standing) (h : IsStanding kcb (show_refusal kcb s seat w a) (described s seat) w.position t) where
-  pub shown-refused : (q r : Refusal) → t ≡ Not q → r ≡ refusal_in t → Refused r ≡ shown_answer kcb s seat w a
+module _ (s : Station) (seat : List ℕ) (w : Walk) (a : Ask) (t : Result Shape Refusal) (h : IsStanding kcb (show_refusal kcb s seat w a) (described s seat) w.position t) where
+  pub shown-refused : (q r : Refusal) → t ≡ Err q → r ≡ refusal_in t → Err r ≡ shown_answer kcb s seat w a
   unfolding shown_answer
   shown-refused q r e p =
-      let g : IsStanding kcb (show_refusal kcb s seat w a) (described s seat) w.position (Not q) = rw e at h in
-      rw (ne_eqb (show_refusal kcb s seat w a) 0 g.0) (ap Refused (p ∙ ap refusal_in e ∙ g.1))
+      let g : IsStanding kcb (show_refusal kcb s seat w a) (described s seat) w.position (Err q) = rw e at h in
+      rw (ne_eqb (show_refusal kcb s seat w a) 0 g.0) (ap Err (p ∙ ap refusal_in e ∙ g.1))
 
-  module _ (c : Coded) (e : t ≡ Before c) where
-    stands : IsStanding kcb (show_refusal kcb s seat w a) (described s seat) w.position (Before c)
+  module _ (c : Coded) (e : t ≡ Ok c) where
+    stands : IsStanding kcb (show_refusal kcb s seat w a) (described s seat) w.position (Ok c)
     stands = rw e at h
 
     pub reached-here : InBounds w
@@ -165,7 +163,7 @@ module _ (s : Station) (seat : List ℕ) (w : Walk) (a : Ask) (t : Standing) (h 
     pub small-here : Small (asked c)
     small-here = rw stands.1 (ready s seat w a stands.0).small
 
-    pub shown-there : (f : Fetch) (r : ShownAnswer) → source_of f ≡ read_at eights (offsets_of w) (asked c) → r ≡ part_in (source_of f) (asked c)
+    pub shown-there : (f : Fetch) (r : Result (Option Shown) Refusal) → source_of f ≡ read_at eights (offsets_of w) (asked c) → r ≡ part_in (source_of f) (asked c)
         → (r ≡ shown_answer kcb s seat w a) × Lies r (length a.registers) (length a.stack)
     unfolding shown_answer shown_in kcb
     shown-there f r p q =
@@ -176,10 +174,10 @@ module _ (s : Station) (seat : List ℕ) (w : Walk) (a : Ask) (t : Standing) (h 
         )
 
 -- the bytes that an answer names are what show answers
-pub shows-bytes : (P : Paper) (s : Station) (seat : List ℕ) (w : Walk) (a : Ask) (x : ShownAnswer) → x ≡ shown_answer P s seat w a
+pub shows-bytes : (P : Paper) (s : Station) (seat : List ℕ) (w : Walk) (a : Ask) (x : Result (Option Shown) Refusal) → x ≡ shown_answer P s seat w a
     → shown_bytes x a.registers a.stack ≡ show_part P s seat w a
 unfolding show_part
-shows-bytes P s seat w a x e = ap (λ (y : ShownAnswer). shown_bytes y a.registers a.stack) e
+shows-bytes P s seat w a x e = ap (λ (y : Result (Option Shown) Refusal). shown_bytes y a.registers a.stack) e
 
 -- a part that is cut from its offset to its end has as many bytes as the part has
 pub part_cut : (image : List ℕ) (p : Part) → take (p.offset.0 + p.length.0 - p.offset.0) (drop p.offset.0 image) ≡ take p.length.0 (drop p.offset.0 image)

@@ -1,4 +1,5 @@
 -- A step: which number, and what it leaves. Assumes nothing.
+use Rattle.std.specs.Prelude.{Err, Ok, Result}
 use mathlib.Core.Path.{◌≡◌, refl, sym, ap, ap₂, ◌∙◌}
 use mathlib.Core.Logic.{◌≢◌}
 use mathlib.Core.Bool.{Bool, true, false, cond, not, ◌||◌}
@@ -22,8 +23,6 @@ use Rattle.station.proofs.Attachments.{under_none, under-high}
 use Rattle.station.proofs.Orders.{kept, left}
 use Rattle.walk.specs.declared.Walk.{Walk}
 use Rattle.walk.specs.declared.Fetch.{Fetch}
-use Rattle.walk.specs.declared.Standing.{Standing}
-use Rattle.walk.specs.declared.Standing.TheVariants.{Before, Refused}
 use Rattle.walk.specs.Offsets.{Source, read_at, step, bytes_from, source_of}
 use Rattle.walk.specs.Orders.{Ask, asking, offsets_of, with_offsets, wrong_registers, other_number, astray, at_end, other_type, wrong_stack, wrong_out, step_refusal, show_refusal}
 use Rattle.walk.specs.Steps.{bytes_at, moved_on, step_walk, step_out}
@@ -98,23 +97,23 @@ pub show-blind : (P : Paper) (s : Station) (seat : List ℕ) (w : Walk) (regs st
 unfolding show_refusal wrong_registers other_type wrong_stack
 show-blind P s seat w regs stack out ty = refl
 
-module _ (s : Station) (seat : List ℕ) (w : Walk) (regs stack out : List ℕ) (ty : ℕ) (t : Standing)
+module _ (s : Station) (seat : List ℕ) (w : Walk) (regs stack out : List ℕ) (ty : ℕ) (t : Result Shape Refusal)
     (h : IsStanding kcb (show_refusal kcb s seat w (asking regs stack ty [])) (described s seat) w.position t) where
   abbrev a : Ask
   a = asking regs stack ty out
 
-  pub leaves-refused : (q r : Refusal) → t ≡ Refused q → r ≡ refusal_in t
+  pub leaves-refused : (q r : Refusal) → t ≡ Err q → r ≡ refusal_in t
       → (r ≡ refusal_under kcb (described s seat) (step_refusal kcb s seat w a)) × (w ≡ step_walk kcb s seat w a) × (out ≡ step_out kcb s seat w a)
   leaves-refused q r e p =
-      let g : IsStanding kcb (show_refusal kcb s seat w (asking regs stack ty [])) (described s seat) w.position (Refused q) = rw e at h in
+      let g : IsStanding kcb (show_refusal kcb s seat w (asking regs stack ty [])) (described s seat) w.position (Err q) = rw e at h in
       let b = show-blind kcb s seat w regs stack out ty in
       let n : show_refusal kcb s seat w a ≢ 0 = λ z. g.0 (b ∙ z) in
       let x = step-early kcb s seat w a n in
       let y = step_left kcb s seat w a (λ z. n (sym x ∙ z)) in
       (p ∙ ap refusal_in e ∙ g.1 ∙ ap (refusal_under kcb (described s seat)) (b ∙ sym x), y.0, y.1)
 
-  module _ (c : Coded) (e : t ≡ Before c) where
-    stands : IsStanding kcb (show_refusal kcb s seat w (asking regs stack ty [])) (described s seat) w.position (Before c)
+  module _ (c : Coded) (e : t ≡ Ok c) where
+    stands : IsStanding kcb (show_refusal kcb s seat w (asking regs stack ty [])) (described s seat) w.position (Ok c)
     stands = rw e at h
 
     accepted : show_refusal kcb s seat w a ≡ 0

@@ -1,5 +1,5 @@
 -- What the functions of a walk ask and answer. Assumes nothing: these are definitions.
-use Rattle.std.specs.Prelude.{◌≡◌, ◌≢◌, List, ℕ, ◌+◌, ◌-◌, ◌^◌, ◌≤◌}
+use Rattle.std.specs.Prelude.{◌≡◌, ◌≢◌, List, ℕ, ◌+◌, ◌-◌, ◌^◌, ◌≤◌, Err, Ok, Result}
 use Rattle.form.specs.Reading.{refusal_of}
 use Rattle.form.specs.declared.Refusal.{Refusal}
 use Rattle.places.specs.declared.Kind.{Kind}
@@ -11,8 +11,7 @@ use Rattle.walk.specs.declared.Walk.{Walk}
 use Rattle.walk.specs.declared.Counts.{Counts}
 use Rattle.walk.specs.declared.Fetch.{Fetch}
 use Rattle.walk.specs.declared.Fetch.TheVariants.{One, Two, Stack}
-use Rattle.walk.specs.declared.Standing.{Standing}
-use Rattle.walk.specs.declared.Standing.TheVariants.{Before, Refused}
+use Rattle.places.specs.declared.Shape.{Shape}
 
 -- offsets that a walk can have: no sum overflows, and a vector register stands behind the general ones
 pub record InBounds (w : Walk) : Type 0 where
@@ -41,11 +40,11 @@ Within (Two a b) n regs stack = (8 ≤ n) × (n ≤ 16) × (a.0 + 8 ≤ regs) ×
 Within (Stack o) n regs stack = o.0 + n ≤ stack
 
 -- n is 0, and the shape is that of the argument that the walk stands before; or n is not 0, and is the number of the refusal
-abbrev pub IsStanding : Paper → ℕ → List ℕ → ℕ → Standing → Type 0
-IsStanding P n d p (Before s) = (n ≡ 0) × (asked s ≡ shape_at P d p)
-IsStanding P n d p (Refused r) = (n ≢ 0) × (r ≡ refusal_under P d n)
+abbrev pub IsStanding : Paper → ℕ → List ℕ → ℕ → Result Shape Refusal → Type 0
+IsStanding P n d p (Ok s) = (n ≡ 0) × (asked s ≡ shape_at P d p)
+IsStanding P n d p (Err r) = (n ≢ 0) × (r ≡ refusal_under P d n)
 
 -- the refusal that a standing carries
-abbrev pub refusal_in : Standing → Refusal
-refusal_in (Before s) = refusal_of 0
-refusal_in (Refused r) = r
+abbrev pub refusal_in : Result Shape Refusal → Refusal
+refusal_in (Ok s) = refusal_of 0
+refusal_in (Err r) = r

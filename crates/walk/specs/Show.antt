@@ -1,6 +1,6 @@
 -- What show answers (document 01, "Station and walk"): a part of the register image or of the stack image, or the empty part.
 -- Assumes nothing: these are definitions.
-use Rattle.std.specs.Prelude.{Bool, true, false, cond, List, [], ◌∷◌, ℕ, ◌+◌, ◌≤◌, eqb, take, drop}
+use Rattle.std.specs.Prelude.{Bool, true, false, cond, List, [], ◌∷◌, ℕ, ◌+◌, ◌≤◌, eqb, take, drop, Err, None, Ok, Option, Result, Some}
 use Rattle.places.specs.declared.Kind.{Kind}
 use Rattle.places.specs.declared.Kind.TheVariants.{General as general, Vector as vector, Upper as upper, Wide as wide}
 use Rattle.places.specs.Shapes.{Shape}
@@ -10,8 +10,8 @@ use Rattle.station.specs.Attachment.{described}
 use Rattle.walk.specs.declared.Walk.{Walk}
 use Rattle.walk.specs.Offsets.{Source, from_registers, from_stack, read_at}
 use Rattle.walk.specs.Orders.{Ask, offsets_of, show_refusal}
-use Rattle.walk.specs.declared.showing.ShownAnswer.{ShownAnswer}
-use Rattle.walk.specs.declared.showing.ShownAnswer.TheVariants.{Registers, Stack, Apart, Refused}
+use Rattle.form.specs.declared.Refusal.{Refusal}
+use Rattle.walk.specs.declared.showing.Shown.{Shown}
 
 -- two eightbytes that lie in one part: two general registers, or a vector register with its upper half; not "two vector registers"
 -- and not "mixed ones (r9 with xmm0 too, though they adjoin)"
@@ -51,33 +51,33 @@ whole (from_registers os) s = one_piece s.kinds
 whole (from_stack o) s = true
 
 -- where it lies: from its first eightbyte's offset on, as many bytes as it has
-abbrev pub part_in : Source → Shape → ShownAnswer
+abbrev pub part_in : Source → Shape → Result (Option Shown) Refusal
 part_in (from_registers os) s =
-    cond (one_piece s.kinds) (Registers (record { offset = record { 0 = head_of os }; length = record { 0 = s.size } })) Apart
-part_in (from_stack o) s = Stack (record { offset = record { 0 = o }; length = record { 0 = s.size } })
+    cond (one_piece s.kinds) (Ok (Some (Registers (record { offset = record { 0 = head_of os }; length = record { 0 = s.size } })))) (Ok None)
+part_in (from_stack o) s = Ok (Some (Stack (record { offset = record { 0 = o }; length = record { 0 = s.size } })))
 
 -- the bytes that an answer names in a register image and a stack image: "the empty part for a refusal, for two vector registers and for mixed ones"
-abbrev pub shown_bytes : ShownAnswer → List ℕ → List ℕ → List ℕ
-shown_bytes (Registers p) registers stack = take p.length.0 (drop p.offset.0 registers)
-shown_bytes (Stack p) registers stack = take p.length.0 (drop p.offset.0 stack)
-shown_bytes Apart registers stack = []
-shown_bytes (Refused r) registers stack = []
+abbrev pub shown_bytes : Result (Option Shown) Refusal → List ℕ → List ℕ → List ℕ
+shown_bytes (Ok (Some (Registers p))) registers stack = take p.length.0 (drop p.offset.0 registers)
+shown_bytes (Ok (Some (Stack p))) registers stack = take p.length.0 (drop p.offset.0 stack)
+shown_bytes (Ok None) registers stack = []
+shown_bytes (Err r) registers stack = []
 
 -- the part lies within images of these lengths
-abbrev pub Lies : ShownAnswer → ℕ → ℕ → Type 0
-Lies (Registers p) regs stack = p.offset.0 + p.length.0 ≤ regs
-Lies (Stack p) regs stack = p.offset.0 + p.length.0 ≤ stack
-Lies Apart regs stack = Unit {0}
-Lies (Refused r) regs stack = Unit {0}
+abbrev pub Lies : Result (Option Shown) Refusal → ℕ → ℕ → Type 0
+Lies (Ok (Some (Registers p))) regs stack = p.offset.0 + p.length.0 ≤ regs
+Lies (Ok (Some (Stack p))) regs stack = p.offset.0 + p.length.0 ≤ stack
+Lies (Ok None) regs stack = Unit {0}
+Lies (Err r) regs stack = Unit {0}
 
 module _ (P : Paper) where
   -- where 3.5.7 fetches the argument that the walk stands before
-  unfoldable pub shown_in : List ℕ → Walk → ShownAnswer
+  unfoldable pub shown_in : List ℕ → Walk → Result (Option Shown) Refusal
   shown_in d w = part_in (read_at P.slot (offsets_of w) (shape_at P d w.position)) (shape_at P d w.position)
 
-  unfoldable pub shown_answer : Station → List ℕ → Walk → Ask → ShownAnswer
+  unfoldable pub shown_answer : Station → List ℕ → Walk → Ask → Result (Option Shown) Refusal
   shown_answer s seat w a =
-      cond (eqb (show_refusal P s seat w a) 0) (shown_in (described s seat) w) (Refused (refusal_under P (described s seat) (show_refusal P s seat w a)))
+      cond (eqb (show_refusal P s seat w a) 0) (shown_in (described s seat) w) (Err (refusal_under P (described s seat) (show_refusal P s seat w a)))
 
   -- what show answers; the out buffer of the ask is not looked at
   unfoldable pub show_part : Station → List ℕ → Walk → Ask → List ℕ

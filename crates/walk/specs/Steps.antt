@@ -1,26 +1,25 @@
 -- What open and step give and leave (document 01, "Station and walk"). Assumes nothing: these are definitions.
-use Rattle.std.specs.Prelude.{cond, List, ◌++◌, ℕ, suc, eqb}
+use Rattle.std.specs.Prelude.{cond, List, ◌++◌, ℕ, suc, eqb, Err, Ok, Result}
 use Rattle.addresses.specs.Addresses.{gather}
 use Rattle.station.specs.declared.Station.{Station}
 use Rattle.station.specs.Outcome.{leaves}
 use Rattle.station.specs.Paper.{Paper, refusal_under, shape_at}
 use Rattle.station.specs.Attachment.{described}
 use Rattle.walk.specs.declared.Walk.{Walk}
-use Rattle.walk.specs.declared.OpenAnswer.{OpenAnswer}
-use Rattle.walk.specs.declared.OpenAnswer.TheVariants.{Opened, Refused}
 use Rattle.walk.specs.Offsets.{read_at, step, bytes_from}
 use Rattle.walk.specs.Orders.{Ask, offsets_of, with_offsets, standing, open_refusal, step_refusal}
+use Rattle.form.specs.declared.Refusal.{Refusal}
 
 module _ (P : Paper) where
   -- of d, that n is the number: the walk where n is 0, and else the refusal
-  unfoldable pub opened_if : List ℕ → ℕ → Walk → OpenAnswer
-  opened_if d n w = cond (eqb n 0) (Opened w) (Refused (refusal_under P d n))
+  unfoldable pub opened_if : List ℕ → ℕ → Walk → Result Walk Refusal
+  opened_if d n w = cond (eqb n 0) (Ok w) (Err (refusal_under P d n))
 
   -- "Open gives position N and the offsets after the named arguments (and hidden address)": the record where it answers 0
   unfoldable pub open_walk : Station → List ℕ → Walk
   open_walk s seat = standing P (described s seat) s.number (P.named (described s seat))
 
-  unfoldable pub open_answer : Station → List ℕ → OpenAnswer
+  unfoldable pub open_answer : Station → List ℕ → Result Walk Refusal
   open_answer s seat = opened_if (described s seat) (open_refusal P s seat) (open_walk s seat)
 
   -- the argument's bytes: fetched where 3.5.7 says, from the register image with the stack image after it

@@ -7,9 +7,9 @@ ghost use Rattle.station.specs.Attachment.{described};
 ghost use Rattle.walk.specs.Orders.{asking, astray, show_refusal, rest_refusal};
 ghost use Rattle.walk.specs.Asks.{IsStanding, refusal_in};
 
-use crate::{Standing, Walk, fetching};
+use crate::{Walk, fetching};
 use form::Refusal;
-use layout::LayoutAnswer;
+use places::Shape;
 use station::Station;
 use units::Bytes;
 
@@ -40,34 +40,34 @@ pub fn is_astray(d: &[u8], walk: Walk, table: &[u32; 64]) -> bool
 }
 
 // 1..10, 17, 18, 19, 20, and 11 for a stack image of so many bytes. Whatever the walk stands before is unnamed.
-fn stands(station: Station, d: &[u8], walk: Walk, stack: &[u8], asked: u8) -> Standing
+fn stands(station: Station, d: &[u8], walk: Walk, stack: &[u8], asked: u8) -> Result<Shape, Refusal>
     ensures { IsStanding kcb (rest_refusal kcb station d.now walk (asking [] stack.now asked []))
         d.now walk.position result }
 {
     let mut table = [0u32; 64];
     let answer = layout::layout_with(d, &mut table);
-    let LayoutAnswer::Laid(layout) = answer else {
-        return Standing::Refused(layout::refusal_in(answer));
+    let Ok(layout) = answer else {
+        return Err(layout::refusal_in(answer));
     };
     if walk.number != station.number {
-        return Standing::Refused(form::refusal_of(17));
+        return Err(form::refusal_of(17));
     }
     if is_astray(d, walk, &table) {
-        return Standing::Refused(form::refusal_of(18));
+        return Err(form::refusal_of(18));
     }
     let position = walk.position;
     if position == description::byte_at(d, 8) {
-        return Standing::Refused(form::refusal_of(19));
+        return Err(form::refusal_of(19));
     }
     let ty = description::argument_at(d, position);
     if ty != asked as usize {
-        return Standing::Refused(form::refusal_of(20));
+        return Err(form::refusal_of(20));
     }
     let area = layout.area;
     if !units::same(Bytes(stack.len()), area) {
-        return Standing::Refused(form::refusal_of(11));
+        return Err(form::refusal_of(11));
     }
-    Standing::Before(places::shape_in(&table, ty, false))
+    Ok(places::shape_in(&table, ty, false))
 }
 
 // Whether the walk goes on here, by every check of a step but that of the out buffer; and what the next argument asks for.
@@ -78,18 +78,18 @@ pub fn checked(
     registers: &[u8],
     stack: &[u8],
     asked: u8,
-) -> Standing
+) -> Result<Shape, Refusal>
     ensures { IsStanding kcb (show_refusal kcb station seat.now walk (asking registers.now stack.now asked []))
         (described station seat.now) walk.position result }
 {
     if station::wrong_seat(station, seat) {
-        return Standing::Refused(form::refusal_of(11));
+        return Err(form::refusal_of(11));
     }
     if registers.len() != 176 {
-        return Standing::Refused(form::refusal_of(11));
+        return Err(form::refusal_of(11));
     }
     if !station.attached {
-        return Standing::Refused(form::refusal_of(13));
+        return Err(form::refusal_of(13));
     }
     let length = station.length;
     let end = length.0;
@@ -97,11 +97,11 @@ pub fn checked(
 }
 
 // The refusal that a standing carries, for a caller that passes it on.
-pub fn refusal_in(standing: Standing) -> Refusal
+pub fn refusal_in(standing: Result<Shape, Refusal>) -> Refusal
     ensures { result ≡ refusal_in standing }
 {
     match standing {
-        Standing::Before(_) => form::refusal_of(0),
-        Standing::Refused(refusal) => refusal,
+        Ok(_) => form::refusal_of(0),
+        Err(refusal) => refusal,
     }
 }

@@ -4,7 +4,7 @@
 pub use checking::{checked, is_astray};
 pub use fetching::{fetch_at, moved_on};
 pub use opening::open_walk;
-pub use showing::{Part, ShownAnswer, show, show_number, shown_at};
+pub use showing::{Part, Shown, show, show_number, shown_at};
 pub use stepping::{Stepped, copy_out, step, step_by_value};
 
 mod fetching; // where a walk stands, fetches and stands then, worked out
@@ -13,8 +13,6 @@ mod checking; // whether a walk goes on where it stands: every check of a step b
 mod stepping; // the step of a walk, by value and lent
 mod showing; // where the next argument lies, and the part that shows it
 
-use form::Refusal;
-use places::Shape;
 use units::{Bytes, Registers};
 
 // Where a walk stands: the attachment it was opened under, the next argument, gp_offset, fp_offset and the overflow offset.
@@ -26,12 +24,6 @@ pub struct Walk {
     pub general: Bytes,
     pub vector: Bytes,
     pub overflow: Bytes,
-}
-
-#[derive(Clone, Copy)]
-pub enum OpenAnswer {
-    Opened(Walk),
-    Refused(Refusal),
 }
 
 // Where an argument is fetched: an offset of the register image for each eightbyte, or one of the stack image.
@@ -47,11 +39,4 @@ pub enum Fetch {
 pub struct Counts {
     pub general: Registers,
     pub vector: Registers,
-}
-
-// What the argument that a walk stands before asks for, or that the walk does not go on there.
-#[derive(Clone, Copy)]
-pub enum Standing {
-    Before(Shape),
-    Refused(Refusal),
 }

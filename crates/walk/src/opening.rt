@@ -5,35 +5,35 @@ ghost use Rattle.station.specs.Paper.{kcb};
 ghost use Rattle.walk.specs.Orders.{standing, variadic_order};
 ghost use Rattle.walk.specs.Steps.{opened_if, open_answer};
 
-use crate::{OpenAnswer, fetching};
-use layout::LayoutAnswer;
+use crate::{Walk, fetching};
+use form::Refusal;
 use station::Station;
 
 // 1..10, 16, and the walk before the first unnamed argument.
-fn open_on(number: u32, d: &[u8]) -> OpenAnswer
+fn open_on(number: u32, d: &[u8]) -> Result<Walk, Refusal>
     ensures { result ≡ opened_if kcb d.now (first (variadic_order kcb d.now)) (standing kcb d.now number (kcb.named d.now)) }
 {
     let answer = layout::layout_of(d);
-    let LayoutAnswer::Laid(layout) = answer else {
-        return OpenAnswer::Refused(layout::refusal_in(answer));
+    let Ok(layout) = answer else {
+        return Err(layout::refusal_in(answer));
     };
     if description::variadic_in(d) != 1 {
-        return OpenAnswer::Refused(form::refusal_of(16));
+        return Err(form::refusal_of(16));
     }
     let named = description::byte_at(d, 7);
     let used = layout.named;
-    OpenAnswer::Opened(fetching::walk_at(number, named, used))
+    Ok(fetching::walk_at(number, named, used))
 }
 
 // Opens a walk over the unnamed arguments of the description in the seat.
-pub fn open_walk(station: Station, seat: &[u8]) -> OpenAnswer
+pub fn open_walk(station: Station, seat: &[u8]) -> Result<Walk, Refusal>
     ensures { result ≡ open_answer kcb station seat.now }
 {
     if station::wrong_seat(station, seat) {
-        return OpenAnswer::Refused(form::refusal_of(11));
+        return Err(form::refusal_of(11));
     }
     if !station.attached {
-        return OpenAnswer::Refused(form::refusal_of(13));
+        return Err(form::refusal_of(13));
     }
     let length = station.length;
     let end = length.0;

@@ -7,7 +7,7 @@ ghost use Rattle.station.specs.Paper.{kcb, refusal_under};
 ghost use Rattle.walk.specs.Orders.{asking, show_refusal};
 ghost use Rattle.station.specs.Attachment.{described};
 
-use crate::{Fetch, Standing, Walk, checking, fetching};
+use crate::{Fetch, Walk, checking, fetching};
 use form::Refusal;
 use places::{Kind, Kinds, Shape};
 use station::Station;
@@ -20,14 +20,6 @@ pub struct Part {
     pub length: Bytes,
 }
 
-// Which image an argument lies in, in one part, and where; that it lies in more than one; or a refusal.
-#[derive(Clone, Copy)]
-pub enum ShownAnswer {
-    Registers(Part),
-    Stack(Part),
-    Apart,
-    Refused(Refusal),
-}
 
 // Whether two eightbytes lie in one part of the register image: not "two vector registers", not "mixed ones (r9 with xmm0 too,
 // though they adjoin)".
@@ -76,55 +68,55 @@ fn one_piece(kinds: Kinds) -> bool
 }
 
 // The part of an argument whose first eightbyte lies at this offset of the register image.
-fn in_registers(offset: Bytes, shape: Shape) -> ShownAnswer
-    ensures { result ≡ cond (one_piece (listed shape.kinds)) (ShownAnswer.Registers (record { offset = offset; length = shape.size })) ShownAnswer.Apart }
+fn in_registers(offset: Bytes, shape: Shape) -> Result<Option<Shown>, Refusal>
+    ensures { result ≡ cond (one_piece (listed shape.kinds)) (Ok (Some (Shown.Registers (record { offset = offset; length = shape.size })))) (Ok None) }
 {
     let kinds = shape.kinds;
     let size = shape.size;
     if one_piece(kinds) {
-        return ShownAnswer::Registers(Part {
+        return Ok(Some(Shown::Registers(Part {
             offset: offset,
             length: size,
-        });
+        })));
     }
-    ShownAnswer::Apart
+    Ok(None)
 }
 
 // The part of an argument that is fetched there.
-fn part_of(fetch: Fetch, shape: Shape) -> ShownAnswer
+fn part_of(fetch: Fetch, shape: Shape) -> Result<Option<Shown>, Refusal>
     ensures { result ≡ part_in (source_of fetch) (asked_of shape) }
 {
     let size = shape.size;
     match fetch {
         Fetch::One(offset) => in_registers(offset, shape),
         Fetch::Two(offset, _) => in_registers(offset, shape),
-        Fetch::Stack(offset) => ShownAnswer::Stack(Part {
+        Fetch::Stack(offset) => Ok(Some(Shown::Stack(Part {
             offset: offset,
             length: size,
-        }),
+        }))),
     }
 }
 
 // ---- the bytes of that part
 
 // The part that an answer names; the empty part for a refusal, and where the argument lies in more than one.
-fn part_in<'a>(answer: ShownAnswer, registers: &'a [u8], stack: &'a [u8]) -> &'a [u8]
+fn part_in<'a>(answer: Result<Option<Shown>, Refusal>, registers: &'a [u8], stack: &'a [u8]) -> &'a [u8]
     requires { Lies answer (length registers.now) (length stack.now) }
     ensures { result.now ≡ shown_bytes answer registers.now stack.now }
 {
     match answer {
-        ShownAnswer::Registers(part) => {
+        Ok(Some(Shown::Registers(part))) => {
             let from = part.offset.0;
             let end = from + part.length.0;
             &registers[from..end]
         }
-        ShownAnswer::Stack(part) => {
+        Ok(Some(Shown::Stack(part))) => {
             let from = part.offset.0;
             let end = from + part.length.0;
             &stack[from..end]
         }
-        ShownAnswer::Apart => &registers[..0],
-        ShownAnswer::Refused(_) => &registers[..0],
+        Ok(None) => &registers[..0],
+        Err(_) => &registers[..0],
     }
 }
 
@@ -138,13 +130,13 @@ pub fn shown_at(
     registers: &[u8],
     stack: &[u8],
     asked: u8,
-) -> ShownAnswer
+) -> Result<Option<Shown>, Refusal>
     ensures { (result ≡ shown_answer kcb station seat.now walk (asking registers.now stack.now asked []))
         × Lies result (length registers.now) (length stack.now) }
 {
     let standing = checking::checked(station, seat, walk, registers, stack, asked);
-    let Standing::Before(shape) = standing else {
-        return ShownAnswer::Refused(checking::refusal_in(standing));
+    let Ok(shape) = standing else {
+        return Err(checking::refusal_in(standing));
     };
     let fetch = fetching::fetch_at(walk, shape);
     part_of(fetch, shape)

@@ -8,7 +8,7 @@ ghost use Rattle.station.specs.Attachment.{described};
 ghost use Rattle.walk.specs.Orders.{asking, step_refusal};
 ghost use Rattle.walk.specs.Steps.{step_walk, step_out};
 
-use crate::{Fetch, Standing, Walk, checking, fetching};
+use crate::{Fetch, Walk, checking, fetching};
 use form::Refusal;
 use station::Station;
 use units::Bytes;
@@ -61,7 +61,7 @@ pub fn step_by_value(
         × (out.new ≡ step_out kcb station seat.now walk (asking registers.now stack.now asked out.old)) }
 {
     let standing = checking::checked(station, seat, walk, registers, stack, asked);
-    let Standing::Before(shape) = standing else {
+    let Ok(shape) = standing else {
         return Stepped {
             walk: walk,
             refusal: checking::refusal_in(standing),

@@ -8,4 +8,4 @@ pub returns-in_default : goal.returns-in_default
 returns-in_default c = rw c.in_default.is (c.refusal_in.ensures ∙ ap refusal_in c.in_default.is, refl)
 
 pub returns : goal.returns
-returns c = rw c.in-Laid.is (c.refusal_of.ensures, c.layout_of.ensures)
+returns c = rw c.in-Ok.is (c.refusal_of.ensures, c.layout_of.ensures)

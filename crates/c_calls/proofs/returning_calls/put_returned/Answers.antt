@@ -3,8 +3,8 @@
 use mathlib.Core.Path.{refl, sym, ◌∙◌}
 use Rattle.c_calls.proofs.returning_calls.put_returned.Goals as goal
 
-pub returns-in-Put : goal.returns-in-Put
-returns-in-Put c = rw (sym c.put_returned-answer.ensures.0 ∙ c.in-Put.is) (c.refusal_of.ensures, c.put_returned-answer.ensures.1)
+pub returns-in-Ok : goal.returns-in-Ok
+returns-in-Ok c = rw (sym c.put_returned-answer.ensures.0 ∙ c.in-Ok.is) (c.refusal_of.ensures, c.put_returned-answer.ensures.1)
 
-pub returns-in-Refused : goal.returns-in-Refused
-returns-in-Refused c = rw (sym c.put_returned-answer.ensures.0 ∙ c.in-Refused.is) (refl, c.put_returned-answer.ensures.1)
+pub returns-in-Err : goal.returns-in-Err
+returns-in-Err c = rw (sym c.put_returned-answer.ensures.0 ∙ c.in-Err.is) (refl, c.put_returned-answer.ensures.1)

@@ -3,8 +3,8 @@
 use mathlib.Core.Path.{refl, sym, ◌∙◌}
 use Rattle.c_calls.proofs.tidying_calls.tidy_length.Goals as goal
 
-pub returns-in-Length : goal.returns-in-Length
-returns-in-Length c = rw (sym c.tidy_length-answer.ensures ∙ c.in-Length.is) (c.refusal_of.ensures, refl)
+pub returns-in-Ok : goal.returns-in-Ok
+returns-in-Ok c = rw (sym c.tidy_length-answer.ensures ∙ c.in-Ok.is) (c.refusal_of.ensures, refl)
 
-pub returns-in-Refused : goal.returns-in-Refused
-returns-in-Refused c = rw (sym c.tidy_length-answer.ensures ∙ c.in-Refused.is) (refl, refl)
+pub returns-in-Err : goal.returns-in-Err
+returns-in-Err c = rw (sym c.tidy_length-answer.ensures ∙ c.in-Err.is) (refl, refl)

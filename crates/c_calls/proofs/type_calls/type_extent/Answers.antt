@@ -8,4 +8,4 @@ pub returns-in_default : goal.returns-in_default
 returns-in_default c = rw (sym c.type_extent-answer.ensures ∙ c.in_default.is) (c.refusal_in.ensures ∙ ap refusal_in c.in_default.is, refl)
 
 pub returns : goal.returns
-returns c = rw (sym c.type_extent-answer.ensures ∙ c.in-Known.is) (c.refusal_of.ensures, refl)
+returns c = rw (sym c.type_extent-answer.ensures ∙ c.in-Ok.is) (c.refusal_of.ensures, refl)

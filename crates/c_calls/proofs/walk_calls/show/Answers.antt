@@ -12,8 +12,8 @@ returns-in-Registers c = rw (sym (c.shown_at-answer.ensures.0 ∙ shown-along c.
 pub returns-in-Stack : goal.returns-in-Stack
 returns-in-Stack c = rw (sym (c.shown_at-answer.ensures.0 ∙ shown-along c.args.seat.now (asking c.args.registers.now c.args.stack.now c.args.asked []) c.station_of.ensures c.walk_of.ensures) ∙ c.in-Stack.is) (c.refusal_of-in-Stack.ensures, c.part_of-in-Stack.ensures)
 
-pub returns-in-Apart : goal.returns-in-Apart
-returns-in-Apart c = rw (sym (c.shown_at-answer.ensures.0 ∙ shown-along c.args.seat.now (asking c.args.registers.now c.args.stack.now c.args.asked []) c.station_of.ensures c.walk_of.ensures) ∙ c.in-Apart.is) (c.refusal_of-in-Apart.ensures, c.nowhere.ensures)
+pub returns-in-Ok-None : goal.returns-in-Ok-None
+returns-in-Ok-None c = rw (sym (c.shown_at-answer.ensures.0 ∙ shown-along c.args.seat.now (asking c.args.registers.now c.args.stack.now c.args.asked []) c.station_of.ensures c.walk_of.ensures) ∙ c.in-Ok-None.is) (c.refusal_of-in-Ok-None.ensures, c.nowhere.ensures)
 
-pub returns-in-Refused : goal.returns-in-Refused
-returns-in-Refused c = rw (sym (c.shown_at-answer.ensures.0 ∙ shown-along c.args.seat.now (asking c.args.registers.now c.args.stack.now c.args.asked []) c.station_of.ensures c.walk_of.ensures) ∙ c.in-Refused.is) (refl, c.nowhere-in-Refused.ensures)
+pub returns-in-Err : goal.returns-in-Err
+returns-in-Err c = rw (sym (c.shown_at-answer.ensures.0 ∙ shown-along c.args.seat.now (asking c.args.registers.now c.args.stack.now c.args.asked []) c.station_of.ensures c.walk_of.ensures) ∙ c.in-Err.is) (refl, c.nowhere-in-Err.ensures)

@@ -14,4 +14,4 @@ returns-in_default c =
 
 pub returns : goal.returns
 returns c =
-    sym (ap refusal_in c.in-Refused.is) ∙ ap refusal_in c.layout_of-answer.ensures ∙ told _
+    sym (ap refusal_in c.in-Err.is) ∙ ap refusal_in c.layout_of-answer.ensures ∙ told _

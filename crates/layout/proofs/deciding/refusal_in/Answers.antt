@@ -2,5 +2,5 @@
 -- Assumes nothing.
 use Rattle.layout.proofs.deciding.refusal_in.Goals as goal
 
-pub returns-in-Laid : goal.returns-in-Laid
-returns-in-Laid c = rw c.in-Laid.is c.refusal_of.ensures
+pub returns-in-Ok : goal.returns-in-Ok
+returns-in-Ok c = rw c.in-Ok.is c.refusal_of.ensures

@@ -9,4 +9,4 @@ pub returns-in_default : goal.returns-in_default
 returns-in_default c = c.refusal_of.ensures ∙ sym (ap refusal_in c.in_default.is) ∙ ap refusal_in c.old_layout_of-answer.ensures ∙ told _
 
 pub returns : goal.returns
-returns c = sym (ap refusal_in c.in-Refused.is) ∙ ap refusal_in c.old_layout_of-answer.ensures ∙ told _
+returns c = sym (ap refusal_in c.in-Err.is) ∙ ap refusal_in c.old_layout_of-answer.ensures ∙ told _

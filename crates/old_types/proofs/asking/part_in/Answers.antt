@@ -8,19 +8,19 @@ use lib.ListN.{take, drop}
 use Rattle.old_types.proofs.asking.part_in.Goals as goal
 
 pub overflow_add-end : goal.overflow_add-end
-overflow_add-end c = omega (arith, rw c.in-Run.is at c.requires)
+overflow_add-end c = omega (arith, rw c.in-Ok-Some.is at c.requires)
 
 pub slice_bounds-result-end : goal.slice_bounds-result-end
-slice_bounds-result-end c = omega (arith, rw c.in-Run.is at c.requires)
+slice_bounds-result-end c = omega (arith, rw c.in-Ok-Some.is at c.requires)
 
-pub returns-in-Run : goal.returns-in-Run
-returns-in-Run c =
+pub returns-in-Ok-Some : goal.returns-in-Ok-Some
+returns-in-Ok-Some c =
     let d = c.args.d.now in
-    rw c.in-Run.is
-    (ap (λ (k : ℕ). take k (drop c.in-Run.offset.0 d)) (add-sub_cancel_left c.in-Run.offset.0 c.in-Run.count))
+    rw c.in-Ok-Some.is
+    (ap (λ (k : ℕ). take k (drop c.in-Ok-Some.offset.0 d)) (add-sub_cancel_left c.in-Ok-Some.offset.0 c.in-Ok-Some.count))
 
-pub returns-in-NoRun : goal.returns-in-NoRun
-returns-in-NoRun c = rw c.in-NoRun.is
+pub returns-in-Ok-None : goal.returns-in-Ok-None
+returns-in-Ok-None c = rw c.in-Ok-None.is
 
-pub returns-in-Refused : goal.returns-in-Refused
-returns-in-Refused c = rw c.in-Refused.is
+pub returns-in-Err : goal.returns-in-Err
+returns-in-Err c = rw c.in-Err.is

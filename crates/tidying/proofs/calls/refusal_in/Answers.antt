@@ -2,5 +2,5 @@
 -- Assumes nothing.
 use Rattle.tidying.proofs.calls.refusal_in.Goals as goal
 
-pub returns-in-Counted : goal.returns-in-Counted
-returns-in-Counted c = rw c.in-Counted.is c.refusal_of.ensures
+pub returns-in-Ok : goal.returns-in-Ok
+returns-in-Ok c = rw c.in-Ok.is c.refusal_of.ensures

@@ -13,11 +13,11 @@ returns-in_default c = length-refused c.args.d.now _ _ (sym c.count_with-count.e
 
 pub length_of-requires : goal.length_of-requires
 length_of-requires c =
-    let n = counted c.args.d.now _ _ (sym c.count_with-count.ensures.0 ∙ c.in-Counted.is) in
+    let n = counted c.args.d.now _ _ (sym c.count_with-count.ensures.0 ∙ c.in-Ok.is) in
     let low = counted-low c.args.d.now _ _ (c.count_with-count.ensures.1 n.0) in
     rw (n.1.0, n.1.1) (low.0, low.1.0, low.1.1)
 
 pub returns : goal.returns
 returns c =
-    let n = counted c.args.d.now _ _ (sym c.count_with-count.ensures.0 ∙ c.in-Counted.is) in
+    let n = counted c.args.d.now _ _ (sym c.count_with-count.ensures.0 ∙ c.in-Ok.is) in
     length-known c.args.d.now n.0 _ (counted-length c.args.d.now _ _ (c.count_with-count.ensures.1 n.0) _ _ _ n.1.0 n.1.1 c.length_of.ensures)

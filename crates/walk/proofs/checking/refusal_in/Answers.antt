@@ -2,5 +2,5 @@
 -- Assumes nothing.
 use Rattle.walk.proofs.checking.refusal_in.Goals as goal
 
-pub returns-in-Before : goal.returns-in-Before
-returns-in-Before c = rw c.in-Before.is c.refusal_of.ensures
+pub returns-in-Ok : goal.returns-in-Ok
+returns-in-Ok c = rw c.in-Ok.is c.refusal_of.ensures

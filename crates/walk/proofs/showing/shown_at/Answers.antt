@@ -9,7 +9,7 @@ pub returns-in_default : goal.returns-in_default
 returns-in_default c = (shown-refused c.args.station c.args.seat.now c.args.walk (asking c.args.registers.now c.args.stack.now c.args.asked []) c.checked-standing.result c.checked-standing.ensures c.in_default.field-0 c.refusal_in.result c.in_default.is c.refusal_in.ensures, tt)
 
 pub fetch_at-fetch-requires : goal.fetch_at-fetch-requires
-fetch_at-fetch-requires c = (reached-here c.args.station c.args.seat.now c.args.walk (asking c.args.registers.now c.args.stack.now c.args.asked []) c.checked-standing.result c.checked-standing.ensures c.in-Before.shape c.in-Before.is, small-here c.args.station c.args.seat.now c.args.walk (asking c.args.registers.now c.args.stack.now c.args.asked []) c.checked-standing.result c.checked-standing.ensures c.in-Before.shape c.in-Before.is)
+fetch_at-fetch-requires c = (reached-here c.args.station c.args.seat.now c.args.walk (asking c.args.registers.now c.args.stack.now c.args.asked []) c.checked-standing.result c.checked-standing.ensures c.in-Ok.shape c.in-Ok.is, small-here c.args.station c.args.seat.now c.args.walk (asking c.args.registers.now c.args.stack.now c.args.asked []) c.checked-standing.result c.checked-standing.ensures c.in-Ok.shape c.in-Ok.is)
 
 pub returns : goal.returns
-returns c = shown-there c.args.station c.args.seat.now c.args.walk (asking c.args.registers.now c.args.stack.now c.args.asked []) c.checked-standing.result c.checked-standing.ensures c.in-Before.shape c.in-Before.is c.fetch_at-fetch.result c.part_of.result c.fetch_at-fetch.ensures c.part_of.ensures
+returns c = shown-there c.args.station c.args.seat.now c.args.walk (asking c.args.registers.now c.args.stack.now c.args.asked []) c.checked-standing.result c.checked-standing.ensures c.in-Ok.shape c.in-Ok.is c.fetch_at-fetch.result c.part_of.result c.fetch_at-fetch.ensures c.part_of.ensures
