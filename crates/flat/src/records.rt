@@ -1,11 +1,26 @@
 // The flat records of include/callbridge.h, made of what the library answers: places and registers in plain numbers.
 ghost use Rattle.std.specs.Prelude.{◌≡◌, ◌≤◌};
 ghost use Rattle.flat.specs.Numbers.{number_in, vector_number};
-ghost use Rattle.flat.specs.Records.{slot_of, placement_of, pair_of, reached_of, layout_of};
+ghost use Rattle.flat.specs.Records.{classes_of, slot_of, placement_of, pair_of, reached_of, layout_of};
 
-use crate::{Layout, Pair, Placement, Reached, Slot};
+use crate::{Classes, Layout, Pair, Placement, Reached, Slot};
+use classes::Class;
 use places::{Place, Register, ReturnPlace, Used};
 use units::Bytes;
+
+// The numbers of enum cb_class.
+impl From<(Class, Class, Class, Class)> for Classes {
+    ghost from_gives = { λ four flat. flat ≡ classes_of four };
+
+    fn from((first, second, third, fourth): (Class, Class, Class, Class)) -> Self {
+        Classes {
+            first: classes::code_of(first),
+            second: classes::code_of(second),
+            third: classes::code_of(third),
+            fourth: classes::code_of(fourth),
+        }
+    }
+}
 
 // enum cb_register. Numbers and no enum of them: a vector register has a base and a count.
 const ST0: u8 = 8;

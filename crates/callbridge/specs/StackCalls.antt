@@ -3,10 +3,9 @@
 use Rattle.std.specs.Prelude.{Err, Ok, Result}
 use Rattle.flat.specs.declared.StackNeed.{StackNeed}
 use Rattle.flat.specs.StackNeeds.{flat_need}
-use Rattle.c_calls.specs.Outcome.{Outcome, gives, refuses}
 use Rattle.form.specs.declared.Refusal.{Refusal}
 
 -- cb_needs_stack
-abbrev pub need_given : Result StackNeed Refusal → Outcome StackNeed
-need_given (Ok n) = gives (flat_need n)
-need_given (Err r) = refuses r
+abbrev pub need_given : Result StackNeed Refusal → Result StackNeed Refusal
+need_given (Ok n) = Ok (flat_need n)
+need_given (Err r) = Err r

@@ -2,11 +2,10 @@
 -- these are definitions.
 use Rattle.std.specs.Prelude.{Err, Ok, Result}
 use Rattle.flat.specs.declared.Tidied.{Tidied}
-use Rattle.c_calls.specs.Outcome.{Outcome, gives, refuses}
 use Rattle.units.specs.declared.Bytes.{Bytes}
 use Rattle.form.specs.declared.Refusal.{Refusal}
 
 -- cb_tidy_length
-abbrev pub tidied_given : Result Bytes Refusal → Outcome Tidied
-tidied_given (Ok n) = gives (record { length = n })
-tidied_given (Err r) = refuses r
+abbrev pub tidied_given : Result Bytes Refusal → Result Tidied Refusal
+tidied_given (Ok n) = Ok (record { length = n })
+tidied_given (Err r) = Err r

@@ -3,23 +3,22 @@ use Rattle.std.specs.Prelude.{Err, None, Ok, Option, Result, Some}
 use Rattle.form.specs.declared.Refusal.{Refusal}
 use Rattle.form.specs.Reading.{refusal_of}
 use Rattle.types.specs.declared.Extent.{Extent}
-use Rattle.classes.specs.Classes.{code_of}
 use Rattle.flat.specs.declared.Classes.{Classes}
 use Rattle.flat.specs.declared.Part.{Part}
+use Rattle.flat.specs.Records.{classes_of}
 use Rattle.flat.specs.Parts.{nowhere, of_description}
-use Rattle.c_calls.specs.Outcome.{Outcome, gives, refuses}
 use Rattle.units.specs.declared.Bytes.{Bytes}
 use Rattle.classes.specs.declared.Class.{Class}
 
 -- cb_type_extent
-abbrev pub extent_given : Result Extent Refusal → Outcome Extent
-extent_given (Ok e) = gives e
-extent_given (Err r) = refuses r
+abbrev pub extent_given : Result Extent Refusal → Result Extent Refusal
+extent_given (Ok e) = Ok e
+extent_given (Err r) = Err r
 
 -- cb_type_classes: the numbers of enum cb_class
-abbrev pub classes_given : Result (Class × Class × Class × Class) Refusal → Outcome Classes
-classes_given (Ok (a, b, c, e)) = gives (record { first = code_of a; second = code_of b; third = code_of c; fourth = code_of e })
-classes_given (Err r) = refuses r
+abbrev pub classes_given : Result (Class × Class × Class × Class) Refusal → Result Classes Refusal
+classes_given (Ok cs) = Ok (classes_of cs)
+classes_given (Err r) = Err r
 
 -- cb_member_run, one byte for each member: a part is an answer, and "the empty part for a refusal or another kind"
 abbrev pub run_part : Result (Option (Bytes × ℕ)) Refusal → Part

@@ -3,7 +3,6 @@
 use Rattle.std.specs.Prelude.{Err, Ok, Result}
 use Rattle.form.specs.declared.Refusal.{Refusal}
 use Rattle.form.specs.Reading.{refusal_of}
-use Rattle.c_calls.specs.Outcome.{Outcome, gives, refuses}
 use Rattle.flat.specs.declared.Gathered.{Gathered}
 
 -- cb_put_returned
@@ -12,6 +11,6 @@ put_given (Ok tt) = refusal_of 0
 put_given (Err r) = r
 
 -- cb_take_returned
-abbrev pub taken_given : Result ℕ Refusal → Outcome Gathered
-taken_given (Ok h) = gives (record { hidden = h })
-taken_given (Err r) = refuses r
+abbrev pub taken_given : Result ℕ Refusal → Result Gathered Refusal
+taken_given (Ok h) = Ok (record { hidden = h })
+taken_given (Err r) = Err r

@@ -4,6 +4,9 @@ use Rattle.form.specs.declared.Refusal.{Refusal}
 use Rattle.form.specs.Reading.{refusal_of}
 use Rattle.station.specs.Paper.{kcb, refusal_under}
 use Rattle.station.specs.Attachment.{described}
+use Rattle.walk.specs.declared.Walk.{Walk as Standing}
+use Rattle.walk.specs.declared.showing.Shown.{Shown}
+use Rattle.walk.specs.declared.showing.Shown.TheVariants.{Registers, Stack}
 use Rattle.walk.specs.Orders.{Ask, step_refusal}
 use Rattle.walk.specs.Steps.{step_walk}
 use Rattle.finishing.specs.Rest.{AskRest, finish_refusal, finish_walk}
@@ -12,25 +15,23 @@ use Rattle.flat.specs.declared.Station.{Station}
 use Rattle.flat.specs.declared.Walk.{Walk}
 use Rattle.flat.specs.Parts.{nowhere, of_registers, of_stack}
 use Rattle.flat.specs.Stations.{station_meant, walk_meant, flat_walk}
-use Rattle.c_calls.specs.Outcome.{Outcome, gives, refuses}
-use Rattle.walk.specs.declared.showing.Shown.{Shown}
 
 -- cb_open_walk
-abbrev pub open_given : Result Walk Refusal → Outcome Walk
-open_given (Ok w) = gives (flat_walk w)
-open_given (Err r) = refuses r
+abbrev pub open_given : Result Standing Refusal → Result Walk Refusal
+open_given (Ok w) = Ok (flat_walk w)
+open_given (Err r) = Err r
 
 -- cb_step: the record behind the argument
-unfoldable pub step_given : Station → List ℕ → Walk → Ask → Outcome Walk
+unfoldable pub step_given : Station → List ℕ → Walk → Ask → Result Walk Refusal
 step_given s seat w a =
-    cond (eqb (step_refusal kcb (station_meant s) seat (walk_meant w) a) 0) (gives (flat_walk (step_walk kcb (station_meant s) seat (walk_meant w) a)))
-    (refuses (refusal_under kcb (described (station_meant s) seat) (step_refusal kcb (station_meant s) seat (walk_meant w) a)))
+    cond (eqb (step_refusal kcb (station_meant s) seat (walk_meant w) a) 0) (Ok (flat_walk (step_walk kcb (station_meant s) seat (walk_meant w) a)))
+    (Err (refusal_under kcb (described (station_meant s) seat) (step_refusal kcb (station_meant s) seat (walk_meant w) a)))
 
 -- cb_finish_walk: the record at its end
-unfoldable pub finish_given : Station → List ℕ → Walk → AskRest → Outcome Walk
+unfoldable pub finish_given : Station → List ℕ → Walk → AskRest → Result Walk Refusal
 finish_given s seat w a =
-    cond (eqb (finish_refusal kcb (station_meant s) seat (walk_meant w) a) 0) (gives (flat_walk (finish_walk kcb (station_meant s) seat (walk_meant w) a)))
-    (refuses (refusal_under kcb (described (station_meant s) seat) (finish_refusal kcb (station_meant s) seat (walk_meant w) a)))
+    cond (eqb (finish_refusal kcb (station_meant s) seat (walk_meant w) a) 0) (Ok (flat_walk (finish_walk kcb (station_meant s) seat (walk_meant w) a)))
+    (Err (refusal_under kcb (described (station_meant s) seat) (finish_refusal kcb (station_meant s) seat (walk_meant w) a)))
 
 -- cb_show: a part is an answer, "and the empty part for a refusal, for two vector registers and for mixed ones"
 abbrev pub shown_part : Result (Option Shown) Refusal → Part
