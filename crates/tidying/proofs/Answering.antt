@@ -1,5 +1,5 @@
 -- Which answer tidying gives, from what the code looks at. Assumes nothing.
-use Rattle.std.specs.Prelude.{Err, Ok}
+use Rattle.std.specs.Prelude.{Err, Ok, Result}
 use mathlib.Core.Path.{◌≡◌, refl, sym, ap, ◌∙◌}
 use mathlib.Core.Logic.{◌↔◌, ◌≢◌}
 use mathlib.Core.Bool.{Bool, true, false, cond}
@@ -141,16 +141,18 @@ module _ (d : List ℕ) where
   counted n m e = by (eqb (length_refusal d) 0) refl
     where
       by : (b : Bool) → eqb (length_refusal d) 0 ≡ b → (length_refusal d ≡ 0) × ((n ≡ length (table_of (call_of d))) × (m ≡ separate (table_of (call_of d))))
-      by true q = let z : Ok (n, m) ≡ Ok (length (table_of (call_of d)), separate (table_of (call_of d))) = sym e ∙ answered true q in (eqb-true (length_refusal d) 0 q, (cc, cc))
-      by false q = absurd (let z : Ok (n, m) ≡ Err (refusal_for d (length_refusal d)) = sym e ∙ answered false q in let f : ◌≡◌ {A = ℕ} 0 1 = cc in omega arith)
+      by true q = let z : ◌≡◌ {A = Result (ℕ × ℕ) Refusal} (Ok (n, m)) (Ok (length (table_of (call_of d)), separate (table_of (call_of d)))) = sym e ∙ answered true q in
+          let y : ◌≡◌ {A = ℕ × ℕ} (n, m) (length (table_of (call_of d)), separate (table_of (call_of d))) = cc in
+          (eqb-true (length_refusal d) 0 q, (ap (λ (p : ℕ × ℕ). p.0) y, ap (λ (p : ℕ × ℕ). p.1) y))
+      by false q = absurd (let z : ◌≡◌ {A = Result (ℕ × ℕ) Refusal} (Ok (n, m)) (Err (refusal_for d (length_refusal d))) = sym e ∙ answered false q in let f : ◌≡◌ {A = ℕ} 0 1 = cc in omega arith)
 
   -- one that is not
   not_counted : (r : Refusal) → count_answer d ≡ Err r → (length_refusal d ≢ 0) × (r ≡ refusal_for d (length_refusal d))
   not_counted r e = by (eqb (length_refusal d) 0) refl
     where
       by : (b : Bool) → eqb (length_refusal d) 0 ≡ b → (length_refusal d ≢ 0) × (r ≡ refusal_for d (length_refusal d))
-      by true q = absurd (let z : Err r ≡ Ok (length (table_of (call_of d)), separate (table_of (call_of d))) = sym e ∙ answered true q in let f : ◌≡◌ {A = ℕ} 0 1 = cc in omega arith)
-      by false q = let z : Err r ≡ Err (refusal_for d (length_refusal d)) = sym e ∙ answered false q in (eqb-false (length_refusal d) 0 q, cc)
+      by true q = absurd (let z : ◌≡◌ {A = Result (ℕ × ℕ) Refusal} (Err r) (Ok (length (table_of (call_of d)), separate (table_of (call_of d)))) = sym e ∙ answered true q in let f : ◌≡◌ {A = ℕ} 0 1 = cc in omega arith)
+      by false q = let z : ◌≡◌ {A = Result (ℕ × ℕ) Refusal} (Err r) (Err (refusal_for d (length_refusal d))) = sym e ∙ answered false q in (eqb-false (length_refusal d) 0 q, cc)
 
   -- the length
   pub length-refused : (f r : Refusal) → count_answer d ≡ Err f → r ≡ f → Err r ≡ length_answer d

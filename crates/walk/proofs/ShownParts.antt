@@ -1,4 +1,5 @@
 -- Show: which part, that it lies within its image, and that it holds the bytes that a step would copy. Assumes nothing.
+use Rattle.walk.specs.declared.showing.Shown.TheVariants.{Registers}
 use Rattle.std.specs.Prelude.{Err, None, Ok, Option, Result, Some}
 use mathlib.Core.Path.{◌≡◌, refl, sym, ap, ◌∙◌}
 use mathlib.Core.Logic.{◌≢◌}
@@ -142,11 +143,11 @@ shows_none P s seat w a h = rw (ne_eqb (show_refusal P s seat w a) 0 h)
 
 -- ---- as code has it
 
-pub number_is : (P : Paper) (n : ℕ) (d : List ℕ) (p : ℕ) (t : Result Shape Refusal) (r : Refusal) → IsStanding P n d p t → r ≡ refusal_in t → r ≡ refusal_under P d n
+pub number_is : (P : Paper) (n : ℕ) (d : List ℕ) (p : ℕ) (t : Result Coded Refusal) (r : Refusal) → IsStanding P n d p t → r ≡ refusal_in t → r ≡ refusal_under P d n
 number_is P n d p (Ok c) r h e = e ∙ sym (under_none P d 0 refl) ∙ ap (refusal_under P d) (sym h.0)
 number_is P n d p (Err q) r h e = e ∙ h.1
 
-module _ (s : Station) (seat : List ℕ) (w : Walk) (a : Ask) (t : Result Shape Refusal) (h : IsStanding kcb (show_refusal kcb s seat w a) (described s seat) w.position t) where
+module _ (s : Station) (seat : List ℕ) (w : Walk) (a : Ask) (t : Result Coded Refusal) (h : IsStanding kcb (show_refusal kcb s seat w a) (described s seat) w.position t) where
   pub shown-refused : (q r : Refusal) → t ≡ Err q → r ≡ refusal_in t → Err r ≡ shown_answer kcb s seat w a
   unfolding shown_answer
   shown-refused q r e p =
