@@ -33,6 +33,7 @@ use Rattle.station.specs.Attachment.{described, attach_refusal, attach_station, 
 use Rattle.station.proofs.Kcb.{kcb-refusal}
 use Rattle.walk.specs.Orders.{offsets_of, open_refusal, step_refusal, show_refusal}
 use Rattle.finishing.specs.Rest.{finish_refusal, finish_walk}
+use Rattle.walk.specs.declared.showing.Shown.TheVariants.{Registers}
 use Rattle.walk.specs.Steps.{opened_if, open_walk, open_answer, step_walk}
 use Rattle.places.specs.Shapes.{Shape}
 use Rattle.station.specs.Paper.{shape_at}

@@ -1,6 +1,6 @@
 -- What the calls of the C interface that bring a result back give, by the library's answer: include/callbridge.h. Assumes nothing:
 -- these are definitions.
-use Rattle.std.specs.Prelude.{Err, Ok, Result}
+use Rattle.std.specs.Prelude.{Err, Ok, Result, ℕ}
 use Rattle.form.specs.declared.Refusal.{Refusal}
 use Rattle.form.specs.Reading.{refusal_of}
 use Rattle.flat.specs.declared.Gathered.{Gathered}

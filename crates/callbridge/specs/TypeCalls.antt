@@ -1,5 +1,5 @@
 -- What the questions and the layout of the C interface give, by the library's answer: include/callbridge.h. Assumes nothing: these are definitions.
-use Rattle.std.specs.Prelude.{Err, None, Ok, Option, Result, Some}
+use Rattle.std.specs.Prelude.{Err, None, Ok, Option, Result, Some, ℕ}
 use Rattle.form.specs.declared.Refusal.{Refusal}
 use Rattle.form.specs.Reading.{refusal_of}
 use Rattle.types.specs.declared.Extent.{Extent}

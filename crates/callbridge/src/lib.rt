@@ -2,7 +2,7 @@
 // tells. `callbridge_c` hands these functions to C: Rattle's crates cite this one, and none can cite a static library.
 #![tactic(auto)]
 
-ghost use Rattle.std.specs.Prelude.{◌≡◌, [], ◌++◌, ◌≤◌, length, drop};
+ghost use Rattle.std.specs.Prelude.{◌≡◌, cond, eqb, Ok, Err, [], ◌++◌, ◌≤◌, length, drop};
 ghost use Rattle.description.specs.Description.{arguments_in};
 ghost use Rattle.types.specs.Wrong.{refusal_for};
 ghost use Rattle.questions.specs.Questions.{extent_answer};
@@ -34,7 +34,9 @@ ghost use Rattle.callbridge.specs.ReturningCalls.{put_given, taken_given};
 ghost use Rattle.callbridge.specs.StationCalls.{attach_given, detach_given, freed_station, change_given};
 ghost use Rattle.callbridge.specs.WalkCalls.{open_given, step_given, finish_given, shown_part, shown_refusal};
 
-use flat::{Classes, Gathered, Image, Layout, Part, Placed, Placement, StackNeed, Station, Tidied, Walk};
+use flat::{
+    Classes, Gathered, Image, Layout, Part, Placed, Placement, StackNeed, Station, Tidied, Walk,
+};
 use form::Refusal;
 use types::Extent;
 use units::Bytes;
@@ -51,10 +53,24 @@ fn refusal_in<T: Copy>(answer: Result<T, Refusal>) -> Refusal
 fn give<T: Copy>(answer: Result<T, Refusal>, lent: &mut T) -> Refusal
     ensures { (result ≡ refusal_in answer) × (lent.new ≡ left_in answer lent.old) }
 {
-    if let Ok(given) = answer {
-        *lent = given;
+    match answer {
+        Ok(given) => {
+            *lent = given;
+            form::refusal_of(0)
+        }
+        Err(refusal) => refusal,
     }
-    refusal_in(answer)
+}
+
+// As a result.
+fn answered(refusal: Refusal) -> Result<(), Refusal>
+    ensures { result ≡ cond (eqb refusal.number 0) (Ok tt) (Err refusal) }
+{
+    if refusal.number == 0 {
+        Ok(())
+    } else {
+        Err(refusal)
+    }
 }
 
 // The number of arguments, of any bytes: 0 where there is no such byte.
@@ -75,7 +91,7 @@ pub fn cb_version() -> u32
 pub fn cb_check(d: &[u8]) -> Refusal
     ensures { result ≡ refusal_for d.now (verdict d.now) }
 {
-    refusal_in(layout::check(d))
+    layout::check(d)
 }
 
 // Size and alignment of a type.
@@ -91,7 +107,10 @@ pub fn cb_type_classes(d: &[u8], asked: u8, classes: &mut Classes) -> Refusal
     ensures { (result ≡ refusal_in (classes_given (classes_answer d.now asked)))
         × (classes.new ≡ left_in (classes_given (classes_answer d.now asked)) classes.old) }
 {
-    give(questions::type_classes(d, asked).map(Classes::from), classes)
+    give(
+        questions::type_classes(d, asked).map(Classes::from),
+        classes,
+    )
 }
 
 // The members of a type, as a part of the description; the empty part for a refusal.
@@ -111,7 +130,7 @@ pub fn cb_member_offsets(d: &[u8], asked: u8, offsets: &mut [usize]) -> Refusal
     ensures { (result ≡ refusal_for d.now (offsets_refusal d.now asked (length offsets.old)))
         × (offsets.new ≡ offsets_after d.now asked offsets.old) }
 {
-    refusal_in(questions::member_offsets(d, asked, offsets))
+    questions::member_offsets(d, asked, offsets)
 }
 
 // The call as a whole.
@@ -120,7 +139,10 @@ pub fn cb_layout_of(d: &[u8], layout: &mut Layout) -> Refusal
         × (layout.new ≡ left_in (layout_given (arguments_in d.now) (layout_answer d.now)) layout.old) }
 {
     let arguments = arguments_of(d);
-    give(layout::layout_of(d).map(|whole| Layout::of(whole, arguments)), layout)
+    give(
+        layout::layout_of(d).map(|whole| Layout::of(whole, arguments)),
+        layout,
+    )
 }
 
 // The call as a whole, and one record for each argument into the list; entries past them stay.
@@ -138,7 +160,10 @@ pub fn cb_lay_out(d: &[u8], layout: &mut Layout, list: &mut [Placement]) -> Refu
         before = step.after;
     }
     let arguments = arguments_of(d);
-    give(begun.answer.map(|whole| Layout::of(whole, arguments)), layout)
+    give(
+        begun.answer.map(|whole| Layout::of(whole, arguments)),
+        layout,
+    )
 }
 
 // Whether an argument goes to the stack, told at the first that does.
@@ -162,7 +187,10 @@ pub fn cb_tidy_length(d: &[u8], tidied: &mut Tidied) -> Refusal
     ensures { (result ≡ refusal_in (tidied_given (length_answer d.now)))
         × (tidied.new ≡ left_in (tidied_given (length_answer d.now)) tidied.old) }
 {
-    give(tidying::tidy_length(d).map(|length| Tidied { length }), tidied)
+    give(
+        tidying::tidy_length(d).map(|length| Tidied { length }),
+        tidied,
+    )
 }
 
 // The tidy form of the description.
@@ -170,7 +198,7 @@ pub fn cb_tidy(d: &[u8], out: &mut [u8]) -> Refusal
     ensures { (result ≡ refusal_for d.now (tidy_refusal d.now (length out.old)))
         × (out.new ≡ tidy_after d.now out.old) }
 {
-    refusal_in(tidying::tidy(d, out))
+    tidying::tidy(d, out)
 }
 
 // Values into the three images.
@@ -255,7 +283,7 @@ pub fn cb_attach(station: &mut Station, seat: &mut [u8], d: &[u8]) -> Refusal
         × (seat.new ≡ attach_seat kcb (station_meant station.old) seat.old d.now)) }
 {
     let mut attached = station::Station::from(*station);
-    let answer = station::attach(&mut attached, seat, d);
+    let answer = answered(station::attach(&mut attached, seat, d));
     give(answer.map(|()| Station::from(attached)), station)
 }
 
@@ -266,7 +294,7 @@ pub fn cb_detach(station: &mut Station, seat: &mut [u8]) -> Refusal
         × (seat.new ≡ detach_seat (station_meant station.old) seat.old)) }
 {
     let mut attached = station::Station::from(*station);
-    let answer = station::detach(&mut attached, seat);
+    let answer = answered(station::detach(&mut attached, seat));
     give(answer.map(|()| Station::from(attached)), station)
 }
 
@@ -305,7 +333,7 @@ pub fn cb_step(
 {
     let attached = station::Station::from(*station);
     let mut moved = walk::Walk::from(*walk);
-    let answer = walk::step(&attached, seat, &mut moved, registers, stack, asked, out);
+    let answer = answered(walk::step(&attached, seat, &mut moved, registers, stack, asked, out));
     give(answer.map(|()| Walk::from(moved)), walk)
 }
 
@@ -325,7 +353,9 @@ pub fn cb_finish_walk(
 {
     let attached = station::Station::from(*station);
     let mut moved = walk::Walk::from(*walk);
-    let answer = finishing::finish_walk(&attached, seat, &mut moved, registers, stack, asked, out);
+    let answer = answered(finishing::finish_walk(
+        &attached, seat, &mut moved, registers, stack, asked, out,
+    ));
     give(answer.map(|()| Walk::from(moved)), walk)
 }
 
@@ -344,9 +374,20 @@ pub fn cb_show(
 {
     *part = flat::nowhere();
     let attached = station::Station::from(*station);
-    let answer = walk::shown_at(attached, seat, walk::Walk::from(*walk), registers, stack, asked);
+    let answer = walk::shown_at(
+        attached,
+        seat,
+        walk::Walk::from(*walk),
+        registers,
+        stack,
+        asked,
+    );
     let shown = answer.map(|shown| match shown {
-        Some(Shown::Registers(lies)) => flat::part_of(Image::Registers as u8, lies.offset, lies.length),
+        Some(Shown::Registers(lies)) => flat::part_of(
+            Image::Registers as u8,
+            lies.offset,
+            lies.length,
+        ),
         Some(Shown::Stack(lies)) => flat::part_of(Image::Stack as u8, lies.offset, lies.length),
         None => flat::nowhere(),
     });
