@@ -8,4 +8,4 @@ use Rattle.walk.proofs.fetching.walk_at.Goals as goal
 
 pub returns : goal.returns
 unfolding walk_at
-returns c = walk_same _ _ refl refl c.general_bytes-general.ensures (omega (arith, c.plus-vector.ensures, c.vector_bytes.ensures)) refl
+returns c = walk_same _ _ refl refl c.general_bytes.ensures (omega (arith, c.add.ensures, c.vector_bytes.ensures)) refl
