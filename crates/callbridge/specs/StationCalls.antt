@@ -1,8 +1,8 @@
 -- What the calls of the C interface that attach, detach and change give: include/callbridge.h. Assumes nothing: these are definitions.
-use Rattle.std.specs.Prelude.{cond, Err, List, Ok, Result, ℕ, eqb}
+use Rattle.std.specs.Prelude.{List, Result, ℕ}
 use Rattle.form.specs.declared.Refusal.{Refusal}
-use Rattle.form.specs.Reading.{refusal_of}
-use Rattle.station.specs.Paper.{kcb, refusal_under}
+use Rattle.station.specs.Paper.{kcb, answer_under}
+use Rattle.station.specs.Outcome.{answer_of}
 use Rattle.station.specs.Attachment.{attach_refusal, attach_station, detach_refusal, detach_station, detach_seat}
 use Rattle.flat.specs.declared.Station.{Station}
 use Rattle.flat.specs.Stations.{station_meant, flat_station}
@@ -11,14 +11,11 @@ use Rattle.callbridge.specs.Outcome.{left_in}
 -- cb_attach
 unfoldable pub attach_given : Station → List ℕ → List ℕ → Result Station Refusal
 attach_given s seat d =
-    cond (eqb (attach_refusal kcb (station_meant s) seat d) 0) (Ok (flat_station (attach_station kcb (station_meant s) seat d)))
-    (Err (refusal_under kcb d (attach_refusal kcb (station_meant s) seat d)))
+    answer_under kcb d (attach_refusal kcb (station_meant s) seat d) (flat_station (attach_station kcb (station_meant s) seat d))
 
 -- cb_detach
 unfoldable pub detach_given : Station → List ℕ → Result Station Refusal
-detach_given s seat =
-    cond (eqb (detach_refusal (station_meant s) seat) 0) (Ok (flat_station (detach_station (station_meant s) seat)))
-    (Err (refusal_of (detach_refusal (station_meant s) seat)))
+detach_given s seat = answer_of (detach_refusal (station_meant s) seat) (flat_station (detach_station (station_meant s) seat))
 
 -- cb_change (request 2026-09): "It equals detach, its answer ignored, then attach". What the detach leaves of the lent record is what a refusal leaves
 unfoldable pub freed_station : Station → List ℕ → Station

@@ -1,8 +1,8 @@
 -- What the calls of the C interface that open a walk, step it, finish it and show an argument give: include/callbridge.h. Assumes nothing: these are definitions.
-use Rattle.std.specs.Prelude.{cond, List, ℕ, eqb, Err, None, Ok, Option, Result, Some}
+use Rattle.std.specs.Prelude.{List, ℕ, Err, None, Ok, Option, Result, Some}
 use Rattle.form.specs.declared.Refusal.{Refusal}
 use Rattle.form.specs.Reading.{refusal_of}
-use Rattle.station.specs.Paper.{kcb, refusal_under}
+use Rattle.station.specs.Paper.{kcb, answer_under}
 use Rattle.station.specs.Attachment.{described}
 use Rattle.walk.specs.declared.Walk.{Walk as Standing}
 use Rattle.walk.specs.declared.showing.Shown.{Shown}
@@ -24,14 +24,14 @@ open_given (Err r) = Err r
 -- cb_step: the record behind the argument
 unfoldable pub step_given : Station → List ℕ → Walk → Ask → Result Walk Refusal
 step_given s seat w a =
-    cond (eqb (step_refusal kcb (station_meant s) seat (walk_meant w) a) 0) (Ok (flat_walk (step_walk kcb (station_meant s) seat (walk_meant w) a)))
-    (Err (refusal_under kcb (described (station_meant s) seat) (step_refusal kcb (station_meant s) seat (walk_meant w) a)))
+    answer_under kcb (described (station_meant s) seat) (step_refusal kcb (station_meant s) seat (walk_meant w) a)
+    (flat_walk (step_walk kcb (station_meant s) seat (walk_meant w) a))
 
 -- cb_finish_walk: the record at its end
 unfoldable pub finish_given : Station → List ℕ → Walk → AskRest → Result Walk Refusal
 finish_given s seat w a =
-    cond (eqb (finish_refusal kcb (station_meant s) seat (walk_meant w) a) 0) (Ok (flat_walk (finish_walk kcb (station_meant s) seat (walk_meant w) a)))
-    (Err (refusal_under kcb (described (station_meant s) seat) (finish_refusal kcb (station_meant s) seat (walk_meant w) a)))
+    answer_under kcb (described (station_meant s) seat) (finish_refusal kcb (station_meant s) seat (walk_meant w) a)
+    (flat_walk (finish_walk kcb (station_meant s) seat (walk_meant w) a))
 
 -- cb_show: a part is an answer, "and the empty part for a refusal, for two vector registers and for mixed ones"
 abbrev pub shown_part : Result (Option Shown) Refusal → Part

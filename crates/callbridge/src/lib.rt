@@ -2,7 +2,7 @@
 // tells. `callbridge_c` hands these functions to C: Rattle's crates cite this one, and none can cite a static library.
 #![tactic(auto)]
 
-ghost use Rattle.std.specs.Prelude.{◌≡◌, cond, eqb, Ok, Err, [], ◌++◌, ◌≤◌, length, drop};
+ghost use Rattle.std.specs.Prelude.{◌≡◌, [], ◌++◌, ◌≤◌, length, drop};
 ghost use Rattle.description.specs.Description.{arguments_in};
 ghost use Rattle.types.specs.Wrong.{refusal_for};
 ghost use Rattle.questions.specs.Questions.{extent_answer};
@@ -38,6 +38,7 @@ use flat::{
     Classes, Gathered, Image, Layout, Part, Placed, Placement, StackNeed, Station, Tidied, Walk,
 };
 use form::Refusal;
+use layout::{Described, Laying};
 use types::Extent;
 use units::Bytes;
 use walk::Shown;
@@ -62,22 +63,30 @@ fn give<T: Copy>(answer: Result<T, Refusal>, lent: &mut T) -> Refusal
     }
 }
 
-// As a result.
-fn answered(refusal: Refusal) -> Result<(), Refusal>
-    ensures { result ≡ cond (eqb refusal.number 0) (Ok tt) (Err refusal) }
-{
-    if refusal.number == 0 {
-        Ok(())
-    } else {
-        Err(refusal)
-    }
-}
-
 // The number of arguments, of any bytes: 0 where there is no such byte.
 fn arguments_of(d: &[u8]) -> usize
     ensures { result ≡ arguments_in d.now }
 {
     d.get(8).map_or(0, |&count| usize::from(count))
+}
+
+// The flat record of each argument into the list, and that of the call as a whole.
+fn lay_out(d: &[u8], list: &mut [Placement]) -> Result<Layout, Refusal>
+    ensures { (result ≡ list_given d.now (length list.old))
+        × (list.new ≡ filled (flat_at d.now) (list_count d.now (length list.old)) list.old) }
+{
+    let mut table = [0u32; 64];
+    let whole = layout::begin_with(d, list.len(), &mut table)?;
+    let described = Described {
+        bytes: d,
+        table: &table,
+    };
+    let arguments = described.arguments();
+    let mut laying = Laying::fresh(whole.hidden);
+    for i in 0..arguments {
+        list[i] = Placement::from(described.place_argument(i, &mut laying));
+    }
+    Ok(Layout::of(whole, arguments))
 }
 
 // CB_VERSION.
@@ -91,7 +100,7 @@ pub fn cb_version() -> u32
 pub fn cb_check(d: &[u8]) -> Refusal
     ensures { result ≡ refusal_for d.now (verdict d.now) }
 {
-    layout::check(d)
+    refusal_in(layout::check(d))
 }
 
 // Size and alignment of a type.
@@ -130,7 +139,7 @@ pub fn cb_member_offsets(d: &[u8], asked: u8, offsets: &mut [usize]) -> Refusal
     ensures { (result ≡ refusal_for d.now (offsets_refusal d.now asked (length offsets.old)))
         × (offsets.new ≡ offsets_after d.now asked offsets.old) }
 {
-    questions::member_offsets(d, asked, offsets)
+    refusal_in(questions::member_offsets(d, asked, offsets))
 }
 
 // The call as a whole.
@@ -151,19 +160,7 @@ pub fn cb_lay_out(d: &[u8], layout: &mut Layout, list: &mut [Placement]) -> Refu
         × ((layout.new ≡ left_in (list_given d.now (length list.old)) layout.old)
         × (list.new ≡ filled (flat_at d.now) (list_count d.now (length list.old)) list.old)) }
 {
-    let mut table = [0u32; 64];
-    let begun = layout::begin_with(d, list.len(), &mut table);
-    let mut before = begun.before;
-    for i in 0..begun.count {
-        let step = layout::place_argument(d, before, i, &table);
-        list[i] = Placement::from(step.placement);
-        before = step.after;
-    }
-    let arguments = arguments_of(d);
-    give(
-        begun.answer.map(|whole| Layout::of(whole, arguments)),
-        layout,
-    )
+    give(lay_out(d, list), layout)
 }
 
 // Whether an argument goes to the stack, told at the first that does.
@@ -198,7 +195,7 @@ pub fn cb_tidy(d: &[u8], out: &mut [u8]) -> Refusal
     ensures { (result ≡ refusal_for d.now (tidy_refusal d.now (length out.old)))
         × (out.new ≡ tidy_after d.now out.old) }
 {
-    tidying::tidy(d, out)
+    refusal_in(tidying::tidy(d, out))
 }
 
 // Values into the three images.
@@ -283,7 +280,7 @@ pub fn cb_attach(station: &mut Station, seat: &mut [u8], d: &[u8]) -> Refusal
         × (seat.new ≡ attach_seat kcb (station_meant station.old) seat.old d.now)) }
 {
     let mut attached = station::Station::from(*station);
-    let answer = answered(station::attach(&mut attached, seat, d));
+    let answer = station::attach(&mut attached, seat, d);
     give(answer.map(|()| Station::from(attached)), station)
 }
 
@@ -294,7 +291,7 @@ pub fn cb_detach(station: &mut Station, seat: &mut [u8]) -> Refusal
         × (seat.new ≡ detach_seat (station_meant station.old) seat.old)) }
 {
     let mut attached = station::Station::from(*station);
-    let answer = answered(station::detach(&mut attached, seat));
+    let answer = station::detach(&mut attached, seat);
     give(answer.map(|()| Station::from(attached)), station)
 }
 
@@ -333,7 +330,7 @@ pub fn cb_step(
 {
     let attached = station::Station::from(*station);
     let mut moved = walk::Walk::from(*walk);
-    let answer = answered(walk::step(&attached, seat, &mut moved, registers, stack, asked, out));
+    let answer = walk::step(&attached, seat, &mut moved, registers, stack, asked, out);
     give(answer.map(|()| Walk::from(moved)), walk)
 }
 
@@ -352,11 +349,9 @@ pub fn cb_finish_walk(
         × (out.new ≡ finish_out kcb (station_meant station.now) seat.now (walk_meant walk.old) (asking_rest registers.now stack.now asked.now out.old))) }
 {
     let attached = station::Station::from(*station);
-    let mut moved = walk::Walk::from(*walk);
-    let answer = answered(finishing::finish_walk(
-        &attached, seat, &mut moved, registers, stack, asked, out,
-    ));
-    give(answer.map(|()| Walk::from(moved)), walk)
+    let mut ended = walk::Walk::from(*walk);
+    let answer = finishing::finish_walk(&attached, seat, &mut ended, registers, stack, asked, out);
+    give(answer.map(|()| Walk::from(ended)), walk)
 }
 
 // Where the next argument lies; the empty part for a refusal.
