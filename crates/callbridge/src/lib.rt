@@ -152,7 +152,10 @@ pub fn cb_tidy(d: &[u8], out: &mut [u8]) -> Refusal
     ensures { (result ≡ refusal_for d.now (tidy_refusal d.now (length out.old)))
         × (out.new ≡ tidy_after d.now out.old) }
 {
-    tidying::tidy(d, out)
+    match tidying::tidy(d, out) {
+        Ok(()) => form::refusal_of(0),
+        Err(refusal) => refusal,
+    }
 }
 
 // Values into the three images.
