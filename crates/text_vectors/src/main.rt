@@ -4,7 +4,7 @@
 
 ghost use Rattle.std.specs.Prelude.{◌≡◌, true, ◌<◌, ◌≤◌, length};
 
-use reading::Reading;
+use reading::ReadError;
 
 // More than the file has, so that the program ends whatever it reads.
 const RECORDS: usize = 100000;
@@ -40,15 +40,15 @@ fn read_part(rt: &impl Input, space: &mut [u8], n: usize) -> bool
     streams::read_full(rt, &mut space[..n]) == n
 }
 
-fn print_answer(rt: &impl Print, answer: Reading) {
+fn print_answer(rt: &impl Print, answer: Result<(), ReadError>) {
     match answer {
-        Reading::Accepted => {
+        Ok(()) => {
             streams::print(rt, b"accepted\n");
         }
-        Reading::TooLong => {
+        Err(ReadError::TooLong) => {
             streams::print(rt, b"too long\n");
         }
-        Reading::RefusedAt(place) => {
+        Err(ReadError::RefusedAt(place)) => {
             streams::print(rt, b"refused at ");
             streams::print_decimal(rt, place as u64);
             streams::print(rt, b"\n");
@@ -61,9 +61,9 @@ fn print_text(rt: &impl Print, part: &[u8]) {
 }
 
 // A part begins with a byte that says what its text is read as: 0, a prototype; otherwise the types of further arguments.
-fn read_text(part: &[u8]) -> Reading {
-    if part.len() == 0 {
-        return Reading::Accepted;
+fn read_text(part: &[u8]) -> Result<(), ReadError> {
+    if part.is_empty() {
+        return Ok(());
     }
     if part[0] == 0 {
         return reading::read_prototype(&part[1..]);
