@@ -195,7 +195,14 @@ pub fn cb_tidy(d: &[u8], out: &mut [u8]) -> Refusal
     ensures { (result ≡ refusal_for d.now (tidy_refusal d.now (length out.old)))
         × (out.new ≡ tidy_after d.now out.old) }
 {
+<<<<<<< HEAD
     refusal_in(tidying::tidy(d, out))
+=======
+    match tidying::tidy(d, out) {
+        Ok(()) => form::refusal_of(0),
+        Err(refusal) => refusal,
+    }
+>>>>>>> 871a8f58300bf287c6e4fe37a170ffd179696350
 }
 
 // Values into the three images.

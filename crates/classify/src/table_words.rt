@@ -23,13 +23,21 @@ impl Parts {
     fn one(first: Class) -> Parts
         ensures one { (result.first ≡ first) × (result.second ≡ Class.NoClass) × (result.gap.0 ≡ 0) }
     {
-        Parts { first, second: Class::NoClass, gap: Bytes(0) }
+        Parts {
+            first,
+            second: Class::NoClass,
+            gap: Bytes(0),
+        }
     }
 
     fn two(first: Class, second: Class, gap: usize) -> Parts
         ensures two { (result.first ≡ first) × (result.second ≡ second) × (result.gap.0 ≡ gap) }
     {
-        Parts { first, second, gap: Bytes(gap) }
+        Parts {
+            first,
+            second,
+            gap: Bytes(gap),
+        }
     }
 
     // Of each code below 16.

@@ -8,8 +8,8 @@ use mathlib.Core.List.{List}
 use Prim.Native.Nat.{ℕ, zero, suc, ◌+◌, ◌*◌, ◌^◌, ◌≤◌, ◌<◌}
 use native.Mathlib.Numerals.{add-one}
 use native.Mathlib.Omega.{arith}
-use borrow.Author.Tests.{eq-eqb, ne_eqb, eqb-true, eqb-false, lt-ltb, le-ltb, ltb-true, ltb-false}
-use lib.Dec.{ltb, eqb}
+use borrow.Author.Tests.{eq-eqb, ne_eqb, eqb-true, eqb-false, lt-ltb, le-ltb}
+use lib.Dec.{eqb}
 use Rattle.units.specs.Raise.{raise}
 use Rattle.description.specs.Description.{types_in, named_in, arguments_in}
 use Rattle.form.specs.declared.Refusal.{Refusal}
@@ -19,18 +19,15 @@ use Rattle.types.proofs.Wrong.{no_type}
 use Rattle.types.specs.Table.{filled, sizes_after}
 use Rattle.classify.specs.Table.{full_entry}
 use Rattle.uses.specs.Uses.{uses_refusal}
-use Rattle.places.specs.declared.Used.{Used}
-use Rattle.places.specs.Places.{eights, fresh, after, area_align, area}
-use Rattle.places.specs.Images.{total}
-use Rattle.places.proofs.Prefix.{total-append}
-use Rattle.layout.specs.Arguments.{is_named, shapes_from, return_place, returned_size, hidden, used_at, value_start, area_of}
+use Rattle.places.specs.Places.{fresh, area_align, area}
+use Rattle.layout.specs.Arguments.{is_named, return_place, returned_size, hidden, used_at, value_start, area_of}
 use Rattle.layout.specs.Asks.{Before, AskRecord, Alike}
 use Rattle.layout.specs.Placements.{laying_fresh, laying_at, step_at}
 use Rattle.layout.specs.Verdict.{verdict}
 use Rattle.layout.specs.Layout.{values_of, layout_of, uses_answer, layout_answer, check_answer, refusal_in, table_after}
 use Rattle.layout.specs.declared.Layout.{Layout}
 use Rattle.layout.specs.declared.placements.Laying.{Laying}
-use Rattle.layout.proofs.Arguments.{shapes-split, used-none, used-next, used-split, start_none, start-next}
+use Rattle.layout.proofs.Arguments.{used-none, used-next, start_none, start-next}
 use Rattle.layout.proofs.Verdict.{ten, no_ten, verdict-uses}
 use Rattle.layout.proofs.Bounds.{arguments-few, argument-small, before-next}
 

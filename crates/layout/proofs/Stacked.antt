@@ -19,7 +19,7 @@ use Rattle.uses.specs.Uses.{uses_refusal}
 use Rattle.uses.proofs.Uses.{accepted-types}
 use Rattle.places.specs.declared.Used.{Used}
 use Rattle.places.specs.Shapes.{Shape, Shaped, shape_of}
-use Rattle.places.specs.Places.{eights, fits, start, next, fresh}
+use Rattle.places.specs.Places.{eights, fits, start, next}
 use Rattle.places.proofs.Fits.{place-not, next_fits}
 use Rattle.places.proofs.Offsets.{stack-lowest, stack-rounded}
 use Rattle.layout.specs.Arguments.{shape_at, used_at, hidden}
@@ -28,7 +28,7 @@ use Rattle.layout.specs.Layout.{uses_answer}
 use Rattle.layout.specs.StackNeeds.{stacked, first_stacked, first_found, stack_need, stack_answer}
 use Rattle.layout.specs.declared.placements.Laying.{Laying}
 use Rattle.layout.specs.declared.needing.StackNeed.{StackNeed}
-use Rattle.layout.proofs.Arguments.{used-none, used-next}
+use Rattle.layout.proofs.Arguments.{used-next}
 use Rattle.layout.proofs.Bounds.{arguments-few, argument-known, argument-shaped}
 use Rattle.layout.proofs.Layouts.{laying_first, laying_next, uses-wrong}
 

@@ -63,7 +63,7 @@ pub fn refusal_in(answer: Result<Layout, Refusal>) -> Refusal
 // ---- any bytes
 
 // Which of 1 to 9 refuses any bytes. Where none does, the table holds what is known of each type.
-pub fn judge(d: &[u8], table: &mut [u32; 64]) -> Result<(), Refusal>
+pub(crate) fn judge(d: &[u8], table: &mut [u32; 64]) -> Result<(), Refusal>
     ensures { (result ≡ uses_answer d.now)
         × (table.new ≡ table_after d.now table.old)
         × (uses_refusal d.now ≡ 0 → Tabled d.now table.new)

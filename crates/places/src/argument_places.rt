@@ -88,7 +88,7 @@ impl Used {
     }
 
     // A register for each eightbyte: "If any eightbyte finds no register", none.
-    pub fn in_registers(&mut self, kinds: Kinds) -> Option<Place>
+    pub(crate) fn in_registers(&mut self, kinds: Kinds) -> Option<Place>
         requires { (self.old.general.0 ≤ 6) × (self.old.vector.0 ≤ 8) }
         ensures { IsFound self.old (listed kinds) result self.new }
     {

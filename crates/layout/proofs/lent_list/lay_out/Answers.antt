@@ -1,11 +1,11 @@
-use mathlib.Core.Path.{◌≡◌, refl, sym, ap, subst, ◌∙◌}
+use mathlib.Core.Path.{◌≡◌, sym, ap, subst, ◌∙◌}
 use Prim.Native.Nat.{ℕ}
 use native.Mathlib.Omega.{arith}
 use lib.ListN.{length}
 use Rattle.layout.specs.Asks.{AskRecord}
 use Rattle.layout.specs.Layout.{layout_of}
 use Rattle.layout.specs.Lists.{list_count, filled}
-use Rattle.layout.specs.Placements.{laying_fresh, step_at, placement_at}
+use Rattle.layout.specs.Placements.{step_at, placement_at}
 use Rattle.layout.specs.declared.Layout.{Layout}
 use Rattle.layout.specs.declared.placements.Laying.{Laying}
 use Rattle.layout.proofs.Layouts.{passed-on, record_asks, laying_first, laying_next}

@@ -3,7 +3,7 @@
 use mathlib.Core.Bool.{Bool}
 use mathlib.Core.List.{List}
 use mathlib.Core.Path.{◌≡◌, sym, ap, ◌∙◌}
-use Prim.Native.Nat.{ℕ, max, ◌+◌, ◌-◌, ◌≤◌, ◌<◌}
+use Prim.Native.Nat.{ℕ, max, ◌+◌, ◌-◌, ◌≤◌}
 use native.Mathlib.Omega.{arith}
 use lib.Dec.{eqb}
 use lib.ListN.{get_or}
@@ -12,7 +12,7 @@ use Rattle.classify.specs.Classify.{elements_at, classes_at, members_at}
 use Rattle.classify.specs.Table.{pair_in}
 use Rattle.classify.proofs.Known.{end_is}
 use Rattle.classify.proofs.Packed.{none-packed}
-use Rattle.classify.proofs.Steps.{element-ask, elements_ask, element-fits, elements_none, elements_done, member-ready, members-asks, member-fits, member-ask, members-ask, members-done, members-none, basic-code, basic-done, array-ask, array-done, group-ask, group-done}
+use Rattle.classify.proofs.Steps.{elements_ask, elements_none, elements_done, member-ready, members-asks, member-fits, member-ask, members-ask, members-done, members-none, basic-code, basic-done, array-ask, array-done, group-ask, group-done}
 use Rattle.description.specs.Description.{types_in, member_at, model_in}
 use Rattle.types.specs.Decode.{tys_from, ty_at}
 use Rattle.types.specs.Asks.{IsExtent}

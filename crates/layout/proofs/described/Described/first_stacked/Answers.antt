@@ -1,4 +1,4 @@
-use mathlib.Core.Path.{◌≡◌, sym, ap, subst, ◌∙◌}
+use mathlib.Core.Path.{◌≡◌, sym, subst, ◌∙◌}
 use native.Mathlib.Omega.{arith}
 use Rattle.std.proofs.lemmas.Map.Keys.{le_from_not_gt}
 use Rattle.description.specs.Description.{arguments_in}
@@ -6,7 +6,7 @@ use Rattle.layout.specs.Asks.{AskRecord}
 use Rattle.layout.specs.declared.placements.Laying.{Laying}
 use Rattle.places.proofs.Orders.{over_from_gt}
 use Rattle.layout.proofs.Layouts.{record_asks}
-use Rattle.layout.proofs.Stacked.{Looking, looking_first, looking_found, looking_on, looking_end}
+use Rattle.layout.proofs.Stacked.{looking_first, looking_found, looking_on, looking_end}
 use Rattle.layout.proofs.Steps.{named_by}
 use Rattle.layout.proofs.described.Described.first_stacked.Goals as goal
 
