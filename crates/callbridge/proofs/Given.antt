@@ -1,13 +1,15 @@
--- A change: a detach, its answer ignored, then an attach. Assumes nothing.
+-- What a call gives where the library answers under a number; a change: a detach, its answer ignored, then an attach. Assumes nothing.
 use Rattle.std.specs.Prelude.{Err, Ok}
-use mathlib.Core.Path.{◌≡◌, refl, ap, ap₂, ◌∙◌}
-use mathlib.Core.Bool.{cond}
+use mathlib.Core.Path.{◌≡◌, refl, sym, ap, ap₂, ◌∙◌}
+use mathlib.Core.Bool.{Bool, true, false, cond}
 use mathlib.Core.List.{List}
 use Prim.Native.Nat.{ℕ, zero, suc}
 use native.Mathlib.Omega.{arith}
 use borrow.Author.Tests.{ne_eqb}
 use lib.Dec.{eqb}
 use Rattle.form.specs.declared.Refusal.{Refusal}
+use Rattle.types.specs.Wrong.{refusal_for}
+use Rattle.types.proofs.Wrong.{no_type}
 use Rattle.station.specs.declared.Station.{Station}
 use Rattle.station.specs.Outcome.{leaves}
 use Rattle.station.specs.Paper.{kcb}
@@ -17,6 +19,20 @@ use Rattle.flat.specs.Stations.{station_meant, flat_station}
 use Rattle.flat.proofs.Kept.{station-means}
 use Rattle.callbridge.specs.Outcome.{refusal_in, left_in}
 use Rattle.callbridge.specs.StationCalls.{attach_given, detach_given, freed_station, change_given}
+
+-- what is given where there is no refusal, and where there is one
+pub chosen-ok : {A R : Type 0} (b : Bool) (new : A) (x : R) → cond b (Ok (tt {0})) (Err x) ≡ Ok tt → cond b (Ok new) (Err x) ≡ Ok new
+chosen-ok true new x e = refl
+chosen-ok false new x e = cc
+
+pub chosen-err : {A R : Type 0} (b : Bool) (new : A) (x y : R) → cond b (Ok (tt {0})) (Err x) ≡ Err y → cond b (Ok new) (Err x) ≡ Err y
+chosen-err true new x y e = cc
+chosen-err false new x y e = cc
+
+-- a call that gives nothing beside it answers the refusal
+pub number-told : (d : List ℕ) (n : ℕ) → refusal_in (cond (eqb n 0) (Ok (tt {0})) (Err (refusal_for d n))) ≡ refusal_for d n
+number-told d zero = sym (no_type d 0 refl refl)
+number-told d (suc n) = rw (ne_eqb (suc n) 0 (λ e. omega (arith, e))) refl
 
 -- what the detach leaves of the record means what a detach leaves of the station
 pub freed-means : (s : FlatStation) (seat : List ℕ) → station_meant (freed_station s seat) ≡ detach_station (station_meant s) seat

@@ -139,7 +139,7 @@ pub fn cb_member_offsets(d: &[u8], asked: u8, offsets: &mut [usize]) -> Refusal
     ensures { (result ≡ refusal_for d.now (offsets_refusal d.now asked (length offsets.old)))
         × (offsets.new ≡ offsets_after d.now asked offsets.old) }
 {
-    refusal_in(questions::member_offsets(d, asked, offsets))
+    questions::member_offsets(d, asked, offsets)
 }
 
 // The call as a whole.
@@ -195,14 +195,7 @@ pub fn cb_tidy(d: &[u8], out: &mut [u8]) -> Refusal
     ensures { (result ≡ refusal_for d.now (tidy_refusal d.now (length out.old)))
         × (out.new ≡ tidy_after d.now out.old) }
 {
-<<<<<<< HEAD
     refusal_in(tidying::tidy(d, out))
-=======
-    match tidying::tidy(d, out) {
-        Ok(()) => form::refusal_of(0),
-        Err(refusal) => refusal,
-    }
->>>>>>> 871a8f58300bf287c6e4fe37a170ffd179696350
 }
 
 // Values into the three images.
