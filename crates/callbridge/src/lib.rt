@@ -70,7 +70,8 @@ fn arguments_of(d: &[u8]) -> usize
     d.get(8).map_or(0, |&count| usize::from(count))
 }
 
-// The flat record of each argument into the list, and that of the call as a whole.
+// The flat record of each argument into the list, and that of the call as a whole. No generic function does this and `layout::lay_out`: its
+// contract would have to speak of any conversion of a record.
 fn lay_out(d: &[u8], list: &mut [Placement]) -> Result<Layout, Refusal>
     ensures { (result ≡ list_given d.now (length list.old))
         × (list.new ≡ filled (flat_at d.now) (list_count d.now (length list.old)) list.old) }
