@@ -47,7 +47,7 @@ fn aggregate_word(d: &[u8], k: usize, table: &[u32; 64], finished: &mut [u8; 512
     ensures { (result.0 ≡ word_of (classes_of (model_in d.now) (ty_at d.now k))) × Right d.now finished.new }
 {
     let size = types::extent_in(table, k).size;
-    if units::over(size, Bytes(16)) {
+    if size > Bytes(16) {
         let known = Known {
             d,
             table,

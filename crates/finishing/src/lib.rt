@@ -12,6 +12,7 @@ ghost use Rattle.finishing.specs.Asks.{Judged};
 
 use form::{Reason, Refusal};
 use layout::Described;
+use places::Argument;
 use station::Station;
 use units::Bytes;
 use walk::Walk;
@@ -37,7 +38,7 @@ fn bytes_left(known: Described, position: usize) -> Bytes
     ensures { result.0 ≡ sizes_from kcb known.entry.bytes.now position (arguments_in known.entry.bytes.now - position) }
 {
     let mut sum = Bytes(0);
-    for at in position..description::byte_at(known.bytes, 8) {
+    for at in position..known.arguments() {
         let ty = description::argument_at(known.bytes, at);
         let extent = types::extent_in(known.table, ty);
         sum = sum + extent.size;
@@ -61,11 +62,10 @@ fn may_finish(
     if walk.number != station.number {
         return Err(Refusal::from(Reason::OtherAttachment));
     }
-    if walk::is_astray(known.bytes, walk, known.table) {
+    if walk.is_astray(known) {
         return Err(Refusal::from(Reason::Astray));
     }
-    let left = description::byte_at(known.bytes, 8) - walk.position;
-    if asked.len() != left {
+    if asked.len() != known.arguments() - walk.position {
         return Err(Refusal::from(Reason::WrongTypeCount));
     }
     if other_types(known, walk.position, asked) {
@@ -87,13 +87,18 @@ fn fetch_all(known: Described, walk: Walk, registers: &[u8], stack: &[u8], out: 
 {
     let mut at = walk;
     let mut done = 0;
-    for position in walk.position..description::byte_at(known.bytes, 8) {
+    for position in walk.position..known.arguments() {
         let ty = description::argument_at(known.bytes, position);
-        let shape = places::shape_in(known.table, ty, false);
+        let argument = Argument {
+            table: known.table,
+            ty,
+            named: false,
+        };
+        let shape = argument.shape();
         let end = done + shape.size.0;
-        let fetch = walk::fetch_at(at, shape);
-        walk::copy_out(fetch, shape.size, registers, stack, &mut out[done..end]);
-        at = walk::moved_on(at, shape);
+        let fetch = at.fetch(shape);
+        fetch.copy_out(shape.size, registers, stack, &mut out[done..end]);
+        at = at.behind(shape);
         done = end;
     }
     at

@@ -6,6 +6,7 @@ ghost use Rattle.layout.specs.Placements.{laying_fresh, laying_at, step_of, step
 ghost use Rattle.layout.specs.Asks.{AskRecord, Alike};
 
 use crate::Described;
+use classify::Entry;
 use places::{Argument, Place, ReturnPlace, Used};
 use types::Extent;
 use units::Bytes;
@@ -132,8 +133,7 @@ impl<'a> Described<'a> {
     {
         let ty = description::argument_at(self.bytes, i);
         let argument = Argument {
-            table: self.table,
-            ty,
+            entry: Entry(self.table[ty]),
             named,
         };
         let mut used = laying.used;
@@ -158,8 +158,7 @@ impl<'a> Described<'a> {
     {
         let ty = description::argument_at(self.bytes, i);
         let argument = Argument {
-            table: self.table,
-            ty,
+            entry: Entry(self.table[ty]),
             named,
         };
         laying.values = laying.values + argument.extent().size;

@@ -6,7 +6,6 @@ use Rattle.std.proofs.lemmas.Result.{err_from_is_err_and}
 use Rattle.finishing.specs.Rest.{asking_rest}
 use Rattle.finishing.proofs.Checks.{laid-area, later-judged}
 use Rattle.finishing.proofs.Orders.{seated-early, seated-late, left-at, left-done}
-use Rattle.layout.proofs.Layouts.{laid-accepted}
 use Rattle.station.specs.Paper.{kcb}
 use Rattle.station.proofs.Attachments.{under-not, under-ok}
 use Rattle.station.proofs.Kcb.{laid-right, laid-not}
@@ -20,7 +19,7 @@ returns-in_err-layout c =
     rw (p.1, p.2) (left-at kcb c.args.station c.args.d.now c.args.walk.now (asking_rest c.args.registers.now c.args.stack.now c.args.asked.now c.args.out.now) _ _ (under-not kcb _ _ _ _ tt z.0 (omega (arith, z.1)) (seated-early kcb c.args.station c.args.d.now c.args.walk.now (asking_rest c.args.registers.now c.args.stack.now c.args.asked.now c.args.out.now) z.1)))
 
 pub invariant_of-known : goal.invariant_of-known
-invariant_of-known c = record { judged = laid-uses c.args.d.now _ (sym c.in_ok-layout.ensures.0); tabled = c.in_ok-layout.ensures.2 (laid-accepted c.args.d.now _ (sym c.in_ok-layout.ensures.0)).0 }
+invariant_of-known c = let e = c.in_ok-layout.ensures.3 in record { judged = e.2; tabled = e.3 }
 
 pub may_finish-requires : goal.may_finish-requires
 may_finish-requires c = laid-area c.args.d.now _ (sym c.in_ok-layout.ensures.0)

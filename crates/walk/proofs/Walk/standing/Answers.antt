@@ -4,7 +4,7 @@ use mathlib.Core.Path.{refl}
 use native.Mathlib.Omega.{arith}
 use Rattle.walk.specs.Offsets.{walk_at}
 use Rattle.walk.proofs.Fetches.{walk_same}
-use Rattle.walk.proofs.fetching.walk_at.Goals as goal
+use Rattle.walk.proofs.Walk.standing.Goals as goal
 
 pub returns : goal.returns
 unfolding walk_at
