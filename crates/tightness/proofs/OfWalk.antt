@@ -16,6 +16,15 @@ use Rattle.walk.proofs.fetch_at.Symbol as fetch_at_symbol
 use Rattle.walk.specs.contracts.moved_on
 use Rattle.walk.proofs.moved_on.Met as moved_on_met
 use Rattle.walk.proofs.moved_on.Symbol as moved_on_symbol
+use Rattle.walk.specs.contracts.fetching.CountsFromKind.from as CountsFromKind_from
+use Rattle.walk.proofs.fetching.CountsFromKind.from.Met as CountsFromKind_from_met
+use Rattle.walk.proofs.fetching.CountsFromKind.from.Symbol as CountsFromKind_from_symbol
+use Rattle.walk.specs.contracts.fetching.CountsAdd.add as CountsAdd_add
+use Rattle.walk.proofs.fetching.CountsAdd.add.Met as CountsAdd_add_met
+use Rattle.walk.proofs.fetching.CountsAdd.add.Symbol as CountsAdd_add_symbol
+use Rattle.walk.specs.contracts.fetching.CountsFromKinds.from as CountsFromKinds_from
+use Rattle.walk.proofs.fetching.CountsFromKinds.from.Met as CountsFromKinds_from_met
+use Rattle.walk.proofs.fetching.CountsFromKinds.from.Symbol as CountsFromKinds_from_symbol
 use Rattle.walk.specs.contracts.open_walk
 use Rattle.walk.proofs.open_walk.Met as open_walk_met
 use Rattle.walk.proofs.open_walk.Symbol as open_walk_symbol
@@ -31,9 +40,6 @@ use Rattle.walk.proofs.show_number.Symbol as show_number_symbol
 use Rattle.walk.specs.contracts.copy_out
 use Rattle.walk.proofs.copy_out.Met as copy_out_met
 use Rattle.walk.proofs.copy_out.Symbol as copy_out_symbol
-use Rattle.walk.specs.contracts.step_by_value
-use Rattle.walk.proofs.step_by_value.Met as step_by_value_met
-use Rattle.walk.proofs.step_by_value.Symbol as step_by_value_symbol
 use Rattle.walk.specs.contracts.step
 use Rattle.walk.proofs.step.Met as step_met
 use Rattle.walk.proofs.step.Symbol as step_symbol
@@ -61,6 +67,24 @@ meets_walk_moved_on M = moved_on_met.met
 
 pub tight_walk_moved_on : Tight moved_on.ended (λ M 𝓤 𝓛. moved_on.clauses 𝓛)
 tight_walk_moved_on c r q w v a b = (equal (result moved_on.ended c) a.ensured b.ensured, refl)
+
+pub meets_walk_CountsFromKind_from : Meets CountsFromKind_from.ended (λ M 𝓤 𝓛. CountsFromKind_from.clauses 𝓛) CountsFromKind_from_symbol.name CountsFromKind_from_symbol.code
+meets_walk_CountsFromKind_from M = CountsFromKind_from_met.met
+
+pub tight_walk_CountsFromKind_from : Tight CountsFromKind_from.ended (λ M 𝓤 𝓛. CountsFromKind_from.clauses 𝓛)
+tight_walk_CountsFromKind_from c r q w v a b = (settle (result CountsFromKind_from.ended c) a.ensured b.ensured (λ e f i. record { general = record { 0 = (e.general ∙ sym f.general) i }; vector = record { 0 = (e.vector ∙ sym f.vector) i } }), refl)
+
+pub meets_walk_CountsAdd_add : Meets CountsAdd_add.ended (λ M 𝓤 𝓛. CountsAdd_add.clauses 𝓛) CountsAdd_add_symbol.name CountsAdd_add_symbol.code
+meets_walk_CountsAdd_add M = CountsAdd_add_met.met
+
+pub tight_walk_CountsAdd_add : Tight CountsAdd_add.ended (λ M 𝓤 𝓛. CountsAdd_add.clauses 𝓛)
+tight_walk_CountsAdd_add c r q w v a b = (settle (result CountsAdd_add.ended c) a.ensured b.ensured (λ e f i. record { general = record { 0 = (e.0 ∙ sym f.0) i }; vector = record { 0 = (e.1 ∙ sym f.1) i } }), refl)
+
+pub meets_walk_CountsFromKinds_from : Meets CountsFromKinds_from.ended (λ M 𝓤 𝓛. CountsFromKinds_from.clauses 𝓛) CountsFromKinds_from_symbol.name CountsFromKinds_from_symbol.code
+meets_walk_CountsFromKinds_from M = CountsFromKinds_from_met.met
+
+pub tight_walk_CountsFromKinds_from : Tight CountsFromKinds_from.ended (λ M 𝓤 𝓛. CountsFromKinds_from.clauses 𝓛)
+tight_walk_CountsFromKinds_from c r q w v a b = (settle (result CountsFromKinds_from.ended c) a.ensured b.ensured (λ e f i. record { general = record { 0 = (e.general ∙ sym f.general) i }; vector = record { 0 = (e.vector ∙ sym f.vector) i } }), refl)
 
 pub meets_walk_open_walk : Meets open_walk.ended (λ M 𝓤 𝓛. open_walk.clauses 𝓛) open_walk_symbol.name open_walk_symbol.code
 meets_walk_open_walk M = open_walk_met.met
@@ -94,15 +118,6 @@ tight_walk_copy_out c r q w v a b = (refl, λ i. (tt, (tt, (tt, (tt, (same_out i
   where
     same_out : w.1.1.1.1.0 ≡ v.1.1.1.1.0
     same_out = equal bytes a.ensured b.ensured
-
-pub meets_walk_step_by_value : Meets step_by_value.ended (λ M 𝓤 𝓛. step_by_value.clauses 𝓛) step_by_value_symbol.name step_by_value_symbol.code
-meets_walk_step_by_value M = step_by_value_met.met
-
-pub tight_walk_step_by_value : Tight step_by_value.ended (λ M 𝓤 𝓛. step_by_value.clauses 𝓛)
-tight_walk_step_by_value c r q w v a b = (settle (result step_by_value.ended c) a.ensured b.ensured (λ e f i. record { walk = (e.1 ∙ sym f.1) i; refusal = (e.0 ∙ sym f.0) i }), λ i. (tt, (tt, (tt, (tt, (tt, (tt, (same_out i, tt))))))))
-  where
-    same_out : w.1.1.1.1.1.1.0 ≡ v.1.1.1.1.1.1.0
-    same_out = settle bytes a.ensured b.ensured (λ e f. e.2 ∙ sym f.2)
 
 pub meets_walk_step : Meets step.ended (λ M 𝓤 𝓛. step.clauses 𝓛) step_symbol.name step_symbol.code
 meets_walk_step M = step_met.met
