@@ -135,7 +135,7 @@ pub fn cb_member_offsets(d: &[u8], asked: u8, offsets: &mut [usize]) -> Refusal
     ensures { (result ≡ refusal_for d.now (offsets_refusal d.now asked (length offsets.old)))
         × (offsets.new ≡ offsets_after d.now asked offsets.old) }
 {
-    refusal_in(questions::member_offsets(d, asked, offsets))
+    form::refusal_in(questions::member_offsets(d, asked, offsets))
 }
 
 // The call as a whole.

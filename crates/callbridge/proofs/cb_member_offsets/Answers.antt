@@ -1,7 +1,7 @@
 -- What the list is told. Assumes nothing.
 use Rattle.std.proofs.Common.{length, ap, ◌∙◌}
 use Rattle.questions.specs.Offsets.{offsets_refusal}
-use Rattle.callbridge.specs.Outcome.{refusal_in}
+use Rattle.form.specs.Reading.{refusal_in}
 use Rattle.callbridge.proofs.Given.{number-told}
 use Rattle.callbridge.proofs.cb_member_offsets.Goals as goal
 
