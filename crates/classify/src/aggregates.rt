@@ -91,7 +91,7 @@ impl<'a> Known<'a> {
     {
         let mut merged = Packed::NONE;
         let mut offset = at;
-        for i in 0..count {
+        for _ in 0..count {
             merged = merged.merged(self.at(k, offset));
             offset = offset + size;
         }
