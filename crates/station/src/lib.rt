@@ -62,8 +62,7 @@ fn may_attach(station: Station, seat: &[u8], d: &[u8]) -> Result<(), Refusal>
     if station.number == u32::MAX {
         return Err(Refusal::from(Reason::NoMoreAttachments));
     }
-    layout::layout_of(d)?;
-    Ok(())
+    layout::check(d)
 }
 
 // Attaches to the station and the seat that the host lends: the station counts up and the seat is filled, or both stay.

@@ -1,11 +1,10 @@
 // The walk over unnamed arguments (document 01, "Station and walk"; 000, section 3.5.7): opened, checked, stepped, and the next argument shown where it lies.
 #![tactic(auto)]
 
-pub use checking::{checked, is_astray};
-pub use fetching::{fetch_at, moved_on};
+pub use checking::checked;
 pub use opening::open_walk;
 pub use showing::{Part, Shown, show, show_number, shown_at};
-pub use stepping::{copy_out, step};
+pub use stepping::step;
 
 mod fetching; // where a walk stands, fetches and stands then, worked out
 mod opening; // opening a walk
