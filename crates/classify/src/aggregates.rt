@@ -93,7 +93,7 @@ impl<'a> Known<'a> {
         let mut offset = at;
         for i in 0..count {
             merged = merged.merged(self.at(k, offset));
-            offset = units::plus(offset, size);
+            offset = offset + size;
         }
         merged
     }
@@ -110,8 +110,8 @@ impl<'a> Known<'a> {
             let member = description::member_at(self.d, i);
             let extent = types::extent_in(self.table, member);
             let offset = types::offset_after(union, end, extent.align);
-            merged = merged.merged(self.at(member, units::plus(at, offset)));
-            end = units::larger(end, units::plus(offset, extent.size));
+            merged = merged.merged(self.at(member, at + offset));
+            end = end.max(offset + extent.size);
         }
         merged
     }
