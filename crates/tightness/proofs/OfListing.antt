@@ -1,8 +1,10 @@
 -- Written by tools/tightness: each public function of `listing` meets its contract, and the contract is tight. Assumes nothing.
-use Rattle.std.specs.Prelude.{◌≡◌}
+use Rattle.std.specs.Prelude.{◌≡◌, refl}
 use mathlib.Core.Path.{sym, ◌∙◌}
+use mir.Syntax.{erased}
 use Rattle.tightness.specs.Tight.{Meets, Tight}
 use Rattle.tightness.proofs.Laws.{bytes, result, settle}
+use Rattle.listing.specs.contracts.texts.Text as listing_Text
 use Rattle.listing.specs.contracts.write_listing
 use Rattle.listing.proofs.write_listing.Met as write_listing_met
 use Rattle.listing.proofs.write_listing.Symbol as write_listing_symbol
@@ -37,11 +39,35 @@ meets_listing_Text_new M = Text_new_met.met
 pub meets_listing_Text_put : Meets Text_put.ended (λ M 𝓤 𝓛. Text_put.clauses 𝓛) Text_put_symbol.name Text_put_symbol.code
 meets_listing_Text_put M = Text_put_met.met
 
+pub tight_listing_Text_put : Tight Text_put.ended (λ M 𝓤 𝓛. Text_put.clauses 𝓛)
+tight_listing_Text_put c r q w v a b = (refl, λ i. (same_self i, (tt, tt)))
+  where
+    same_self : w.0 ≡ v.0
+    same_self = settle ((listing_Text.the_row (record { mir = erased; lft = c.lifetimes.0 })).coded) a.ensured b.ensured (λ e f. e.is ∙ sym f.is)
+
 pub meets_listing_Text_put_digit : Meets Text_put_digit.ended (λ M 𝓤 𝓛. Text_put_digit.clauses 𝓛) Text_put_digit_symbol.name Text_put_digit_symbol.code
 meets_listing_Text_put_digit M = Text_put_digit_met.met
+
+pub tight_listing_Text_put_digit : Tight Text_put_digit.ended (λ M 𝓤 𝓛. Text_put_digit.clauses 𝓛)
+tight_listing_Text_put_digit c r q w v a b = (refl, λ i. (same_self i, (tt, tt)))
+  where
+    same_self : w.0 ≡ v.0
+    same_self = settle ((listing_Text.the_row (record { mir = erased; lft = c.lifetimes.0 })).coded) a.ensured b.ensured (λ e f. e.is ∙ sym f.is)
 
 pub meets_listing_Text_put_decimal : Meets Text_put_decimal.ended (λ M 𝓤 𝓛. Text_put_decimal.clauses 𝓛) Text_put_decimal_symbol.name Text_put_decimal_symbol.code
 meets_listing_Text_put_decimal M = Text_put_decimal_met.met
 
+pub tight_listing_Text_put_decimal : Tight Text_put_decimal.ended (λ M 𝓤 𝓛. Text_put_decimal.clauses 𝓛)
+tight_listing_Text_put_decimal c r q w v a b = (refl, λ i. (same_self i, (tt, tt)))
+  where
+    same_self : w.0 ≡ v.0
+    same_self = settle ((listing_Text.the_row (record { mir = erased; lft = c.lifetimes.0 })).coded) a.ensured b.ensured (λ e f. e.is ∙ sym f.is)
+
 pub meets_listing_Text_put_number : Meets Text_put_number.ended (λ M 𝓤 𝓛. Text_put_number.clauses 𝓛) Text_put_number_symbol.name Text_put_number_symbol.code
 meets_listing_Text_put_number M = Text_put_number_met.met
+
+pub tight_listing_Text_put_number : Tight Text_put_number.ended (λ M 𝓤 𝓛. Text_put_number.clauses 𝓛)
+tight_listing_Text_put_number c r q w v a b = (refl, λ i. (same_self i, (tt, (tt, tt))))
+  where
+    same_self : w.0 ≡ v.0
+    same_self = settle ((listing_Text.the_row (record { mir = erased; lft = c.lifetimes.0 })).coded) a.ensured b.ensured (λ e f. e.is ∙ sym f.is)

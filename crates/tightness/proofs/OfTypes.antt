@@ -18,6 +18,9 @@ use Rattle.types.proofs.entries.Symbol as entries_symbol
 use Rattle.types.specs.contracts.wide
 use Rattle.types.proofs.wide.Met as wide_met
 use Rattle.types.proofs.wide.Symbol as wide_symbol
+use Rattle.types.specs.contracts.extent_by
+use Rattle.types.proofs.extent_by.Met as extent_by_met
+use Rattle.types.proofs.extent_by.Symbol as extent_by_symbol
 use Rattle.types.specs.contracts.extent_in
 use Rattle.types.proofs.extent_in.Met as extent_in_met
 use Rattle.types.proofs.extent_in.Symbol as extent_in_symbol
@@ -54,6 +57,12 @@ meets_types_wide M = wide_met.met
 
 pub tight_types_wide : Tight wide.ended (λ M 𝓤 𝓛. wide.clauses 𝓛)
 tight_types_wide c r q w v a b = (equal (result wide.ended c) a.ensured b.ensured, refl)
+
+pub meets_types_extent_by : Meets extent_by.ended (λ M 𝓤 𝓛. extent_by.clauses 𝓛) extent_by_symbol.name extent_by_symbol.code
+meets_types_extent_by M = extent_by_met.met
+
+pub tight_types_extent_by : Tight extent_by.ended (λ M 𝓤 𝓛. extent_by.clauses 𝓛)
+tight_types_extent_by c r q w v a b = (settle (result extent_by.ended c) a.ensured b.ensured (λ e f i. record { size = record { 0 = (e.size ∙ sym f.size) i }; align = record { 0 = (e.align ∙ sym f.align) i } }), refl)
 
 pub meets_types_extent_in : Meets extent_in.ended (λ M 𝓤 𝓛. extent_in.clauses 𝓛) extent_in_symbol.name extent_in_symbol.code
 meets_types_extent_in M = extent_in_met.met
