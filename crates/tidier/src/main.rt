@@ -16,8 +16,10 @@ const EILSEQ: i32 = 84;
 
 // The tidy form of a description, by a buffer of its length.
 fn write_tidy(rt: &HostRuntime, d: &[u8], out: &mut [u8]) {
-    tidying::tidy(d, out);
-    print(rt, out);
+    match tidying::tidy(d, out) {
+        Ok(()) => print(rt, out),
+        Err(refusal) => telling::refused(rt, refusal),
+    }
 }
 
 fn tidy(rt: &HostRuntime, d: &[u8]) {

@@ -9,12 +9,6 @@ use form::Refusal;
 // More than the file has, so that the program ends whatever it reads.
 const RECORDS: usize = 100000;
 
-#[derive(Clone, Copy)]
-enum Length {
-    Known(usize),
-    End,
-}
-
 fn print(rt: &impl Print, text: &[u8]) {
     streams::print(rt, text);
 }
@@ -28,18 +22,15 @@ fn print_number(rt: &impl Print, text: &[u8], n: u64) {
 // The number, and the type that breaks the rule of 6 or 7, which is 0 for the others.
 fn print_refusal(rt: &impl Print, refusal: Refusal) {
     print(rt, b"refused ");
-    streams::print_decimal(rt, refusal.number as u64);
-    print_number(rt, b" ", refusal.ty as u64);
+    streams::print_decimal(rt, u64::from(refusal.number));
+    print_number(rt, b" ", u64::from(refusal.ty));
 }
 
 // A digit in base 16.
 fn digit(n: u8) -> u8
     requires { n < 16 }
 {
-    if n < 10 {
-        return 48 + n;
-    }
-    87 + n
+    if n < 10 { b'0' + n } else { b'a' + (n - 10) }
 }
 
 fn print_byte(rt: &impl Print, byte: u8) {
@@ -49,22 +40,13 @@ fn print_byte(rt: &impl Print, byte: u8) {
 
 fn print_bytes(rt: &impl Print, text: &[u8], bytes: &[u8]) {
     print(rt, text);
-    if bytes.len() != 0 {
+    if !bytes.is_empty() {
         print(rt, b" ");
     }
-    for i in 0..bytes.len() {
-        print_byte(rt, bytes[i]);
+    for &byte in bytes {
+        print_byte(rt, byte);
     }
     print(rt, b"\n");
-}
-
-// What the buffer holds before.
-fn fill(out: &mut [u8]) {
-    let mut done = 0;
-    while done < out.len() {
-        out[done] = 0xEE;
-        done += 1;
-    }
 }
 
 // The length of the tidy form, and the form into a buffer that is of that length or not.
@@ -73,53 +55,39 @@ fn answer(rt: &impl Print, d: &[u8], out: &mut [u8]) {
         Ok(length) => print_number(rt, b"length ", length.0 as u64),
         Err(refusal) => print_refusal(rt, refusal),
     }
-    fill(out);
-    let refusal = tidying::tidy(d, out);
-    if refusal.number == 0 {
-        print(rt, b"tidy\n");
-    } else {
-        print_refusal(rt, refusal);
+    // What the buffer holds before.
+    out.fill(0xEE);
+    match tidying::tidy(d, out) {
+        Ok(()) => print(rt, b"tidy\n"),
+        Err(refusal) => print_refusal(rt, refusal),
     }
     print_bytes(rt, b"out", out);
 }
 
-fn wide(byte: u8) -> usize
-    ensures { result < 256 }
-{
-    byte as usize
-}
-
-// The length of a part, in two bytes before it.
-fn read_length(rt: &impl Input) -> Length {
+// The length of a part, in two bytes before it; none at the end of the input.
+fn read_length(rt: &impl Input) -> Option<usize> {
     let mut two = [0u8; 2];
     if streams::read_full(rt, &mut two) < 2 {
-        return Length::End;
+        return None;
     }
-    Length::Known(wide(two[0]) + 256 * wide(two[1]))
+    Some(usize::from(u16::from_le_bytes(two)))
 }
 
 // The next n bytes, into the start of space; false where there are not so many.
 fn read_part(rt: &impl Input, space: &mut [u8], n: usize) -> bool
     ensures { result ≡ true → n ≤ length space.new }
 {
-    if space.len() < n {
-        return false;
-    }
-    streams::read_full(rt, &mut space[..n]) == n
+    n <= space.len() && streams::read_full(rt, &mut space[..n]) == n
 }
 
-// How many bytes the buffer has, at most as many as there is room for.
+// How many bytes the buffer has: none where there is not room for them.
 fn read_room(rt: &impl Input, room: usize) -> usize
     ensures { result ≤ room }
 {
-    let length = read_length(rt);
-    let Length::Known(n) = length else {
-        return 0;
-    };
-    if room < n {
-        return 0;
+    match read_length(rt) {
+        Some(n) if n <= room => n,
+        _ => 0,
     }
-    n
 }
 
 // The buffer, and the answers.
@@ -132,8 +100,7 @@ fn answer_room(rt: &(impl Print + Input), d: &[u8]) {
 // One record; false at the end of the input.
 fn answer_next(rt: &(impl Print + Input)) -> bool {
     let mut space = streams::large_buffer();
-    let length = read_length(rt);
-    let Length::Known(n) = length else {
+    let Some(n) = read_length(rt) else {
         return false;
     };
     if !read_part(rt, &mut space, n) {
