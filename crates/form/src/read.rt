@@ -1,47 +1,51 @@
 // Reading the form of any bytes: the refusals 1 to 6 in their order, or the header (document 01, "Refusal numbers").
 ghost use Rattle.std.specs.Prelude.{◌≡◌};
 ghost use Rattle.form.specs.Order.{form_refusal};
-ghost use Rattle.form.specs.Reading.{reading_of};
+ghost use Rattle.form.specs.Reading.{judgment, form_refused, reading_of};
 
-use crate::{Refusal, conditions};
+use crate::{Reason, Refusal, conditions};
 use description::Header;
+
+// Which of the refusals 1 to 6 the description gets, and of 6 the lowest type that breaks the rule; nothing where its form is good.
+pub fn judge(d: &[u8]) -> Result<(), Refusal>
+    ensures { result ≡ judgment (form_refusal d.now) (form_refused d.now) }
+{
+    if d.len() < 11 {
+        return Err(Refusal::from(Reason::TooShort));
+    }
+    if conditions::wrong_mark(d) {
+        return Err(Refusal::from(Reason::WrongMark));
+    }
+    if conditions::wrong_version(d) {
+        return Err(Refusal::from(Reason::WrongVersion));
+    }
+    if conditions::wrong_counts(d) {
+        return Err(Refusal::from(Reason::WrongCounts));
+    }
+    if conditions::wrong_length(d) {
+        return Err(Refusal::from(Reason::WrongLength));
+    }
+    if let Some(k) = conditions::lowest_broken(d) {
+        return Err(Refusal::of_type(Reason::WrongRecord, k));
+    }
+    Ok(())
+}
 
 // Which of the refusals 1 to 6 the description gets, or 0.
 pub fn form_refusal(d: &[u8]) -> u8
     ensures { result ≡ form_refusal d.now }
 {
-    if d.len() < 11 {
-        return 1;
+    match judge(d) {
+        Ok(()) => 0,
+        Err(refusal) => refusal.number,
     }
-    if conditions::wrong_mark(d) {
-        return 2;
-    }
-    if conditions::wrong_version(d) {
-        return 3;
-    }
-    if conditions::wrong_counts(d) {
-        return 4;
-    }
-    if conditions::wrong_length(d) {
-        return 5;
-    }
-    let types = description::byte_at(d, 5);
-    if conditions::first_broken(d) < types {
-        return 6;
-    }
-    0
 }
 
 // The header of a description of good form, or its refusal among 1 to 6.
+#[tactic(auto, unfolding(crate::specs::Reading::reading_of))]
 pub fn read_form(d: &[u8]) -> Result<Header, Refusal>
     ensures { result ≡ reading_of d.now }
 {
-    let number = form_refusal(d);
-    if number == 0 {
-        return Ok(description::header_of(d));
-    }
-    if number == 6 {
-        return Err(crate::refusal_at(6, conditions::first_broken(d)));
-    }
-    Err(crate::refusal_of(number))
+    judge(d)?;
+    Ok(description::header_of(d))
 }

@@ -19,7 +19,7 @@ use Rattle.walk.specs.Orders.{Ask, offsets_of, standing, wrong_stack, step_refus
 use Rattle.walk.specs.Steps.{bytes_at}
 use Rattle.walk.proofs.Checks.{astray-not}
 use Rattle.walk.proofs.Passes.{show-passes, room, genuine_reads}
-use Rattle.walk.proofs.Shown.{part_bytes}
+use Rattle.walk.proofs.ShownParts.{part_bytes}
 use Rattle.walk.specs.Show.{whole, part_in, shown_bytes, shown_in, shown_answer, show_part}
 use Rattle.histories.specs.Calls.{Lends}
 use Rattle.histories.specs.Lawful.{Lawful, Holds}

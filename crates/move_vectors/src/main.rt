@@ -2,69 +2,13 @@
 // the rules answers.
 #![tactic(auto)]
 
-ghost use Rattle.std.specs.Prelude.{◌≡◌, true, ◌<◌, ◌≤◌, length};
-
 use form::Refusal;
-
-// More than the file has, so that the program ends whatever it reads.
-const RECORDS: usize = 100000;
-
-#[derive(Clone, Copy)]
-enum Length {
-    Known(usize),
-    End,
-}
-
-fn print(rt: &impl Print, text: &[u8]) {
-    streams::print(rt, text);
-}
-
-fn print_number(rt: &impl Print, text: &[u8], n: u64) {
-    print(rt, text);
-    streams::print_decimal(rt, n);
-    print(rt, b"\n");
-}
+use std::io;
+use streams::Hex;
 
 // The number, and the type that breaks the rule of 6 or 7, which is 0 for the others.
-fn print_refusal(rt: &impl Print, refusal: Refusal) {
-    print(rt, b"refused ");
-    streams::print_decimal(rt, refusal.number as u64);
-    print_number(rt, b" ", refusal.ty as u64);
-}
-
-// A digit in base 16.
-fn digit(n: u8) -> u8
-    requires { n < 16 }
-{
-    if n < 10 {
-        return 48 + n;
-    }
-    87 + n
-}
-
-fn print_byte(rt: &impl Print, byte: u8) {
-    let pair = [digit(byte / 16), digit(byte % 16)];
-    print(rt, &pair);
-}
-
-fn print_bytes(rt: &impl Print, text: &[u8], bytes: &[u8]) {
-    print(rt, text);
-    if bytes.len() != 0 {
-        print(rt, b" ");
-    }
-    for i in 0..bytes.len() {
-        print_byte(rt, bytes[i]);
-    }
-    print(rt, b"\n");
-}
-
-// What the buffer for gathering holds before.
-fn fill(out: &mut [u8]) {
-    let mut done = 0;
-    while done < out.len() {
-        out[done] = 0xEE;
-        done += 1;
-    }
+fn print_refusal(rt: &impl Print, refusal: Refusal) -> io::Result<()> {
+    println!(rt; "refused {} {}", refusal.number, refusal.ty)
 }
 
 // Places, and gathers from the images as they are then, whether or not placing was refused.
@@ -77,85 +21,38 @@ fn answer(
     upper: &mut [u8],
     stack: &mut [u8],
     out: &mut [u8],
-) {
+) -> io::Result<()> {
     match moving::place_values(d, hidden, values, registers, upper, stack) {
-        Ok(count) => print_number(rt, b"placed ", count.0 as u64),
-        Err(refusal) => print_refusal(rt, refusal),
+        Ok(count) => println!(rt; "placed {}", count.0)?,
+        Err(refusal) => print_refusal(rt, refusal)?,
     }
-    print_bytes(rt, b"registers", registers);
-    print_bytes(rt, b"upper", upper);
-    print_bytes(rt, b"stack", stack);
-    fill(out);
+    println!(rt; "registers{}", Hex(registers))?;
+    println!(rt; "upper{}", Hex(upper))?;
+    println!(rt; "stack{}", Hex(stack))?;
+    // What the buffer for gathering holds before.
+    out.fill(0xEE);
     match moving::gather_values(d, registers, upper, stack, out) {
-        Ok(address) => print_number(rt, b"gathered ", address),
-        Err(refusal) => print_refusal(rt, refusal),
+        Ok(address) => println!(rt; "gathered {address}")?,
+        Err(refusal) => print_refusal(rt, refusal)?,
     }
-    print_bytes(rt, b"values", out);
-}
-
-fn wide(byte: u8) -> usize
-    ensures { result < 256 }
-{
-    byte as usize
-}
-
-// The length of a part, in two bytes before it.
-fn read_length(rt: &impl Input) -> Length {
-    let mut two = [0u8; 2];
-    if streams::read_full(rt, &mut two) < 2 {
-        return Length::End;
-    }
-    Length::Known(wide(two[0]) + 256 * wide(two[1]))
-}
-
-// The next n bytes, into the start of space; false where there are not so many.
-fn read_part(rt: &impl Input, space: &mut [u8], n: usize) -> bool
-    ensures { result ≡ true → n ≤ length space.new }
-{
-    if space.len() < n {
-        return false;
-    }
-    streams::read_full(rt, &mut space[..n]) == n
-}
-
-// A part with its length before it, into the start of space: how many bytes that is.
-fn read_sized(rt: &impl Input, space: &mut [u8]) -> usize
-    ensures { result ≤ length space.new }
-{
-    let length = read_length(rt);
-    let Length::Known(n) = length else {
-        return 0;
-    };
-    if !read_part(rt, space, n) {
-        return 0;
-    }
-    n
-}
-
-// How many bytes are to be gathered, at most as many as there is room for.
-fn read_room(rt: &impl Input, room: usize) -> usize
-    ensures { result ≤ room }
-{
-    let length = read_length(rt);
-    let Length::Known(n) = length else {
-        return 0;
-    };
-    if room < n {
-        return 0;
-    }
-    n
+    println!(rt; "values{}", Hex(out))
 }
 
 // The three images and the room for gathering, and the answers.
-fn answer_images(rt: &(impl Print + Input), d: &[u8], hidden: u64, values: &[u8]) {
-    let mut registers = streams::large_buffer();
-    let mut upper = streams::large_buffer();
-    let mut stack = streams::large_buffer();
-    let mut out = streams::large_buffer();
-    let m = read_sized(rt, &mut registers);
-    let u = read_sized(rt, &mut upper);
-    let n = read_sized(rt, &mut stack);
-    let v = read_room(rt, 65536);
+fn answer_images(
+    rt: &(impl Print + Input),
+    d: &[u8],
+    hidden: u64,
+    values: &[u8],
+) -> io::Result<()> {
+    let mut registers = [0u8; 65536];
+    let mut upper = [0u8; 65536];
+    let mut stack = [0u8; 65536];
+    let mut out = [0u8; 65536];
+    let m = streams::read_part(rt, &mut registers).unwrap_or(0);
+    let u = streams::read_part(rt, &mut upper).unwrap_or(0);
+    let n = streams::read_part(rt, &mut stack).unwrap_or(0);
+    let v = streams::read_room(rt, out.len());
     answer(
         rt,
         d,
@@ -165,35 +62,28 @@ fn answer_images(rt: &(impl Print + Input), d: &[u8], hidden: u64, values: &[u8]
         &mut upper[..u],
         &mut stack[..n],
         &mut out[..v],
-    );
+    )
 }
 
 // The hidden address and the values, and what follows them.
-fn answer_values(rt: &(impl Print + Input), d: &[u8]) {
+fn answer_values(rt: &(impl Print + Input), d: &[u8]) -> io::Result<()> {
     let mut address = [0u8; 8];
-    let mut values = streams::large_buffer();
+    let mut values = [0u8; 65536];
     streams::read_full(rt, &mut address);
-    let n = read_sized(rt, &mut values);
-    answer_images(rt, d, images::address_in(&address), &values[..n]);
+    let n = streams::read_part(rt, &mut values).unwrap_or(0);
+    answer_images(rt, d, u64::from_le_bytes(address), &values[..n])
 }
 
-// One record; false at the end of the input.
-fn answer_next(rt: &(impl Print + Input)) -> bool {
-    let mut space = streams::large_buffer();
-    let length = read_length(rt);
-    let Length::Known(n) = length else {
-        return false;
-    };
-    if !read_part(rt, &mut space, n) {
-        return false;
-    }
-    answer_values(rt, &space[..n]);
-    true
+// One record; none at the end of the input.
+fn answer_next(rt: &(impl Print + Input)) -> Option<()> {
+    let mut space = [0u8; 65536];
+    let n = streams::read_part(rt, &mut space)?;
+    answer_values(rt, &space[..n]).ok()
 }
 
 fn main(rt: HostRuntime) {
-    for _ in 0..RECORDS {
-        if !answer_next(&rt) {
+    for _ in 0..streams::RECORDS {
+        if answer_next(&rt).is_none() {
             return;
         }
     }

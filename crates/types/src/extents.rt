@@ -8,18 +8,16 @@ ghost use Rattle.types.specs.Asks.{Sized, SizedRun, IsExtent, IsRun};
 ghost use Rattle.types.specs.Table.{Sizes};
 
 use crate::{Extent, table_entries};
-use description::Model;
+use description::{Model, TypeRecord};
 use units::Bytes;
 
 // Where a member goes, of a union or of a struct, those before it ending at `end`.
+#[tactic(auto, unfolding(crate::specs::Size::offset_after))]
 pub fn offset_after(union: bool, end: Bytes, align: Bytes) -> Bytes
     requires { (end.0 ≤ 2 ^ 32) × ((0 < align.0) × (align.0 ≤ 32)) }
     ensures { result.0 ≡ offset_after union end.0 align.0 }
 {
-    if union {
-        return Bytes(0);
-    }
-    units::raise_to(align, end)
+    if union { Bytes(0) } else { end.raised_to(align) }
 }
 
 // Where the members end after one more.
@@ -27,8 +25,7 @@ fn end_after(union: bool, end: Bytes, member: Extent) -> Bytes
     requires { ((end.0 ≤ 2 ^ 32) × (member.size.0 ≤ 4096)) × ((0 < member.align.0) × (member.align.0 ≤ 32)) }
     ensures { result.0 ≡ end_after union end.0 member.align.0 member.size.0 }
 {
-    let offset = offset_after(union, end, member.align);
-    units::larger(end, units::plus(offset, member.size))
+    end.max(offset_after(union, end, member.align) + member.size)
 }
 
 // ---- one type
@@ -37,12 +34,6 @@ fn end_after(union: bool, end: Bytes, member: Extent) -> Bytes
 const SIZES: [u8; 17] = [1, 1, 2, 4, 8, 16, 4, 8, 16, 16, 8, 16, 8, 16, 32, 8, 32];
 
 const ALIGNS: [u8; 17] = [1, 1, 2, 4, 8, 16, 4, 8, 16, 16, 8, 16, 4, 8, 16, 8, 32];
-
-fn number(byte: u8) -> usize
-    ensures { result ≡ byte }
-{
-    byte as usize
-}
 
 // Size and alignment of a pointer.
 fn pointer_extent(model: Model) -> Extent
@@ -66,12 +57,11 @@ fn basic_extent(d: &[u8], code: usize) -> Extent
     ensures { (result.size.0 ≡ basic_size (model_in d.now) code) × (result.align.0 ≡ basic_align (model_in d.now) code) }
 {
     if code == 15 {
-        let model = description::model_of(d);
-        return pointer_extent(model);
+        return pointer_extent(description::model_of(d));
     }
     Extent {
-        size: Bytes(number(SIZES[code])),
-        align: Bytes(number(ALIGNS[code])),
+        size: Bytes(usize::from(SIZES[code])),
+        align: Bytes(usize::from(ALIGNS[code])),
     }
 }
 
@@ -87,22 +77,14 @@ fn members_extent(
     requires { SizedRun (model_in d.now) d.now k first count 0 1 × Sizes (model_in d.now) d.now k table.now }
     ensures { IsRun (model_in d.now) (tys_from (ty_at d.now) d.now first count) union 0 1 result }
 {
-    let mut end = Bytes(0);
+    let mut size = Bytes(0);
     let mut align = Bytes(1);
-    let mut at = first;
-    let mut left = count;
-    while 0 < left {
-        let member = description::member_at(d, at);
-        let extent = table_entries::extent_in(table, member);
-        end = end_after(union, end, extent);
-        align = units::larger(align, extent.align);
-        at += 1;
-        left -= 1;
+    for at in first..first + count {
+        let member = table_entries::extent_in(table, description::member_at(d, at));
+        size = end_after(union, size, member);
+        align = align.max(member.align);
     }
-    Extent {
-        size: end,
-        align: align,
-    }
+    Extent { size, align }
 }
 
 // Size and alignment of type k, by the table of the types below it.
@@ -110,26 +92,25 @@ pub fn extent_of(d: &[u8], k: usize, table: &[u32; 64]) -> Extent
     requires { Sized (model_in d.now) d.now k × Sizes (model_in d.now) d.now k table.now }
     ensures { IsExtent (model_in d.now) (ty_at d.now k) result }
 {
-    let kind = description::kind_at(d, k);
-    let a = description::a_at(d, k);
-    if kind == 0 {
-        return basic_extent(d, a);
-    }
-    let count = description::count_at(d, k);
-    if kind == 1 {
-        let element = table_entries::extent_in(table, a);
-        let size = units::times(element.size, count);
-        let align = element.align;
-        return Extent {
-            size: size,
-            align: align,
-        };
-    }
-    let members = members_extent(d, k, a, count, kind == 3, table);
-    let align = members.align;
-    let size = units::raise_to(align, members.size);
-    Extent {
-        size: size,
-        align: align,
+    match description::record_at(d, k) {
+        TypeRecord::Basic { code, .. } => basic_extent(d, code),
+        TypeRecord::Array { element, count } => {
+            let one = table_entries::extent_in(table, element);
+            Extent {
+                size: one.size * count,
+                align: one.align,
+            }
+        }
+        TypeRecord::Group {
+            union,
+            first,
+            count,
+        } => {
+            let members = members_extent(d, k, first, count, union, table);
+            Extent {
+                size: members.size.raised_to(members.align),
+                align: members.align,
+            }
+        }
     }
 }

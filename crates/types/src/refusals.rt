@@ -1,54 +1,49 @@
 // The table of all sizes and alignments, and which of the refusals 1 to 7 any bytes get, with the type that 6 and 7 name (document 01, "Refusal numbers").
 ghost use Rattle.std.specs.Prelude.{◌≡◌};
 ghost use Rattle.form.specs.Order.{form_refusal};
-ghost use Rattle.types.specs.Large.{first_large, types_refusal};
+ghost use Rattle.form.specs.Reading.{judgment};
+ghost use Rattle.form.specs.Search.{first_within};
+ghost use Rattle.types.specs.Large.{large, first_large, types_refusal};
 ghost use Rattle.types.specs.Table.{entry_at, filled, Sizes, sizes_after};
 ghost use Rattle.description.specs.Description.{types_in, model_in};
 ghost use Rattle.types.specs.Wrong.{refusal_for, Judged};
 
 use crate::{extents, table_entries};
-use form::Refusal;
+use form::{Reason, Refusal};
 use units::Bytes;
 
-// Works the table out from number 0 upward, up to the first type of more than 4,096 bytes; the answer is that type, or the
-// number of types. Each size that a later type is made of is at most 4,096, so that no sum and no product overflows.
-fn fill_sizes(d: &[u8], table: &mut [u32; 64]) -> usize
+// Works the table out from number 0 upward, up to the first type of more than 4,096 bytes, which is the answer. Each size that
+// a later type is made of is at most 4,096, so that no sum and no product overflows.
+fn fill_sizes(d: &[u8], table: &mut [u32; 64]) -> Option<usize>
     requires { form_refusal d.now ≡ 0 }
-    ensures { (result ≡ first_large (model_in d.now) d.now)
+    ensures { (result ≡ first_within (large (model_in d.now) d.now) 0 (types_in d.now))
         × (table.new ≡ filled (entry_at (model_in d.now) d.now) (first_large (model_in d.now) d.now) table.old)
         × Sizes (model_in d.now) d.now (first_large (model_in d.now) d.now) table.new }
 {
-    table_entries::entries(table);
-    let types = description::byte_at(d, 5);
-    let mut k = 0;
-    while k < types {
+    for k in 0..description::byte_at(d, 5) {
         let extent = extents::extent_of(d, k, table);
-        if units::over(extent.size, Bytes(4096)) {
-            return k;
+        if Bytes(4096) < extent.size {
+            return Some(k);
         }
         table[k] = table_entries::entry_of(extent);
-        k += 1;
     }
-    k
+    None
 }
 
 // ---- refusals 1 to 7
 
-// Which of the refusals 1 to 7 the description gets, or 0: then the table has an entry for each type.
-pub fn types_refusal_with(d: &[u8], table: &mut [u32; 64]) -> u8
-    ensures { (result ≡ types_refusal d.now)
+// Which of the refusals 1 to 7 the description gets, and of 6 and 7 the lowest type that breaks the rule; nothing where it gets
+// none: then the table has an entry for each type.
+pub fn judge(d: &[u8], table: &mut [u32; 64]) -> Result<(), Refusal>
+    ensures { (result ≡ judgment (types_refusal d.now) (refusal_for d.now (types_refusal d.now)))
         × (table.new ≡ sizes_after d.now table.old)
         × (types_refusal d.now ≡ 0 → Sizes (model_in d.now) d.now (types_in d.now) table.new) }
 {
-    let number = form::form_refusal(d);
-    if number != 0 {
-        return number;
+    form::judge(d)?;
+    match fill_sizes(d, table) {
+        Some(k) => Err(Refusal::of_type(Reason::TooLarge, k)),
+        None => Ok(()),
     }
-    let types = description::byte_at(d, 5);
-    if fill_sizes(d, table) < types {
-        return 7;
-    }
-    0
 }
 
 // The refusal of a description under this number. It is looked for which type is wrong only once it is known that one is.
@@ -61,7 +56,8 @@ pub fn refusal_for(d: &[u8], number: u8) -> Refusal
     }
     if number == 7 {
         let mut table = [0u32; 64];
-        return form::refusal_at(7, fill_sizes(d, &mut table));
+        let types = description::byte_at(d, 5);
+        return form::refusal_at(7, fill_sizes(d, &mut table).unwrap_or(types));
     }
     form::refusal_of(number)
 }

@@ -14,6 +14,7 @@ pub fn entries(table: &[u32; 64]) -> usize
 }
 
 // The entry of a type in a table of sizes and alignments.
+#[tactic(auto, unfolding(crate::specs::Table::packed))]
 pub fn entry_of(extent: Extent) -> u32
     requires { (extent.size.0 ≤ 4096) × (extent.align.0 ≤ 32) }
     ensures { result ≡ packed extent.size.0 extent.align.0 }
@@ -32,7 +33,7 @@ pub fn extent_in(table: &[u32; 64], k: usize) -> Extent
     requires { k < 64 }
     ensures { IsEntry (get_or table.now k 0) result }
 {
-    let entry = wide(table[k]);
+    let entry = table[k] as usize;
     Extent {
         size: Bytes(entry % 8192),
         align: Bytes(entry / 8192 % 64),

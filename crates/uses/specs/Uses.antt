@@ -40,9 +40,13 @@ first_narrow d = first_from (narrow_argument d) (named_in d) (arguments_in d - n
 unfoldable pub narrow_unnamed : List ℕ → Bool
 narrow_unnamed d = ltb (first_narrow d) (arguments_in d)
 
+-- 8 and 9
+abbrev pub passing_order : List ℕ → List Rule
+passing_order d = rule 8 (wrong_use d) ∷ rule 9 (narrow_unnamed d) ∷ []
+
 -- 1 to 9
 abbrev pub uses_order : List ℕ → List Rule
-uses_order d = types_order d ++ rule 8 (wrong_use d) ∷ rule 9 (narrow_unnamed d) ∷ []
+uses_order d = types_order d ++ passing_order d
 
 -- which of 1 to 9 refuses the description, or 0
 unfoldable pub uses_refusal : List ℕ → ℕ

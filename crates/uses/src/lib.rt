@@ -1,110 +1,115 @@
 // What a call may use of a description's types (document 01, "Refusal numbers", 8 and 9), and which of 1 to 9 refuses any bytes.
 #![tactic(auto)]
 
-ghost use Rattle.std.specs.Prelude.{◌≡◌, ◌<◌};
-ghost use Rattle.description.specs.Description.{Whole, types_in, model_in};
-ghost use Rattle.uses.specs.Uses.{wrong_number, wrong_return, first_wrong, narrow, first_narrow, Typed, uses_refusal};
+ghost use Rattle.std.specs.Prelude.{◌≡◌, ◌≤◌, ◌<◌};
+ghost use Rattle.description.specs.Description.{Whole, types_in, named_in, arguments_in, model_in};
+ghost use Rattle.form.specs.Order.{first};
+ghost use Rattle.form.specs.Reading.{judgment, refusal_of};
+ghost use Rattle.uses.specs.Uses.{wrong_number, wrong_return, wrong_use, narrow, narrow_unnamed, Typed, passing_order, uses_refusal};
 ghost use Rattle.types.specs.Table.{sizes_after, Sizes};
+ghost use Rattle.types.specs.Wrong.{refusal_for};
+
+use description::TypeRecord;
+use form::{Reason, Refusal};
 
 // ---- 8: the return type and each argument
 
 // Whether number t is no type to pass or return by itself: not below T, or an array.
+#[tactic(auto, unfolding(crate::specs::Uses::wrong_number))]
 fn wrong_number(d: &[u8], t: usize) -> bool
     requires { Whole d.now }
     ensures { result ≡ wrong_number d.now t }
 {
-    let types = description::byte_at(d, 5);
-    if types <= t {
-        return true;
-    }
-    description::kind_at(d, t) == 1
+    description::byte_at(d, 5) <= t
+        || matches!(description::record_at(d, t), TypeRecord::Array { .. })
 }
 
 // Whether the number of the returned type is wrong; that of void is not.
+#[tactic(auto, unfolding(crate::specs::Uses::wrong_return))]
 fn wrong_return(d: &[u8]) -> bool
     requires { Whole d.now }
     ensures { result ≡ wrong_return d.now }
 {
     let returns = description::byte_at(d, 9);
-    if returns == 255 {
-        return false;
-    }
-    wrong_number(d, returns)
+    returns != 255 && wrong_number(d, returns)
 }
 
-// The first argument whose number is wrong, or the number of arguments.
-fn first_wrong(d: &[u8]) -> usize
+// Whether the return type or an argument has such a number.
+#[tactic(auto, unfolding(crate::specs::Uses::wrong_use))]
+fn wrong_use(d: &[u8]) -> bool
     requires { Whole d.now }
-    ensures { result ≡ first_wrong d.now }
+    ensures { result ≡ wrong_use d.now }
 {
-    let arguments = description::byte_at(d, 8);
-    let mut i = 0;
-    while i < arguments {
-        let t = description::argument_at(d, i);
-        if wrong_number(d, t) {
-            return i;
-        }
-        i += 1;
-    }
-    i
+    wrong_return(d)
+        || (0..description::byte_at(d, 8))
+            .any(|i| wrong_number(d, description::argument_at(d, i)))
 }
 
 // ---- 9: unnamed arguments
 
 // Whether type k is one that C widens where it is passed unnamed: _Bool, char, short or float.
+#[tactic(auto, unfolding(crate::specs::Uses::narrow))]
 fn is_narrow(d: &[u8], k: usize) -> bool
     requires { Whole d.now × (k < types_in d.now) }
     ensures { result ≡ narrow d.now k }
 {
-    if description::kind_at(d, k) != 0 {
-        return false;
+    match description::record_at(d, k) {
+        TypeRecord::Basic { code, .. } => code <= 2 || code == 6,
+        _ => false,
     }
-    let code = description::a_at(d, k);
-    if code <= 2 {
-        return true;
-    }
-    code == 6
 }
 
-// The first unnamed argument of such a type, or the number of arguments.
-fn first_narrow(d: &[u8]) -> usize
+// Whether an unnamed argument is of such a type.
+fn narrow_unnamed(d: &[u8]) -> bool
     requires { Typed d.now }
-    ensures { result ≡ first_narrow d.now }
+    ensures { result ≡ narrow_unnamed d.now }
 {
     let named = description::byte_at(d, 7);
     let arguments = description::byte_at(d, 8);
-    let mut i = named;
-    while i < arguments {
-        let t = description::argument_at(d, i);
-        if is_narrow(d, t) {
-            return i;
-        }
-        i += 1;
+    (named..arguments).any(
+        |i|
+            requires { Typed d.now × (i < arguments_in d.now) }
+        { is_narrow(d, description::argument_at(d, i)) },
+    )
+}
+
+// ---- 8 and 9
+
+// Which of the refusals 8 and 9 a description gets that none of those before them refuses.
+pub fn judge_passing(d: &[u8]) -> Result<(), Refusal>
+    requires { Whole d.now × (named_in d.now ≤ arguments_in d.now) }
+    ensures { result ≡ judgment (first (passing_order d.now)) (refusal_of (first (passing_order d.now))) }
+{
+    if wrong_use(d) {
+        return Err(Refusal::from(Reason::WrongNumber));
     }
-    i
+    if narrow_unnamed(d) {
+        return Err(Refusal::from(Reason::Unpromoted));
+    }
+    Ok(())
 }
 
 // ---- 1 to 9
 
-// Which of the refusals 1 to 9 the description gets, or 0: then the table has an entry for each type.
+// Which of the refusals 1 to 9 the description gets, and of 6 and 7 the lowest type that breaks the rule; nothing where it gets
+// none: then the table has an entry for each type.
+pub fn judge(d: &[u8], table: &mut [u32; 64]) -> Result<(), Refusal>
+    ensures { (result ≡ judgment (uses_refusal d.now) (refusal_for d.now (uses_refusal d.now)))
+        × (table.new ≡ sizes_after d.now table.old)
+        × (uses_refusal d.now ≡ 0 → Sizes (model_in d.now) d.now (types_in d.now) table.new) }
+{
+    types::judge(d, table)?;
+    judge_passing(d)
+}
+
+// The number alone, or 0.
 pub fn uses_refusal_with(d: &[u8], table: &mut [u32; 64]) -> u8
     ensures { (result ≡ uses_refusal d.now)
         × (table.new ≡ sizes_after d.now table.old)
         × (uses_refusal d.now ≡ 0 → Sizes (model_in d.now) d.now (types_in d.now) table.new) }
 {
-    let number = types::types_refusal_with(d, table);
-    if number != 0 {
-        return number;
+    match judge(d, table) {
+        Ok(()) => 0,
+        Err(refusal) => refusal.number,
     }
-    if wrong_return(d) {
-        return 8;
-    }
-    let arguments = description::byte_at(d, 8);
-    if first_wrong(d) < arguments {
-        return 8;
-    }
-    if first_narrow(d) < arguments {
-        return 9;
-    }
-    0
 }

@@ -6,4 +6,4 @@ pub mod Opens
 pub mod Passes
 pub mod Steps
 pub mod Copies
-pub mod Shown
+pub mod ShownParts

@@ -97,7 +97,7 @@ pub show-blind : (P : Paper) (s : Station) (seat : List ℕ) (w : Walk) (regs st
 unfolding show_refusal wrong_registers other_type wrong_stack
 show-blind P s seat w regs stack out ty = refl
 
-module _ (s : Station) (seat : List ℕ) (w : Walk) (regs stack out : List ℕ) (ty : ℕ) (t : Result Shape Refusal)
+module _ (s : Station) (seat : List ℕ) (w : Walk) (regs stack out : List ℕ) (ty : ℕ) (t : Result Coded Refusal)
     (h : IsStanding kcb (show_refusal kcb s seat w (asking regs stack ty [])) (described s seat) w.position t) where
   abbrev a : Ask
   a = asking regs stack ty out

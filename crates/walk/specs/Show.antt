@@ -1,5 +1,6 @@
 -- What show answers (document 01, "Station and walk"): a part of the register image or of the stack image, or the empty part.
 -- Assumes nothing: these are definitions.
+use Rattle.walk.specs.declared.showing.Shown.TheVariants.{Registers, Stack}
 use Rattle.std.specs.Prelude.{Bool, true, false, cond, List, [], ◌∷◌, ℕ, ◌+◌, ◌≤◌, eqb, take, drop, Err, None, Ok, Option, Result, Some}
 use Rattle.places.specs.declared.Kind.{Kind}
 use Rattle.places.specs.declared.Kind.TheVariants.{General as general, Vector as vector, Upper as upper, Wide as wide}

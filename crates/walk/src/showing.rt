@@ -13,6 +13,13 @@ use places::{Kind, Kinds, Shape};
 use station::Station;
 use units::Bytes;
 
+// Which image an argument lies in, in one part, and where.
+#[derive(Clone, Copy)]
+pub enum Shown {
+    Registers(Part),
+    Stack(Part),
+}
+
 // So many bytes of an image, from an offset on.
 #[derive(Clone, Copy)]
 pub struct Part {

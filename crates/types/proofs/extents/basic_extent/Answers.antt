@@ -13,13 +13,13 @@ use Rattle.types.proofs.extents.basic_extent.Goals as goal
 pub returns-then-code-eq15 : goal.returns-then-code-eq15
 unfolding basic_size basic_align
 returns-then-code-eq15 c = (
-  c.pointer_extent.ensures.0 ∙ ap pointer c.model_of-model.ensures ∙ rw c.if-code-eq15.true,
-  c.pointer_extent.ensures.1 ∙ ap pointer c.model_of-model.ensures ∙ rw c.if-code-eq15.true,
+  c.pointer_extent.ensures.0 ∙ ap pointer c.model_of.ensures ∙ rw c.if-code-eq15.true,
+  c.pointer_extent.ensures.1 ∙ ap pointer c.model_of.ensures ∙ rw c.if-code-eq15.true,
 )
 
 pub returns : goal.returns
 unfolding basic_size basic_align
 returns c = (
-  c.number.ensures ∙ other-entry (take 15 (sizes Lp64)) (32 ∷ []) 8 (pointer (model_in c.args.d.now)) c.args.code 0 1 (search rules) (search rules),
-  c.number-2.ensures ∙ other-entry (take 15 (aligns Lp64)) (32 ∷ []) 8 (pointer (model_in c.args.d.now)) c.args.code 0 1 (search rules) (search rules),
+  c.from.ensures ∙ other-entry (take 15 (sizes Lp64)) (32 ∷ []) 8 (pointer (model_in c.args.d.now)) c.args.code 0 1 (search rules) (search rules),
+  c.from-2.ensures ∙ other-entry (take 15 (aligns Lp64)) (32 ∷ []) 8 (pointer (model_in c.args.d.now)) c.args.code 0 1 (search rules) (search rules),
 )

@@ -1,13 +1,14 @@
 -- `members_extent` meets its contract. The invariant: what answers for the members that are left answers for all of them.
 -- Assumes nothing.
+use Prim.Native.Nat.{◌+◌, ◌-◌}
 use Rattle.description.specs.Description.{model_in}
 use Rattle.types.specs.declared.Extent.{Extent}
 use Rattle.types.specs.Asks.{SizedRun, IsRun}
 use Rattle.types.specs.Decode.{tys_from, ty_at}
 use Rattle.types.proofs.extents.members_extent.Given as goal
 
-abbrev pub invariant-loop-left : goal.invariant-loop-left
-invariant-loop-left l = SizedRun (model_in l.d) l.d l.k l.at l.left l.end.0 l.align.0 × ((r : Extent) → IsRun (model_in l.d) (tys_from (ty_at l.d) l.d l.at l.left) l.union l.end.0 l.align.0 r → IsRun (model_in l.d) (tys_from (ty_at l.d) l.d l.first l.count) l.union 0 1 r)
-
-abbrev pub decreases-loop-left : goal.decreases-loop-left
-decreases-loop-left l = l.left
+abbrev pub invariant-loop-at : goal.invariant-loop-at
+invariant-loop-at l = record {
+  left : SizedRun (model_in l.d) l.d l.k l.at (l.first + l.count - l.at) l.size.0 l.align.0;
+  answers : (r : Extent) → IsRun (model_in l.d) (tys_from (ty_at l.d) l.d l.at (l.first + l.count - l.at)) l.union l.size.0 l.align.0 r → IsRun (model_in l.d) (tys_from (ty_at l.d) l.d l.first l.count) l.union 0 1 r;
+}

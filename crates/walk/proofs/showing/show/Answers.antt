@@ -2,7 +2,7 @@
 -- Assumes nothing.
 use mathlib.Core.Path.{◌∙◌}
 use mathlib.Core.List.{[]}
-use Rattle.walk.proofs.Shown.{shows-bytes}
+use Rattle.walk.proofs.ShownParts.{shows-bytes}
 use Rattle.station.specs.Paper.{kcb}
 use Rattle.walk.specs.Orders.{asking}
 use Rattle.walk.proofs.showing.show.Goals as goal

@@ -1,6 +1,6 @@
 -- The refusal of the checks.
 -- Assumes nothing.
-use Rattle.walk.proofs.Shown.{number_is}
+use Rattle.walk.proofs.ShownParts.{number_is}
 use Rattle.station.specs.Paper.{kcb}
 use Rattle.walk.proofs.showing.show_number.Goals as goal
 

@@ -1,7 +1,7 @@
 -- Where 3.5.7 fetches the argument.
 -- Assumes nothing.
 use mathlib.Core.List.{[]}
-use Rattle.walk.proofs.Shown.{shown-refused, reached-here, small-here, shown-there}
+use Rattle.walk.proofs.ShownParts.{shown-refused, reached-here, small-here, shown-there}
 use Rattle.walk.specs.Orders.{asking}
 use Rattle.walk.proofs.showing.shown_at.Goals as goal
 
