@@ -6,8 +6,8 @@ pub use gathering::gather_by_plan;
 pub use placing::place_by_plan;
 pub use returned::{put_by_plan, take_by_plan};
 
-mod numbers; // the numbers of a plan
-mod copies; // one move
+mod head; // the numbers of a plan, and its lists
+mod moves; // the moves of a list, judged and made
 mod judging; // whether numbers are a plan
 mod placing; // place_by_plan
 mod gathering; // gather_by_plan

@@ -1,68 +1,47 @@
 // Putting and taking a returned value by a plan: 30, 11, 27 and 12, then its two moves.
-ghost use Rattle.std.specs.Prelude.{◌≡◌, ◌≤◌, length};
+ghost use Rattle.std.specs.Prelude.{◌≡◌, length};
 ghost use Rattle.returning.specs.Image.{blank_return};
-ghost use Rattle.plans.specs.Returned.{returns_formed, broken_returned, put_refusal_by, take_refusal_by, put_answer_by, return_image_by, take_answer_by, returned_after_by};
+ghost use Rattle.plans.specs.Returned.{broken_returned, put_refusal_by, take_refusal_by, put_answer_by, return_image_by, take_answer_by, returned_after_by};
+ghost use Rattle.by_plan.specs.Judged.{judged};
 
-use crate::{gathering, judging, numbers, placing};
-use form::Refusal;
+use crate::head::Plan;
+use crate::moves;
+use form::{Reason, Refusal};
 
 // ---- 30, 11, 27 and 12
 
-// Whether both moves are there, and lie within the value and the return images.
-fn returns_formed(plan: &[u16]) -> bool
-    ensures { result ≡ returns_formed plan.now }
-{
-    if plan.len() < 16 {
-        return false;
-    }
-    judging::parts_fit(plan, 10, 2, numbers::at(plan, 8), 96)
-}
-
 // 12: whether a _Bool is returned whose byte is not 0 or 1.
-fn broken_returned(plan: &[u16], value: &[u8]) -> bool
-    requires { 16 ≤ length plan.now }
-    ensures { result ≡ broken_returned plan.now value.now }
+fn broken_returned(plan: Plan, value: &[u8]) -> bool
+    ensures { result ≡ broken_returned plan.entry.numbers.now value.now }
 {
-    if numbers::at(plan, 9) == 0 {
-        return false;
-    }
-    if value.len() == 0 {
-        return false;
-    }
-    1 < value[0]
+    plan.at(9) != 0 && !value.is_empty() && 1 < value[0]
 }
 
-// Which refusal taking gets: 30, 11 in this order, or 0.
-fn take_refusal(plan: &[u16], value: usize, image: usize) -> u8
-    ensures { result ≡ take_refusal_by plan.now value image }
+// Which refusal taking gets: 30 where the two moves lie not within the value and the return images, 11.
+fn judge_taking(plan: Plan, value: usize, image: usize) -> Result<(), Refusal>
+    ensures { result ≡ judged (take_refusal_by plan.entry.numbers.now value image) }
 {
-    if !returns_formed(plan) {
-        return 30;
+    if !moves::parts_fit(plan.returned(), plan.at(8), 96) {
+        return Err(Refusal::from(Reason::NoPlan));
     }
-    if value != numbers::at(plan, 8) {
-        return 11;
+    if value != plan.at(8) || image != 96 {
+        return Err(Refusal::from(Reason::WrongBuffer));
     }
-    if image != 96 {
-        return 11;
-    }
-    0
+    Ok(())
 }
 
-// Which refusal putting gets: 30, 11, 27, 12 in this order, or 0.
-fn put_refusal(plan: &[u16], hidden: u64, value: &[u8], image: usize) -> u8
-    ensures { result ≡ put_refusal_by plan.now hidden value.now image }
+// Which refusal putting gets: 30, 11, 27, 12 in this order.
+fn judge_putting(plan: Plan, hidden: u64, value: &[u8], image: usize) -> Result<(), Refusal>
+    ensures { result ≡ judged (put_refusal_by plan.entry.numbers.now hidden value.now image) }
 {
-    let number = take_refusal(plan, value.len(), image);
-    if number != 0 {
-        return number;
-    }
-    if numbers::wide_address(plan, hidden) {
-        return 27;
+    judge_taking(plan, value.len(), image)?;
+    if plan.wide_address(hidden) {
+        return Err(Refusal::from(Reason::HiddenTooWide));
     }
     if broken_returned(plan, value) {
-        return 12;
+        return Err(Refusal::from(Reason::WrongBool));
     }
-    0
+    Ok(())
 }
 
 // ---- putting and taking
@@ -73,10 +52,9 @@ fn blank_return(memory: bool, hidden: u64, image: &mut [u8])
     ensures { image.new ≡ blank_return memory hidden }
 {
     addresses::clear(image);
-    if !memory {
-        return;
+    if memory {
+        images::put_address(image, hidden);
     }
-    images::put_address(image, hidden);
 }
 
 // Puts a returned value by a plan of any numbers: every byte of the return images is written, or none.
@@ -84,12 +62,10 @@ pub fn put_by_plan(plan: &[u16], hidden: u64, value: &[u8], image: &mut [u8]) ->
     ensures { (result ≡ put_answer_by plan.now hidden value.now (length image.old))
         × (image.new ≡ return_image_by plan.now hidden value.now image.old) }
 {
-    let number = put_refusal(plan, hidden, value, image.len());
-    if number != 0 {
-        return Err(form::refusal_of(number));
-    }
-    blank_return(numbers::uses_address(plan), hidden, image);
-    placing::move_parts(plan, 10, 2, value, image);
+    let head = Plan::new(plan)?;
+    judge_putting(head, hidden, value, image.len())?;
+    blank_return(head.uses_address(), hidden, image);
+    moves::move_parts::<{ moves::PLACING }>(head.returned(), value, image);
     Ok(())
 }
 
@@ -98,14 +74,9 @@ pub fn take_by_plan(plan: &[u16], image: &[u8], value: &mut [u8]) -> Result<u64,
     ensures { (result ≡ take_answer_by plan.now image.now (length value.old))
         × (value.new ≡ returned_after_by plan.now image.now value.old) }
 {
-    let number = take_refusal(plan, value.len(), image.len());
-    if number != 0 {
-        return Err(form::refusal_of(number));
-    }
+    let head = Plan::new(plan)?;
+    judge_taking(head, value.len(), image.len())?;
     addresses::clear(value);
-    gathering::turn_parts(plan, 10, 2, image, value);
-    if !numbers::uses_address(plan) {
-        return Ok(0);
-    }
-    Ok(images::address_in(image))
+    moves::move_parts::<{ moves::GATHERING }>(head.returned(), image, value);
+    Ok(head.address_in(image))
 }

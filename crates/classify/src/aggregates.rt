@@ -1,159 +1,141 @@
 // The classes of one type where it lies in the whole (document 01, "Classes of aggregates"): each member at its offset in the whole, in member order,
-// each inner aggregate cleaned up first. `classify_type` and `classify_members` call each other; an answer that is known is looked up. Classes are packed
+// each inner aggregate cleaned up first. `at` and `worked_out` call each other; an answer that is known is looked up. Classes are packed
 // in one number (packed_classes).
-ghost use Rattle.std.specs.Prelude.{◌≡◌, ◌+◌, ◌^◌, ◌≤◌, max, ◌<◌};
-ghost use Rattle.description.specs.Description.{model_in};
-ghost use Rattle.classes.specs.Classes.{no_classes};
-ghost use Rattle.types.specs.Decode.{ty_at, tys_from};
-ghost use Rattle.classify.specs.Classify.{elements_at, classes_at, members_at};
-ghost use Rattle.classify.specs.Asks.{AskType, AskElements, AskMembers};
-ghost use Rattle.classify.specs.Table.{pair_in, Ready, Listed};
+ghost use Rattle.classify.specs.Table.{Ready};
 
-use crate::{packed_classes, table_words};
+use crate::packed_classes::Packed;
+use crate::table_words;
+use crate::table_words::Entry;
+use crate::unions::Different;
 use units::Bytes;
 
-// Where members end that ended at `end`, once one of `size` bytes at `offset` is there too.
-fn end_past(end: Bytes, offset: Bytes, size: Bytes) -> Bytes
-    requires { offset.0 + size.0 ≤ 2 ^ 63 }
-    ensures { result.0 ≡ max end.0 (offset.0 + size.0) }
-{
-    units::larger(end, units::plus(offset, size))
+// A description whose types are sized, and what is known so far of their classes: the table has those of its first `types` types, at offset 0, and
+// `finished` other answers, that for type k at offset `at` below 8 in place 8 * k + at, or 0.
+#[derive(Clone, Copy)]
+pub struct Known<'a> {
+    pub d: &'a [u8],
+    pub table: &'a [u32; 64],
+    pub finished: &'a [u8; 512],
+    pub types: usize,
+    ghost ready: { Ready d.now table.now finished.now types },
 }
 
-// The answer for type k at offset `at` where it is known, or 0. Its entry has its classes, which are those at offset 0. A type that lies
-// in one eightbyte has one class, wherever it lies in it; other answers are finished ones.
-fn look_up(d: &[u8], k: usize, at: Bytes, table: &[u32; 64], finished: &[u8; 512]) -> u8
-    requires { AskType d.now k at.0 × Ready d.now table.now finished.now (k + 1) }
-    ensures { 0 < result → pair_in result ≡ classes_at (model_in d.now) 2 (ty_at d.now k) at.0 }
-{
-    let entry = types::wide(table[k]);
-    let first = (entry / 524288 % 128) as u8;
-    let offset = at.0;
-    if offset == 0 {
-        return first;
-    }
-    if 8 <= offset {
-        return 64 + 8 * (first % 8);
-    }
-    if offset + entry % 8192 <= 8 {
-        return first;
-    }
-    finished[8 * k + offset]
-}
+impl<'a> Known<'a> {
+    ghost use Rattle.std.specs.Prelude.{◌≡◌, ◌+◌, ◌^◌, ◌≤◌, max, ◌<◌, IfSome};
+    ghost use Rattle.description.specs.Description.{model_in};
+    ghost use Rattle.classes.specs.Classes.{no_classes};
+    ghost use Rattle.types.specs.Decode.{ty_at, tys_from};
+    ghost use Rattle.classify.specs.Classify.{elements_at, classes_at, members_at};
+    ghost use Rattle.classify.specs.Asks.{AskType, AskElements, AskMembers};
+    ghost use Rattle.classify.specs.Table.{pair_in, Listed};
 
-// The classes of type k at offset `at` of the whole: looked up, or worked out.
-#[cycle(type_classes)]
-fn classify_type(d: &[u8], k: usize, at: Bytes, table: &[u32; 64], finished: &[u8; 512]) -> u8
-    requires { AskType d.now k at.0 × Ready d.now table.now finished.now (k + 1) }
-    ensures { pair_in result ≡ classes_at (model_in d.now) 2 (ty_at d.now k) at.0 }
-{
-    let packed = look_up(d, k, at, table, finished);
-    if 0 < packed {
-        return packed;
+    // The answer for type k at offset `at` where it is known. Its entry has its classes, which are those at offset 0. A type that lies
+    // in one eightbyte has one class, wherever it lies in it; other answers are finished ones.
+    fn look_up(self, k: usize, at: Bytes) -> Option<Packed>
+        requires { AskType self.d.now k at.0 × (k < self.types) }
+        ensures { IfSome result (λ r. pair_in r.0 ≡ classes_at (model_in self.entry.d.now) 2 (ty_at self.entry.d.now k) at.0) }
+    {
+        let packed = Entry(self.table[k]).packed();
+        let offset = at.0;
+        if offset == 0 {
+            return Some(packed);
+        }
+        if 8 <= offset {
+            return Some(Packed(64 + 8 * packed.first()));
+        }
+        if offset + types::extent_in(self.table, k).size.0 <= 8 {
+            return Some(packed);
+        }
+        match self.finished[8 * k + offset] {
+            0 => None,
+            finished => Some(Packed(finished)),
+        }
     }
-    work_out(d, k, at, table, finished)
-}
 
-// The classes of type k at offset `at` of the whole, from those of the types that it names.
-#[cycle(type_classes)]
-pub fn work_out(d: &[u8], k: usize, at: Bytes, table: &[u32; 64], finished: &[u8; 512]) -> u8
-    requires { AskType d.now k at.0 × Ready d.now table.now finished.now k }
-    ensures { pair_in result ≡ classes_at (model_in d.now) 2 (ty_at d.now k) at.0 }
-{
-    let kind = description::kind_at(d, k);
-    let a = description::a_at(d, k);
-    if kind == 0 {
-        return table_words::pack(table_words::basic_at(a, at));
+    // The classes of type k at offset `at` of the whole: looked up, or worked out.
+    #[cycle(type_classes)]
+    fn at(self, k: usize, at: Bytes) -> Packed
+        requires { AskType self.d.now k at.0 × (k < self.types) }
+        ensures { pair_in result.0 ≡ classes_at (model_in self.entry.d.now) 2 (ty_at self.entry.d.now k) at.0 }
+    {
+        match self.look_up(k, at) {
+            Some(packed) => packed,
+            None => self.worked_out(k, at),
+        }
     }
-    let count = description::count_at(d, k);
-    if kind == 1 {
-        let element = types::extent_in(table, a);
-        let merged = classify_elements(d, a, count, element.size, at, table, finished);
-        return packed_classes::clean_packed(merged);
-    }
-    let merged = classify_members(d, k, a, count, kind == 3, at, table, finished);
-    packed_classes::clean_packed(merged)
-}
 
-// `count` elements of type k, of `size` bytes each, from offset `at` on, merged.
-#[cycle(type_classes)]
-fn classify_elements(
-    d: &[u8],
-    k: usize,
-    count: usize,
-    size: Bytes,
-    at: Bytes,
-    table: &[u32; 64],
-    finished: &[u8; 512],
-) -> u8
-    requires { AskElements d.now k count size.0 at.0 × Ready d.now table.now finished.now (k + 1) }
-    ensures { pair_in result ≡ elements_at (classes_at (model_in d.now) 2 (ty_at d.now k)) size.0 count at.0 (no_classes 2) }
-{
-    let mut merged: u8 = 64;
-    let mut offset = at;
-    let mut left = count;
-    while 0 < left {
-        let classes = classify_type(d, k, offset, table, finished);
-        merged = packed_classes::merge_packed(merged, classes);
-        offset = units::plus(offset, size);
-        left -= 1;
+    // The classes of type k at offset `at` of the whole, from those of the types that it names.
+    #[cycle(type_classes)]
+    pub fn worked_out(self, k: usize, at: Bytes) -> Packed
+        requires { AskType self.d.now k at.0 × (k ≤ self.types) }
+        ensures { pair_in result.0 ≡ classes_at (model_in self.entry.d.now) 2 (ty_at self.entry.d.now k) at.0 }
+    {
+        let kind = description::kind_at(self.d, k);
+        let a = description::a_at(self.d, k);
+        if kind == 0 {
+            return Packed::from(table_words::basic_at(a, at));
+        }
+        let count = description::count_at(self.d, k);
+        if kind == 1 {
+            let size = types::extent_in(self.table, a).size;
+            return self.of_elements(a, count, size, at).cleaned();
+        }
+        self.of_members(k, a, count, kind == 3, at).cleaned()
     }
-    merged
-}
 
-// `count` members of type k, which is at offset `at`, from place `first` on, merged.
-#[cycle(type_classes)]
-fn classify_members(
-    d: &[u8],
-    k: usize,
-    first: usize,
-    count: usize,
-    union: bool,
-    at: Bytes,
-    table: &[u32; 64],
-    finished: &[u8; 512],
-) -> u8
-    requires { AskMembers d.now k first count union 0 at.0 × Ready d.now table.now finished.now k }
-    ensures { pair_in result ≡ members_at (model_in d.now) 2 (tys_from (ty_at d.now) d.now first count) union 0 at.0 (no_classes 2) }
-{
-    let mut merged: u8 = 64;
-    let mut end = Bytes(0);
-    let mut i = first;
-    let mut left = count;
-    while 0 < left {
-        let member = description::member_at(d, i);
-        let extent = types::extent_in(table, member);
-        let offset = types::offset_after(union, end, extent.align);
-        let member_at = units::plus(at, offset);
-        let classes = classify_type(d, member, member_at, table, finished);
-        merged = packed_classes::merge_packed(merged, classes);
-        end = end_past(end, offset, extent.size);
-        i += 1;
-        left -= 1;
+    // `count` elements of type k, of `size` bytes each, from offset `at` on, merged.
+    #[cycle(type_classes)]
+    fn of_elements(self, k: usize, count: usize, size: Bytes, at: Bytes) -> Packed
+        requires { AskElements self.d.now k count size.0 at.0 × (k < self.types) }
+        ensures { pair_in result.0 ≡ elements_at (classes_at (model_in self.entry.d.now) 2 (ty_at self.entry.d.now k)) size.0 count at.0 (no_classes 2) }
+    {
+        let mut merged = Packed::NONE;
+        let mut offset = at;
+        for i in 0..count {
+            merged = merged.merged(self.at(k, offset));
+            offset = offset + size;
+        }
+        merged
     }
-    merged
-}
 
-// The classes of union k at offset `at` of the whole, from the list of its different members.
-pub fn classify_listed(
-    d: &[u8],
-    k: usize,
-    list: &[u8; 64],
-    n: usize,
-    at: Bytes,
-    table: &[u32; 64],
-    finished: &[u8; 512],
-) -> u8
-    requires { Listed d.now k list.now n × AskType d.now k at.0 × Ready d.now table.now finished.now k }
-    ensures { pair_in result ≡ classes_at (model_in d.now) 2 (ty_at d.now k) at.0 }
-{
-    let mut merged: u8 = 64;
-    let mut i = 0;
-    while i < n {
-        let member = table_words::wide(list[i]);
-        let classes = classify_type(d, member, at, table, finished);
-        merged = packed_classes::merge_packed(merged, classes);
-        i += 1;
+    // `count` members of type k, which is at offset `at`, from place `first` on, merged.
+    #[cycle(type_classes)]
+    fn of_members(self, k: usize, first: usize, count: usize, union: bool, at: Bytes) -> Packed
+        requires { AskMembers self.d.now k first count union 0 at.0 × (k ≤ self.types) }
+        ensures { pair_in result.0 ≡ members_at (model_in self.entry.d.now) 2 (tys_from (ty_at self.entry.d.now) self.entry.d.now first count) union 0 at.0 (no_classes 2) }
+    {
+        let mut merged = Packed::NONE;
+        let mut end = Bytes(0);
+        for i in first..first + count {
+            let member = description::member_at(self.d, i);
+            let extent = types::extent_in(self.table, member);
+            let offset = types::offset_after(union, end, extent.align);
+            merged = merged.merged(self.at(member, at + offset));
+            end = end.max(offset + extent.size);
+        }
+        merged
     }
-    packed_classes::clean_packed(merged)
+
+    // The classes of union k at offset `at` of the whole, from its different members.
+    fn of_different(self, k: usize, different: &Different, at: Bytes) -> Packed
+        requires { Listed self.d.now k different.now.members different.now.count × AskType self.d.now k at.0 × (k ≤ self.types) }
+        ensures { pair_in result.0 ≡ classes_at (model_in self.entry.d.now) 2 (ty_at self.entry.d.now k) at.0 }
+    {
+        let mut merged = Packed::NONE;
+        for &member in &different.members[..different.count] {
+            merged = merged.merged(self.at(usize::from(member), at));
+        }
+        merged.cleaned()
+    }
+
+    // The classes of aggregate k at offset `at` of the whole; `different` are its different members, if it is a union.
+    pub fn of_aggregate(self, k: usize, different: &Option<Different>, at: Bytes) -> Packed
+        requires { IfSome different.now (λ l. Listed self.d.now k l.members l.count) × AskType self.d.now k at.0 × (k ≤ self.types) }
+        ensures { pair_in result.0 ≡ classes_at (model_in self.entry.d.now) 2 (ty_at self.entry.d.now k) at.0 }
+    {
+        match different {
+            Some(different) => self.of_different(k, different, at),
+            None => self.worked_out(k, at),
+        }
+    }
 }

@@ -1,54 +1,65 @@
-// The classes of a basic type, and a type's classes as one word of the table: packed with what they ask for, put into an entry, and read again. Two classes are
-// packed as a pair; SSE and three SSEUP, which nothing over two eightbytes but a vector of 32 bytes has, are one more word.
-ghost use Rattle.std.specs.Prelude.{◌≡◌, [], ◌∷◌, ◌+◌, ◌*◌, ◌/◌, ◌%◌, ◌<◌, ◌≤◌, get_or};
-ghost use Rattle.types.specs.Tree.{basic};
-ghost use Rattle.description.specs.declared.Model.{Model};
-ghost use Rattle.classify.specs.Classify.{one_class, basic_at, classes_of};
-ghost use Rattle.classify.specs.Table.{class_by, pair_in, wide_in, packed_of, ask_of, asks_of, word_of};
+// The classes of a basic type, and a type's classes as one word of the table: packed with what they ask for, put into an entry, and read again.
+ghost use Rattle.std.specs.Prelude.{◌≡◌, ◌/◌, ◌<◌, ◌≤◌, get_or};
+ghost use Rattle.classify.specs.Classify.{one_class, basic_at};
+ghost use Rattle.classify.specs.Table.{pair_in, wide_in, ask_of, asks_of};
 
+use crate::packed_classes::Packed;
 use classes::Class;
 use units::Bytes;
 
-// Of each code below 16: its first class, the class of its second part, and how far on that part starts.
-const FIRST: [Class; 16] = [
-    Class::Integer,
-    Class::Integer,
-    Class::Integer,
-    Class::Integer,
-    Class::Integer,
-    Class::Integer,
-    Class::Sse,
-    Class::Sse,
-    Class::X87,
-    Class::Sse,
-    Class::Sse,
-    Class::Sse,
-    Class::Sse,
-    Class::Sse,
-    Class::ComplexX87,
-    Class::Integer,
-];
+// A basic type in parts: its first class, the class of its second part, NO_CLASS where there is none, and how far on that part starts.
+#[derive(Clone, Copy)]
+struct Parts {
+    first: Class,
+    second: Class,
+    gap: Bytes,
+}
 
-const SECOND: [Class; 16] = [
-    Class::NoClass,
-    Class::NoClass,
-    Class::NoClass,
-    Class::NoClass,
-    Class::NoClass,
-    Class::Integer,
-    Class::NoClass,
-    Class::NoClass,
-    Class::X87Up,
-    Class::SseUp,
-    Class::NoClass,
-    Class::SseUp,
-    Class::Sse,
-    Class::Sse,
-    Class::NoClass,
-    Class::NoClass,
-];
+impl Parts {
+    ghost use Rattle.std.specs.Prelude.{◌≡◌, ◌<◌};
+    ghost use Rattle.classify.specs.Classify.{first_class, second_class, gap};
 
-const GAP: [u8; 16] = [0, 0, 0, 0, 0, 8, 0, 0, 8, 8, 0, 8, 4, 8, 0, 0];
+    // One part.
+    fn one(first: Class) -> Parts
+        ensures one { (result.first ≡ first) × (result.second ≡ Class.NoClass) × (result.gap.0 ≡ 0) }
+    {
+        Parts {
+            first,
+            second: Class::NoClass,
+            gap: Bytes(0),
+        }
+    }
+
+    fn two(first: Class, second: Class, gap: usize) -> Parts
+        ensures two { (result.first ≡ first) × (result.second ≡ second) × (result.gap.0 ≡ gap) }
+    {
+        Parts {
+            first,
+            second,
+            gap: Bytes(gap),
+        }
+    }
+
+    // Of each code below 16.
+    #[tactic(auto, unfolding(crate::specs::Classify::first_class, crate::specs::Classify::second_class, crate::specs::Classify::gap))]
+    fn of(code: usize) -> Parts
+        requires { code < 16 }
+        ensures first { result.first ≡ first_class code }
+        ensures second { result.second ≡ second_class code }
+        ensures gap { result.gap.0 ≡ gap code }
+    {
+        match code {
+            0 | 1 | 2 | 3 | 4 | 15 => Parts::one(Class::Integer),
+            5 => Parts::two(Class::Integer, Class::Integer, 8),
+            6 | 7 | 10 => Parts::one(Class::Sse),
+            8 => Parts::two(Class::X87, Class::X87Up, 8),
+            9 | 11 => Parts::two(Class::Sse, Class::SseUp, 8),
+            12 => Parts::two(Class::Sse, Class::Sse, 4),
+            13 => Parts::two(Class::Sse, Class::Sse, 8),
+            _ => Parts::one(Class::ComplexX87),
+        }
+    }
+}
 
 // Of each code: its classes at offset 0 and what they ask for, in one number as `word_of` makes it. INTEGER alone is 64 + 1, and
 // 128 for one general register: 193. SSE and three SSEUP are 26, without the 64, and 128 times 16 for one vector register.
@@ -60,8 +71,7 @@ const WORDS: [u16; 17] = [
 fn put_class(at: Bytes, class: Class) -> [Class; 2]
     ensures { result ≡ one_class 2 at.0 class }
 {
-    let eightbyte = units::eightbyte_of(at);
-    let i = eightbyte.0;
+    let i = at.eightbyte().0;
     let mut classes = [Class::NoClass, Class::NoClass];
     if i < 2 {
         classes[i] = class;
@@ -74,53 +84,9 @@ pub fn basic_at(code: usize, at: Bytes) -> [Class; 2]
     requires { (code < 16) × (at.0 ≤ 4096) }
     ensures { result ≡ basic_at 2 code at.0 }
 {
-    let first = put_class(at, FIRST[code]);
-    let second_at = units::plus(at, Bytes(wide(GAP[code])));
-    let second = put_class(second_at, SECOND[code]);
-    classes::merge_both(first, second)
-}
-
-// The class with this number.
-fn class_by(code: usize) -> Class
-    requires { code < 8 }
-    ensures { result ≡ class_by code }
-{
-    match code {
-        0 => Class::NoClass,
-        1 => Class::Integer,
-        2 => Class::Sse,
-        3 => Class::SseUp,
-        4 => Class::X87,
-        5 => Class::X87Up,
-        6 => Class::ComplexX87,
-        _ => Class::Memory,
-    }
-}
-
-// Two classes out of one number.
-pub fn unpack(packed: usize) -> [Class; 2]
-    ensures { result ≡ pair_in packed }
-{
-    let first = class_by(packed % 8);
-    let second = class_by(packed / 8 % 8);
-    [first, second]
-}
-
-// Two classes in one number, which is not 0.
-pub fn pack(classes: [Class; 2]) -> u8
-    ensures { (result ≡ packed_of classes) × (pair_in result ≡ classes) }
-{
-    let first = classes[0];
-    let second = classes[1];
-    let low = classes::code_of(first);
-    let high = classes::code_of(second);
-    64 + low + 8 * high
-}
-
-pub fn wide(byte: u8) -> usize
-    ensures { result ≡ byte }
-{
-    byte as usize
+    let parts = Parts::of(code);
+    let first = put_class(at, parts.first);
+    classes::merge_both(first, put_class(at + parts.gap, parts.second))
 }
 
 // What is asked for where a class sends the argument to the stack: one general register more than there are, so that it never fits.
@@ -131,68 +97,109 @@ fn ask_of(class: Class) -> u32
     ensures { result ≡ ask_of class }
 {
     match class {
-        Class::NoClass => 0,
+        Class::NoClass | Class::SseUp => 0,
         Class::Integer => 1,
         Class::Sse => 16,
-        Class::SseUp => 0,
-        Class::X87 => ON_STACK,
-        Class::X87Up => ON_STACK,
-        Class::ComplexX87 => ON_STACK,
-        Class::Memory => ON_STACK,
+        Class::X87 | Class::X87Up | Class::ComplexX87 | Class::Memory => ON_STACK,
     }
 }
 
 // What a value with these classes asks for.
-fn asks_of(first: Class, second: Class) -> u32
-    ensures { result ≡ asks_of (first ∷ second ∷ []) }
+#[tactic(auto, using(crate::proofs::Table::ask_small), unfolding(crate::specs::Table::asks_of, classes::specs::Classes::same))]
+fn asks_of(classes: [Class; 2]) -> u32
+    ensures { result ≡ asks_of classes }
 {
-    let asks = ask_of(first) + ask_of(second);
-    if !classes::is_same(first, Class::NoClass) {
-        return asks;
+    match classes {
+        [Class::NoClass, Class::NoClass] => ON_STACK,
+        [first, second] => ask_of(first) + ask_of(second),
     }
-    if !classes::is_same(second, Class::NoClass) {
-        return asks;
+}
+
+// The classes of a type and what they ask for, in one number.
+#[derive(Clone, Copy)]
+pub struct Word(pub u32);
+
+impl Word {
+    ghost use Rattle.std.specs.Prelude.{◌≡◌, ◌<◌};
+    ghost use Rattle.types.specs.Tree.{basic};
+    ghost use Rattle.description.specs.declared.Model.{Model};
+    ghost use Rattle.classify.specs.Classify.{classes_of};
+    ghost use Rattle.classify.specs.Table.{word_of};
+
+    // SSE and three SSEUP, which ask for one vector register.
+    pub const VECTOR: Word = Word(2074);
+
+    // MEMORY, which asks for more than there are.
+    pub const MEMORY: Word = Word(967);
+
+    // The word of a basic type.
+    #[tactic(auto, using(crate::proofs::Table::basic_words))]
+    pub fn basic(code: usize) -> Word
+        requires { code < 17 }
+        ensures { (m : Model) → result.0 ≡ word_of (classes_of m (basic code)) }
+    {
+        Word(u32::from(WORDS[code]))
     }
-    ON_STACK
 }
 
-// Two classes and what they ask for, in one number.
-pub fn word_of(classes: [Class; 2]) -> u32
-    ensures { result ≡ word_of classes }
-{
-    let first = classes[0];
-    let second = classes[1];
-    let asks = asks_of(first, second);
-    pack(classes) as u32 + 128 * asks
+impl From<Packed> for Word {
+    ghost use Rattle.std.specs.Prelude.{◌≡◌};
+    ghost use Rattle.classify.specs.Table.{pair_in, word_of};
+
+    ghost from_gives = { λ packed r. r.0 ≡ word_of (pair_in packed.0) };
+
+    fn from(packed: Packed) -> Word {
+        let classes = packed.classes();
+        Word(u32::from(Packed::from(classes).0) + 128 * asks_of(classes))
+    }
 }
 
-// The same of classes that are packed.
-pub fn packed_word(packed: u8) -> u32
-    ensures { result ≡ word_of (pair_in packed) }
-{
-    word_of(unpack(wide(packed)))
-}
+// An entry of the table of types, once its word is there: 524,288 times the word, above size and alignment.
+#[derive(Clone, Copy)]
+pub struct Entry(pub u32);
 
-fn widened(word: u16) -> u32
-    ensures { result ≡ word }
-{
-    word as u32
-}
+impl Entry {
+    ghost use Rattle.std.specs.Prelude.{◌≡◌, ◌+◌, ◌*◌, ◌/◌, ◌%◌, ◌<◌};
+    ghost use Rattle.classify.specs.Table.{pair_in, wide_in, unpacked_of};
 
-// The same of a basic type.
-pub fn basic_word(code: usize) -> u32
-    requires { code < 17 }
-    ensures { (m : Model) → result ≡ word_of (classes_of m (basic code)) }
-{
-    widened(WORDS[code])
-}
+    // With a word in place of the one that is there.
+    pub fn with_word(self, word: Word) -> Entry
+        requires { word.0 < 8192 }
+        ensures { result.0 ≡ self.0 % 524288 + 524288 * word.0 }
+    {
+        Entry(self.0 % 524288 + 524288 * word.0)
+    }
 
-// An entry with classes and what they ask for.
-pub fn with_word(entry: u32, word: u32) -> u32
-    requires { word < 8192 }
-    ensures { result ≡ entry % 524288 + 524288 * word }
-{
-    entry % 524288 + 524288 * word
+    // Its classes.
+    #[tactic(auto, using(crate::proofs::Known::seven_unpacked))]
+    pub fn packed(self) -> Packed
+        ensures number { result.0 ≡ self.0 / 524288 % 128 }
+        ensures classes { unpacked_of result.0 ≡ unpacked_of (self.0 / 524288) }
+    {
+        Packed((self.0 / 524288 % 128) as u8)
+    }
+
+    // The registers that its classes ask for: general ones, and 16 times vector ones.
+    pub fn asks(self) -> usize
+        ensures { result ≡ self.0 / 67108864 }
+    {
+        (self.0 / 67108864) as usize
+    }
+
+    // Whether it has the four classes of a vector of 32 bytes.
+    pub fn is_wide(self) -> bool
+        ensures { result ≡ wide_in (self.0 / 524288) }
+    {
+        self.packed() == Packed::VECTOR
+    }
+
+    // Its classes, the first two of a vector's.
+    #[tactic(auto, using(crate::proofs::Known::seven_bits))]
+    pub fn classes(self) -> [Class; 2]
+        ensures { result ≡ pair_in (self.0 / 524288) }
+    {
+        self.packed().classes()
+    }
 }
 
 // Whether type k has the four classes of a vector of 32 bytes, by the table.
@@ -200,7 +207,7 @@ pub fn is_wide(table: &[u32; 64], k: usize) -> bool
     requires { k < 64 }
     ensures { result ≡ wide_in (get_or table.now k 0 / 524288) }
 {
-    types::wide(table[k]) / 524288 % 128 == 26
+    Entry(table[k]).is_wide()
 }
 
 // The classes of type k, by the table; of one that is wide, the first two.
@@ -208,5 +215,5 @@ pub fn classes_in(table: &[u32; 64], k: usize) -> [Class; 2]
     requires { k < 64 }
     ensures { result ≡ pair_in (get_or table.now k 0 / 524288) }
 {
-    unpack(types::wide(table[k]) / 524288)
+    Entry(table[k]).classes()
 }

@@ -2,11 +2,8 @@
 use mathlib.Core.Path.{◌≡◌, refl, sym, ap, ap₂, ◌∙◌}
 use mathlib.Core.List.{List, [], ◌∷◌, ◌++◌, append-nil, append_assoc}
 use Prim.Native.Nat.{ℕ, ◌+◌, ◌*◌, ◌-◌, ◌≤◌, ◌<◌, ◌^◌, min}
-use mathlib.Core.Bool.{Bool, true, false, not}
 use native.Mathlib.Decide.{dec_lt}
 use native.Mathlib.Omega.{arith}
-use borrow.Author.Tests.{eqb-true, ltb-true, ltb-false, not-true, not-false}
-use lib.Dec.{eqb, ltb}
 use lib.ListN.{length, get_or, length-map, length-append}
 use Rattle.addresses.specs.Addresses.{run, gather, scatter, Below}
 use Rattle.addresses.specs.Copy.{copied}
@@ -67,13 +64,6 @@ wide_room (Vector n) size h l = absurd (omega (arith, h.1))
 wide_room (Upper n) size h l = absurd (omega (arith, h.1))
 wide_room (Wide n) size h l = record { behind = omega arith; inside = omega (arith, h.0); least = h.1.0; most = h.1.1 }
 
--- by the test that code makes
-pub is-narrow : (b : Bool) (size : ℕ) → b ≡ ltb 8 size → not b ≡ true → size ≤ 8
-is-narrow b size e t = ltb-false 8 size (sym e ∙ not-true b t)
-
-pub is_wide : (b : Bool) (size : ℕ) → b ≡ ltb 8 size → not b ≡ false → 8 < size
-is_wide b size e t = ltb-true 8 size (sym e ∙ not-false b t)
-
 module _ (a : Register) (size k r y v : ℕ) (h : AskAlone a size k r y v) (x : ℕ) (q : x ≡ address_of a) where
   pub narrow-fits : size ≤ 8 → (x + size ≤ r) × (k + size ≤ v)
   narrow-fits l = omega (arith, narrow-room a size h.alone l, h.whole, h.there)
@@ -120,13 +110,6 @@ module _ (p : Place) (size k r y s v : ℕ) (h : AskMove p size k r y s v) where
 
 below-run : (p n m : ℕ) → p + n ≤ m → Below m (run p n)
 below-run p n m h = all-run p n (λ k l q. omega arith)
-
--- eight bytes have room where n have and n is eight
-pub room-eight : (to from n dst src : ℕ) → eqb n 8 ≡ true → (to + n ≤ dst) × (from + n ≤ src) → (to + 8 ≤ dst) × (from + 8 ≤ src)
-room-eight to from n dst src e h = omega (arith, eqb-true n 8 e, h)
-
-pub copied-eight : (dst src : List ℕ) (to from n : ℕ) → eqb n 8 ≡ true → (after : List ℕ) → after ≡ copied dst to src from 8 → after ≡ copied dst to src from n
-copied-eight dst src to from n e after f = f ∙ ap (λ (m : ℕ). copied dst to src from m) (sym (eqb-true n 8 e))
 
 -- a copy by way of a word
 pub copied-by_word : (dst src word : List ℕ) (to from n : ℕ) → length word ≡ n → (between after : List ℕ)

@@ -1,13 +1,14 @@
 -- Laws of a number in eight bytes, and the loop that writes them. Assumes nothing.
-use mathlib.Core.Path.{◌≡◌, refl, ap, ap₂, ◌∙◌}
-use mathlib.Core.List.{List, [], ◌∷◌}
+use mathlib.Core.Path.{◌≡◌, refl, sym, ap, ap₂, ◌∙◌}
+use mathlib.Core.List.{List, [], ◌∷◌, ◌++◌}
 use Prim.Native.Nat.{ℕ, zero, suc, ◌+◌, ◌*◌, ◌-◌, ◌/◌, ◌%◌, ◌^◌, ◌≤◌, ◌<◌}
-use native.Mathlib.Numerals.{add-one}
 use native.Mathlib.Omega.{arith}
-use lib.ListN.{length, get_or, set, length-set}
+use lib.ListN.{length, get_or, set, take, drop}
+use lib.Seq.{sets, sets-eq}
+use Rattle.std.proofs.lemmas.List.{get_or-take}
+use Rattle.std.specs.Int.{w64, to_le_bytes, from_le_bytes}
 use Rattle.addresses.specs.Addresses.{run, gather, scatter, All}
 use Rattle.addresses.proofs.Scatter.{length-scatter}
-use Rattle.description.specs.Description.{word_at}
 use Rattle.images.specs.Words.{little_endian, number, rdi, with_address, address_in}
 
 -- each way round
@@ -22,37 +23,36 @@ bytes_of-number (b ∷ bs) h =
     let rest : (b + 256 * number bs) / 256 ≡ number bs = omega arith in
     ap₂ ◌∷◌ low (ap (little_endian (length bs)) rest ∙ bytes_of-number bs h.1)
 
--- the address by its words of 16 bits
-pub address-words : (img : List ℕ) → word_at img 0 + 65536 * word_at img 2 + 4294967296 * (word_at img 4 + 65536 * word_at img 6) ≡ address_in img
+-- written as std writes a number, and read as it reads one
+pub written-address : (img : List ℕ) (h : ℕ) → h < 2 ^ 64 → 8 ≤ length img → (word : List ℕ) → word ≡ to_le_bytes w64 h → word ++ drop 8 img ≡ with_address img h
+unfolding with_address
+written-address img h m l word e =
+    let same : little_endian 8 h ≡ word = grind arith in
+    ap (λ (bs : List ℕ). bs ++ drop 8 img) (sym same) ∙ sym (scatter-sets (little_endian 8 h) img 0 ∙ sets-eq (little_endian 8 h) img 0 l)
+  where
+    scatter-sets : (vs to : List ℕ) (p : ℕ) → scatter to (run p (length vs)) vs ≡ sets to p vs
+    scatter-sets [] to p = refl
+    scatter-sets (v ∷ vs) to p = scatter-sets vs (set to p v) (suc p)
+
+pub read-address : (img word : List ℕ) → word ≡ take 8 img → (n : ℕ) → n ≡ from_le_bytes w64 word → n ≡ address_in img
 unfolding address_in
-address-words img = omega arith
+read-address img word e n f =
+    let t = λ (i : ℕ) (l : i < 8). ap (λ (bs : List ℕ). get_or bs i 0) e ∙ get_or-take 8 img i 0 l in
+    f ∙ omega (
+      arith,
+      t 0 (omega arith),
+      t 1 (omega arith),
+      t 2 (omega arith),
+      t 3 (omega arith),
+      t 4 (omega arith),
+      t 5 (omega arith),
+      t 6 (omega arith),
+      t 7 (omega arith),
+    )
 
 pub length-with : (img : List ℕ) (h : ℕ) → length (with_address img h) ≡ length img
 unfolding with_address
 length-with img h = length-scatter rdi img (little_endian 8 h)
-
--- ---- the loop: what is left to write from here comes to what was to be written at first
-module _ (img₀ : List ℕ) (h : ℕ) where
-  pub record Putting (img : List ℕ) (rest i : ℕ) : Type 0 where
-    pub long : length img ≡ length img₀
-    pub bound : i ≤ 8
-    pub same : scatter img (run i (8 - i)) (little_endian (8 - i) rest) ≡ with_address img₀ h
-
-  pub putting-first : Putting img₀ h 0
-  unfolding with_address
-  putting-first = record { long = refl; bound = omega arith; same = refl }
-
-  pub putting-next : (img : List ℕ) (rest i : ℕ) → i < 8 → Putting img rest i → Putting (set img i (rest % 256)) (rest / 256) (i + 1)
-  putting-next img rest i l p =
-      let e : 8 - i ≡ suc (8 - (i + 1)) = omega arith in
-      record {
-        long = length-set img i (rest % 256) ∙ p.long;
-        bound = omega arith;
-        same = rw (add-one i) (rw (add-one i) at (rw e at p.same));
-      }
-
-  pub putting-last : (img : List ℕ) (rest i : ℕ) → 8 ≤ i → Putting img rest i → img ≡ with_address img₀ h
-  putting-last img rest i l p = let e : 8 - i ≡ 0 = omega arith in rw e at p.same
 
 -- an address below 2^32 leaves the upper half of its register zero
 pub upper-zero : (img : List ℕ) (h : ℕ) → h < 4294967296 → gather img rdi ≡ little_endian 8 h → (k : ℕ) → 4 ≤ k → k < 8 → get_or img k 0 ≡ 0

@@ -16,10 +16,10 @@ pub fn address_of(register: Register) -> Bytes
     ensures { result.0 ≡ address_of register }
 {
     match register {
-        Register::General(n) => units::general_bytes(n),
-        Register::Vector(n) => units::plus(Bytes(48), units::vector_bytes(n)),
-        Register::Upper(n) => units::plus(Bytes(56), units::vector_bytes(n)),
-        Register::Wide(n) => units::plus(Bytes(48), units::vector_bytes(n)),
+        Register::General(n) => n.general_bytes(),
+        Register::Vector(n) => Bytes(48) + n.vector_bytes(),
+        Register::Upper(n) => Bytes(56) + n.vector_bytes(),
+        Register::Wide(n) => Bytes(48) + n.vector_bytes(),
     }
 }
 
@@ -28,17 +28,17 @@ fn upper_address(begin: Bytes) -> Bytes
     requires { 48 ≤ begin.0 }
     ensures { result.0 ≡ begin.0 - 48 }
 {
-    units::minus(begin, Bytes(48))
+    begin - Bytes(48)
 }
 
-// Copies eight bytes, by way of a word that lies apart from both: so compiled code loads once and stores once.
-fn copy_eight(dst: &mut [u8], to: Bytes, src: &[u8], from: Bytes)
-    requires { (to.0 + 8 ≤ length dst.old) × (from.0 + 8 ≤ length src.now) }
-    ensures { dst.new ≡ copied dst.old to.0 src.now from.0 8 }
+// Copies N bytes by way of a word that lies apart from both: so compiled code loads once and stores once.
+pub fn copy_word<const N: usize>(dst: &mut [u8], to: usize, src: &[u8], from: usize)
+    requires { (to + N ≤ length dst.old) × (from + N ≤ length src.now) }
+    ensures { dst.new ≡ copied dst.old to src.now from N }
 {
-    let mut word = [0u8; 8];
-    addresses::copy(&mut word, 0, src, from.0, 8);
-    addresses::copy(dst, to.0, &word, 0, 8);
+    let mut word = [0u8; N];
+    addresses::copy(&mut word, 0, src, from, N);
+    addresses::copy(dst, to, &word, 0, N);
 }
 
 // Copies count bytes: here offsets become indices. Most arguments have eight.
@@ -46,11 +46,11 @@ fn copy_bytes(dst: &mut [u8], to: Bytes, src: &[u8], from: Bytes, count: Bytes)
     requires { (to.0 + count.0 ≤ length dst.old) × (from.0 + count.0 ≤ length src.now) }
     ensures { dst.new ≡ copied dst.old to.0 src.now from.0 count.0 }
 {
-    if units::same(count, Bytes(8)) {
-        copy_eight(dst, to, src, from);
-        return;
+    if count == Bytes(8) {
+        copy_word::<8>(dst, to.0, src, from.0);
+    } else {
+        addresses::copy(dst, to.0, src, from.0, count.0);
     }
-    addresses::copy(dst, to.0, src, from.0, count.0);
 }
 
 // ---- one register
@@ -69,18 +69,17 @@ fn place_alone(
         ≡ scatter (registers.old ++ upper.old) (spread (slots_of register) size.0) (gather values.now (run at.0 size.0)) }
 {
     let begin = address_of(register);
-    if !units::over(size, Bytes(8)) {
+    if size <= Bytes(8) {
         copy_bytes(registers, begin, values, at, size);
         return;
     }
     copy_bytes(registers, begin, values, at, Bytes(16));
-    let rest = units::minus(size, Bytes(16));
     copy_bytes(
         upper,
         upper_address(begin),
         values,
-        units::plus(at, Bytes(16)),
-        rest,
+        at + Bytes(16),
+        size - Bytes(16),
     );
 }
 
@@ -98,18 +97,17 @@ fn gather_alone(
         ≡ scatter values.old (run at.0 size.0) (gather (registers.now ++ upper.now) (spread (slots_of register) size.0)) }
 {
     let begin = address_of(register);
-    if !units::over(size, Bytes(8)) {
+    if size <= Bytes(8) {
         copy_bytes(values, at, registers, begin, size);
         return;
     }
     copy_bytes(values, at, registers, begin, Bytes(16));
-    let rest = units::minus(size, Bytes(16));
     copy_bytes(
         values,
-        units::plus(at, Bytes(16)),
+        at + Bytes(16),
         upper,
         upper_address(begin),
-        rest,
+        size - Bytes(16),
     );
 }
 
@@ -133,13 +131,12 @@ pub fn place_one(
         Place::One(only) => place_alone(registers, upper, only, size, values, at),
         Place::Two(low, high) => {
             copy_bytes(registers, address_of(low), values, at, Bytes(8));
-            let rest = units::minus(size, Bytes(8));
             copy_bytes(
                 registers,
                 address_of(high),
                 values,
-                units::plus(at, Bytes(8)),
-                rest,
+                at + Bytes(8),
+                size - Bytes(8),
             );
         }
         Place::Stack(offset) => copy_bytes(stack, offset, values, at, size),
@@ -164,13 +161,12 @@ pub fn gather_one(
         Place::One(only) => gather_alone(registers, upper, only, size, values, at),
         Place::Two(low, high) => {
             copy_bytes(values, at, registers, address_of(low), Bytes(8));
-            let rest = units::minus(size, Bytes(8));
             copy_bytes(
                 values,
-                units::plus(at, Bytes(8)),
+                at + Bytes(8),
                 registers,
                 address_of(high),
-                rest,
+                size - Bytes(8),
             );
         }
         Place::Stack(offset) => copy_bytes(values, at, stack, offset, size),

@@ -2,7 +2,7 @@
 // address in rdi. Where a register lies in its image stands in `argument_bytes` and nowhere else.
 #![tactic(auto)]
 
-pub use argument_bytes::{address_of, gather_one, place_one};
+pub use argument_bytes::{address_of, copy_word, gather_one, place_one};
 pub use hidden_address::{address_in, put_address};
 
 mod hidden_address; // the hidden address, written into rdi and read

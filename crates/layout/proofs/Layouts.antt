@@ -1,36 +1,42 @@
 -- The layout as a whole: what is used and how many bytes the values have after any number of arguments. Assumes nothing.
-use Rattle.std.specs.Prelude.{Err, Ok}
-use mathlib.Core.Path.{◌≡◌, refl, sym, ap, ◌∙◌}
+use Rattle.std.specs.Prelude.{Err, Ok, Result}
+use Rattle.std.specs.Result.{IsErrAnd}
+use Rattle.std.proofs.lemmas.Result.{err_from_is_err_and}
+use mathlib.Core.Path.{◌≡◌, refl, sym, ap, subst, ◌∙◌}
 use mathlib.Core.Bool.{Bool, true, false, cond}
 use mathlib.Core.List.{List}
-use Prim.Native.Nat.{ℕ, zero, suc, ◌+◌, ◌-◌, ◌^◌, ◌≤◌, ◌<◌}
+use Prim.Native.Nat.{ℕ, zero, suc, ◌+◌, ◌*◌, ◌^◌, ◌≤◌, ◌<◌}
 use native.Mathlib.Numerals.{add-one}
 use native.Mathlib.Omega.{arith}
-use borrow.Author.Tests.{eq-eqb, ne_eqb, eqb-true, lt-ltb, le-ltb, ltb-true, ltb-false}
-use lib.Dec.{ltb, eqb}
+use borrow.Author.Tests.{eq-eqb, ne_eqb, eqb-true, lt-ltb, le-ltb}
+use lib.Dec.{eqb}
 use Rattle.units.specs.Raise.{raise}
 use Rattle.description.specs.Description.{types_in, named_in, arguments_in}
 use Rattle.form.specs.declared.Refusal.{Refusal}
-use Rattle.form.specs.Reading.{refusal_of}
+use Rattle.form.specs.Reading.{refusal_of, judgment}
+use Rattle.form.proofs.Judgment.{refused, judgment-none, judgment-some}
 use Rattle.types.specs.Wrong.{refusal_for}
 use Rattle.types.proofs.Wrong.{no_type}
 use Rattle.types.specs.Table.{filled, sizes_after}
 use Rattle.classify.specs.Table.{full_entry}
 use Rattle.uses.specs.Uses.{uses_refusal}
-use Rattle.places.specs.declared.Used.{Used}
-use Rattle.places.specs.Places.{eights, fresh, after, area_align, area}
-use Rattle.places.specs.Images.{total}
-use Rattle.places.proofs.Prefix.{total-append}
-use Rattle.layout.specs.Arguments.{is_named, shapes_from, return_place, returned_size, hidden, used_at, value_start, area_of}
-use Rattle.layout.specs.Asks.{Before, AskRecord, AskArguments, Alike, IsLaid}
-use Rattle.layout.specs.Placements.{laying_fresh, laying_at, step_at}
+use Rattle.places.specs.Places.{fresh, area_align, area}
+use Rattle.layout.specs.Arguments.{is_named, return_place, returned_size, hidden, used_at, value_start, area_of}
+use Rattle.layout.specs.Asks.{Before, AskRecord, Alike}
+use Rattle.layout.specs.Placements.{laying_fresh, laying_at, step_at, placement_at}
 use Rattle.layout.specs.Verdict.{verdict}
 use Rattle.layout.specs.Layout.{values_of, layout_of, layout_answer, refusal_in, table_after}
 use Rattle.layout.specs.declared.Layout.{Layout}
 use Rattle.layout.specs.declared.placements.Laying.{Laying}
-use Rattle.layout.proofs.Arguments.{shapes-split, used-none, used-next, used-split, start_none, start-next}
-use Rattle.layout.proofs.Verdict.{ten, no_ten}
+use Rattle.layout.specs.declared.placements.Placement.{Placement}
+use Rattle.layout.proofs.Arguments.{used-none, used-next, start_none, start-next}
+use Rattle.layout.proofs.Verdict.{ten, no_ten, verdict-uses}
 use Rattle.layout.proofs.Bounds.{arguments-few, argument-small, before-next}
+
+-- what is laid out where n arguments are: no count past its file, and so few bytes that no sum overflows
+pub record AskedAt (d : List ℕ) (n : ℕ) : Type 0 where
+  pub before : Before n (used_at d n)
+  pub sum : value_start d n ≤ 4096 * n
 
 pub fresh-before : (b : Bool) → Before 0 (fresh b)
 fresh-before true = omega arith
@@ -39,11 +45,8 @@ fresh-before false = omega arith
 module _ (d : List ℕ) where
   module _ (right : uses_refusal d ≡ 0) where
     -- after n arguments
-    pub asks_at : (n m : ℕ) → n ≤ m → m ≤ arguments_in d → AskArguments d n m (used_at d n) (value_start d n)
+    pub asks_at : (n m : ℕ) → n ≤ m → m ≤ arguments_in d → AskedAt d n
     asks_at zero m h l = record {
-      right = right;
-      order = h;
-      there = l;
       before = rw (used-none d) (fresh-before (hidden d));
       sum = omega (arith, start_none d);
     }
@@ -51,9 +54,6 @@ module _ (d : List ℕ) where
         let r = asks_at n m (omega arith) l in
         rw (← add-one n)
         (record {
-          right = right;
-          order = omega arith;
-          there = l;
           before = rw (used-next d n) (before-next d right n (used_at d n) (omega arith) r.before);
           sum = omega (arith, start-next d n, (argument-small d right n (omega arith)).size, r.sum);
         })
@@ -79,58 +79,46 @@ module _ (d : List ℕ) where
   unfolding is_named
   named-alike n h = record { each = λ j k l. lt-ltb j (named_in d) (omega arith) }
 
-  pub unnamed-alike : (n m : ℕ) → n ≡ named_in d → Alike d n m false
+  pub unnamed-alike : (n m : ℕ) → (n < m → named_in d ≤ n) → Alike d n m false
   unfolding is_named
-  unnamed-alike n m e = record { each = λ j k l. le-ltb j (named_in d) (omega arith) }
+  unnamed-alike n m h = record { each = λ j k l. let after = h (omega arith) in le-ltb j (named_in d) (omega arith) }
 
-  -- what the code finds, from rdi on
-  module _ (b : Bool) (f : Used) (is : b ≡ hidden d) (e : f ≡ fresh b) where
-    start : f ≡ used_at d 0
-    start = e ∙ ap fresh is ∙ sym (used-none d)
-
-    pub asks-first : uses_refusal d ≡ 0 → (n : ℕ) → n ≤ arguments_in d → AskArguments d 0 n f 0
-    asks-first right n l = record { right = right; order = omega arith; there = l; before = rw e (fresh-before b); sum = omega arith }
-
-    pub laid-used : (n : ℕ) (r : Laying) → IsLaid f 0 (shapes_from d 0 (n - 0)) r → r.used ≡ used_at d n
-    laid-used n r h = h.used ∙ ap (λ (u : Used). after eights u (shapes_from d 0 (n - 0))) start ∙ sym (used-split d 0 n (omega arith))
-
-    pub laid-values : (n : ℕ) (r : Laying) → IsLaid f 0 (shapes_from d 0 (n - 0)) r → r.values.0 ≡ value_start d n
-    unfolding value_start
-    laid-values n r h = let q : n - 0 ≡ n = omega arith in rw q at h.values ∙ omega arith
-
-    -- the named arguments first, and then others
-    module _ (p r : Laying) (n m : ℕ) (order : n ≤ m) (h : IsLaid f 0 (shapes_from d 0 (n - 0)) p) where
-      pub asks_rest : uses_refusal d ≡ 0 → m ≤ arguments_in d → AskArguments d n m p.used p.values.0
-      asks_rest right most = rw (laid-used n p h, laid-values n p h) (asks_at right n m order most)
-
-      module _ (k : IsLaid p.used p.values.0 (shapes_from d n (m - n)) r) where
-        pub whole-used : r.used ≡ used_at d m
-        whole-used = k.used ∙ ap (λ (u : Used). after eights u (shapes_from d n (m - n))) (laid-used n p h) ∙ sym (used-split d n m order)
-
-        pub whole-values : r.values.0 ≡ value_start d m
-        unfolding value_start
-        whole-values =
-            k.values
-            ∙ ap (λ (v : ℕ). v + total (shapes_from d n (m - n))) (laid-values n p h)
-            ∙ sym (ap total (shapes-split d n m order) ∙ total-append (shapes_from d 0 n) (shapes_from d n (m - n)))
+  -- where the code begins
+  pub laying_first : (b : Bool) → b ≡ hidden d → (l : Laying) → l ≡ laying_fresh b → l ≡ laying_at d 0
+  laying_first b is l e = e ∙ ap laying_fresh is ∙ sym laying_none
 
   -- rounding the area up does not overflow
-  pub whole-small : uses_refusal d ≡ 0 → (u : Used) → u ≡ used_at d (arguments_in d) → u.stack.0 ≤ 2 ^ 20
-  whole-small right u e =
+  pub laying-small : uses_refusal d ≡ 0 → (l : Laying) → l ≡ laying_at d (arguments_in d) → l.used.stack.0 ≤ 2 ^ 20
+  unfolding laying_at
+  laying-small right l e =
       omega (
         arith,
-        ap (λ (w : Used). w.stack.0) e,
+        ap (λ (x : Laying). x.used.stack.0) e,
         (asks_at right (arguments_in d) (arguments_in d) (omega arith) (omega arith)).before.stack,
         arguments-few d right,
       )
 
-  pub layout_is : (r : Layout) → r.used ≡ used_at d (arguments_in d) → r.align.0 ≡ area_align r.used → r.area.0 ≡ raise (area_align r.used) r.used.stack.0
-      → r.values.0 ≡ value_start d (arguments_in d) → r.returns ≡ return_place d → r.returned.0 ≡ returned_size d → r.hidden ≡ hidden d → r.named ≡ used_at d (named_in d) → r ≡ layout_of d
-  unfolding layout_of values_of value_start area_of area used_at
-  layout_is r u l a v p s q n =
-      let align : r.align.0 ≡ area_align (used_at d (arguments_in d)) = l ∙ ap area_align u in
-      let area : r.area.0 ≡ area_of d = a ∙ ap (λ (x : Used). raise (area_align x) x.stack.0) u in
-      λ i. record { used = u i; area = record { 0 = area i }; align = record { 0 = align i }; values = record { 0 = v i }; returns = p i; returned = record { 0 = s i }; hidden = q i; named = n i }
+  pub layout_is : (l : Laying) → l ≡ laying_at d (arguments_in d) → (start : Laying) → start ≡ laying_at d (named_in d)
+      → (r : Layout) → r.used ≡ l.used → r.align.0 ≡ area_align l.used → r.area.0 ≡ raise (area_align l.used) l.used.stack.0 → r.values ≡ l.values
+      → r.returns ≡ return_place d → r.returned.0 ≡ returned_size d → r.hidden ≡ hidden d → r.named ≡ start.used → r ≡ layout_of d
+  unfolding layout_of laying_at values_of value_start area_of area used_at
+  layout_is l e start f r u w a v p s q n =
+      let align : r.align.0 ≡ area_align (used_at d (arguments_in d)) = w ∙ ap (λ (x : Laying). area_align x.used) e in
+      let area : r.area.0 ≡ area_of d = a ∙ ap (λ (x : Laying). raise (area_align x.used) x.used.stack.0) e in
+      λ i. record {
+        used = (u ∙ ap (λ (x : Laying). x.used) e) i;
+        area = record { 0 = area i };
+        align = record { 0 = align i };
+        values = (v ∙ ap (λ (x : Laying). x.values) e) i;
+        returns = p i;
+        returned = record { 0 = s i };
+        hidden = q i;
+        named = (n ∙ ap (λ (x : Laying). x.used) f) i;
+      }
+
+-- what `?` passes on
+pub passed-on : {T : Type 0} {e : Refusal} (r : Result T Refusal) → IsErrAnd r (λ x. x ≡ e) → r ≡ Err e
+passed-on r h = let y = err_from_is_err_and r h in y.1 ∙ ap Err y.2
 
 -- the answer
 answered : (d : List ℕ) (b : Bool) → eqb (verdict d) 0 ≡ b → layout_answer d ≡ cond b (Ok (layout_of d)) (Err (refusal_for d (verdict d)))
@@ -149,11 +137,17 @@ module _ (d : List ℕ) (right : uses_refusal d ≡ 0) (l : Layout) (is : l ≡ 
   unfolding layout_of
   area-is = ap (λ (k : Layout). k.area.0) is
 
-  pub answer-wide : (r : Refusal) → r ≡ refusal_of 10 → ltb 16384 l.area.0 ≡ true → Err r ≡ layout_answer d
-  answer-wide r e h = answer-refused d 10 r (e ∙ sym (no_type d 10 refl refl)) (ten d right (omega (arith, area-is, ltb-true 16384 l.area.0 h))) (λ z. omega arith)
+  pub answer-wide : (r : Refusal) → r ≡ refusal_of 10 → 16384 < l.area.0 → Err r ≡ layout_answer d
+  answer-wide r e h = answer-refused d 10 r (e ∙ sym (no_type d 10 refl refl)) (ten d right (omega (arith, area-is))) (λ z. omega arith)
 
-  pub answer-small : ltb 16384 l.area.0 ≡ false → Ok l ≡ layout_answer d
-  answer-small h = answer-laid d l is (no_ten d right (omega (arith, area-is, ltb-false 16384 l.area.0 h)))
+  pub answer-small : l.area.0 ≤ 16384 → Ok l ≡ layout_answer d
+  answer-small h = answer-laid d l is (no_ten d right (omega (arith, area-is)))
+
+-- by 1 to 9
+pub answer-judged : (d : List ℕ) (r : Refusal) → Err r ≡ judgment (uses_refusal d) (refusal_for d (uses_refusal d)) → Err r ≡ layout_answer d
+answer-judged d r e =
+    let wrong = refused _ _ _ e in
+    answer-refused d (uses_refusal d) r wrong.1 (verdict-uses d wrong.0) wrong.0
 
 -- an answer that is known says which verdict there is
 pub laid-accepted : (d : List ℕ) (l : Layout) → layout_answer d ≡ Ok l → (verdict d ≡ 0) × (l ≡ layout_of d)
@@ -188,6 +182,13 @@ refused-nonzero d r e v =
     e' : Err r ≡ Ok (layout_of d)
     e' = sym e ∙ answered d true (eq-eqb (verdict d) 0 v)
 
+-- the verdict alone
+pub checked-laid : (d : List ℕ) (l : Layout) → layout_answer d ≡ Ok l → Ok tt ≡ judgment (verdict d) (refusal_for d (verdict d))
+checked-laid d l e = judgment-none _ _ (laid-accepted d l e).0
+
+pub checked-refused : (d : List ℕ) (r : Refusal) → layout_answer d ≡ Err r → Err r ≡ judgment (verdict d) (refusal_for d (verdict d))
+checked-refused d r e = ap Err (refused-verdict d r e) ∙ judgment-some _ _ (refused-nonzero d r e)
+
 -- the table once it is worked out
 module _ (d t u : List ℕ) (e : u ≡ sizes_after d t) where
   pub table-refused : (uses_refusal d ≡ 0 → ⊥) → u ≡ table_after d t
@@ -197,3 +198,19 @@ module _ (d t u : List ℕ) (e : u ≡ sizes_after d t) where
   pub table-worked : uses_refusal d ≡ 0 → (v : List ℕ) → v ≡ filled (full_entry d) (types_in d) u → v ≡ table_after d t
   unfolding table_after
   table-worked h v ev = ev ∙ ap (filled (full_entry d) (types_in d)) e ∙ rw (eq-eqb (uses_refusal d) 0 h)
+
+-- ---- one argument after the other, as a loop goes that begins at `laying_first`
+
+module _ (d : List ℕ) (i : ℕ) (l : Laying) (here : l ≡ laying_at d i) where
+  -- what its record asks
+  pub turn_asked : uses_refusal d ≡ 0 → i < arguments_in d → AskRecord d i l
+  turn_asked right h = subst (λ (m : Laying). AskRecord d i m) (sym here) (record_asks d right i h)
+
+  -- it is the record of argument i
+  pub turn_placed : (p : Placement) → p ≡ (step_at d l i).placement → p ≡ placement_at d i
+  unfolding step_at placement_at
+  turn_placed p e = e ∙ ap (λ (m : Laying). (step_at d m i).placement) here
+
+  -- and what is laid out after it
+  pub turn_laid : (m : Laying) → m ≡ (step_at d l i).after → m ≡ laying_at d (i + 1)
+  turn_laid m e = e ∙ ap (λ (x : Laying). (step_at d x i).after) here ∙ laying_next d i

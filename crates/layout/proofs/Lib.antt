@@ -5,7 +5,6 @@ pub mod Arguments
 pub mod Packing
 pub mod Bounds
 pub mod Steps
-pub mod Loop
 pub mod Lists
 pub mod Stacked
 pub mod Needed

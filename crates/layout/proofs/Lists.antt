@@ -8,7 +8,6 @@ use Prim.Native.Nat.{ℕ, ◌+◌, ◌≤◌, ◌<◌}
 use native.Mathlib.Omega.{arith}
 use borrow.Author.Tests.{eq-eqb, ne_eqb, eqb-true, lt-ltb, le-ltb, ltb-false}
 use lib.Dec.{eqb}
-use lib.ListN.{replicate}
 use Rattle.description.specs.Description.{arguments_in}
 use Rattle.form.specs.Order.{rule, NoneHolds, Answers}
 use Rattle.form.specs.Reading.{refusal_of}
@@ -16,18 +15,15 @@ use Rattle.types.specs.Wrong.{refusal_for}
 use Rattle.types.proofs.Wrong.{no_type}
 use Rattle.form.specs.declared.Refusal.{Refusal}
 use Rattle.form.proofs.Order.{refuses-exactly, accepts-exactly, first-before, first-behind, first-both, positive-append}
-use Rattle.layout.specs.Arguments.{hidden}
 use Rattle.layout.specs.Verdict.{check_order, verdict}
-use Rattle.layout.specs.Layout.{layout_of, layout_answer, table_after}
+use Rattle.layout.specs.Layout.{layout_of, layout_answer}
 use Rattle.layout.specs.Asks.{AskRecord}
 use Rattle.layout.specs.Placements.{laying_fresh, laying_at, placement_at, step_at}
-use Rattle.layout.specs.Lists.{short_list, list_refusal, list_answer, list_count, list_laying, begun_of, opened_of, layout_order}
+use Rattle.layout.specs.Lists.{short_list, list_refusal, list_answer, list_count, list_laying, layout_order}
 use Rattle.layout.specs.declared.Layout.{Layout}
 use Rattle.layout.specs.declared.placements.Laying.{Laying}
-use Rattle.layout.specs.declared.lent_list.Begun.{Begun}
-use Rattle.layout.specs.declared.lent_list.Opened.{Opened}
 use Rattle.layout.proofs.Verdict.{accepted-uses, check-positive}
-use Rattle.layout.proofs.Layouts.{record_asks, laying_none, laying_next, laid-accepted, refused-verdict, refused-nonzero}
+use Rattle.layout.proofs.Layouts.{record_asks, laying_next, refused-verdict, refused-nonzero}
 
 -- the answer is n exactly where condition n holds and none before it; 11 comes last
 pub list_exactly : (d : List ℕ) (room n : ℕ) → n ≢ 0 → (list_refusal d room ≡ n) ↔ Answers (layout_order d room) n
@@ -37,6 +33,11 @@ list_exactly d room n h = refuses-exactly (layout_order d room) n h
 pub list_none_exactly : (d : List ℕ) (room : ℕ) → (list_refusal d room ≡ 0) ↔ NoneHolds (layout_order d room)
 unfolding list_refusal
 list_none_exactly d room = accepts-exactly (layout_order d room) (positive-append (check_order d) (rule 11 (short_list d room) ∷ []) (check-positive d) (omega arith, tt))
+
+-- the record of argument i, where it is laid out
+pub record_at : (d : List ℕ) (i : ℕ) → (step_at d (laying_at d i) i).placement ≡ placement_at d i
+unfolding step_at placement_at
+record_at d i = refl
 
 -- which number, from what the code looks at
 module _ (d : List ℕ) (room : ℕ) where
@@ -64,68 +65,55 @@ module _ (d : List ℕ) (room : ℕ) where
   unfolding short_list
   list_room h = ltb-false room (arguments_in d) ((list_none_exactly d room).0 h).1.1.1.1.1.1.1.1.1.1.0
 
-  -- what `begin` answers
-  begun_accepted : list_refusal d room ≡ 0 → (r : Begun) → r.answer ≡ Ok (layout_of d) → r.count ≡ arguments_in d → r.before ≡ laying_fresh (hidden d) → r ≡ begun_of d room
-  unfolding begun_of list_answer list_count list_laying
-  begun_accepted e r a n u =
-      rw (eq-eqb (list_refusal d room) 0 e) (λ i. record { answer = a i; count = n i; before = (u ∙ sym (laying_none d)) i })
+  -- the answer, from what the code looks at
+  listed : (b : Bool) → eqb (list_refusal d room) 0 ≡ b → list_answer d room ≡ cond b (Ok (layout_of d)) (Err (refusal_for d (list_refusal d room)))
+  unfolding list_answer
+  listed b e = rw e
 
-  begun_refused : (list_refusal d room ≡ 0 → ⊥) → (r : Begun) → r.answer ≡ Err (refusal_for d (list_refusal d room)) → r.count ≡ 0 → r.before ≡ laying_fresh false → r ≡ begun_of d room
-  unfolding begun_of list_answer list_count list_laying
-  begun_refused e r a n u = rw (ne_eqb (list_refusal d room) 0 e) (λ i. record { answer = a i; count = n i; before = u i })
-
-  pub begin-refused : (f : Refusal) (r : Begun) → layout_answer d ≡ Err f → r.answer ≡ Err f → r.count ≡ 0 → r.before ≡ laying_fresh false → r ≡ begun_of d room
-  begin-refused f r e a n u =
+  pub list-refused : (f : Refusal) → layout_answer d ≡ Err f → Err f ≡ list_answer d room
+  list-refused f e =
       let z = refused-nonzero d f e in
-      begun_refused (λ q. z (sym (list_verdict z) ∙ q)) r (a ∙ ap Err (refused-verdict d f e ∙ ap (refusal_for d) (sym (list_verdict z)))) n u
+      ap Err (refused-verdict d f e ∙ ap (refusal_for d) (sym (list_verdict z)))
+      ∙ sym (listed false (ne_eqb (list_refusal d room) 0 (λ q. z (sym (list_verdict z) ∙ q))))
 
-  pub begin-short : (l : Layout) (f : Refusal) (r : Begun) → layout_answer d ≡ Ok l → room < arguments_in d → f ≡ refusal_of 11 → r.answer ≡ Err f → r.count ≡ 0
-      → r.before ≡ laying_fresh false → r ≡ begun_of d room
-  begin-short l f r e h q a n u =
-      let v = eleven (laid-accepted d l e).0 h in
-      begun_refused (λ z. omega arith) r (a ∙ ap Err (q ∙ sym (no_type d 11 refl refl) ∙ ap (refusal_for d) (sym v))) n u
+  pub list-short : verdict d ≡ 0 → room < arguments_in d → (f : Refusal) → f ≡ refusal_of 11 → Err f ≡ list_answer d room
+  list-short v h f q =
+      ap Err (q ∙ sym (no_type d 11 refl refl) ∙ ap (refusal_for d) (sym (eleven v h)))
+      ∙ sym (listed false (ne_eqb (list_refusal d room) 0 (λ z. omega (arith, eleven v h))))
 
-  pub begin-laid : (l : Layout) (r : Begun) → layout_answer d ≡ Ok l → arguments_in d ≤ room → r.answer ≡ Ok l → r.count ≡ arguments_in d → r.before ≡ laying_fresh l.hidden
-      → r ≡ begun_of d room
-  unfolding layout_of
-  begin-laid l r e h a n u =
-      let k = laid-accepted d l e in
-      begun_accepted (no_eleven k.0 h) r (a ∙ ap Ok k.1) n (u ∙ ap (λ (m : Layout). laying_fresh m.hidden) k.1)
+  pub list-laid : verdict d ≡ 0 → arguments_in d ≤ room → (l : Layout) → l ≡ layout_of d → Ok l ≡ list_answer d room
+  list-laid v h l e = ap Ok e ∙ sym (listed true (eq-eqb (list_refusal d room) 0 (no_eleven v h)))
 
-  pub begun_answer : (begun_of d room).answer ≡ list_answer d room
-  unfolding begun_of
-  begun_answer = refl
+  -- an answer that is known says whether the list is filled
+  pub listed-laid : (l : Layout) → list_answer d room ≡ Ok l → (list_refusal d room ≡ 0) × (l ≡ layout_of d)
+  listed-laid l e = by (eqb (list_refusal d room) 0) refl
+    where
+      by : (b : Bool) → eqb (list_refusal d room) 0 ≡ b → (list_refusal d room ≡ 0) × (l ≡ layout_of d)
+      by true q = (eqb-true (list_refusal d room) 0 q, let z : Ok l ≡ Ok (layout_of d) = sym e ∙ listed true q in cc)
+      by false q = absurd (let z : Ok l ≡ Err (refusal_for d (list_refusal d room)) = sym e ∙ listed false q in let f : ◌≡◌ {A = ℕ} 0 1 = cc in omega arith)
 
-  pub begun_count : (begun_of d room).count ≡ list_count d room
-  unfolding begun_of
-  begun_count = refl
+  pub count-laid : (l : Layout) → list_answer d room ≡ Ok l → list_count d room ≡ arguments_in d
+  unfolding list_count
+  count-laid l e = rw (eq-eqb (list_refusal d room) 0 (listed-laid l e).0)
 
-  pub begun_before : (begun_of d room).before ≡ list_laying d room 0
-  unfolding begun_of
-  begun_before = refl
+  pub laying-laid : (l : Layout) → list_answer d room ≡ Ok l → (i : ℕ) → list_laying d room i ≡ laying_at d i
+  unfolding list_laying
+  laying-laid l e i = rw (eq-eqb (list_refusal d room) 0 (listed-laid l e).0)
 
-  -- what `open_list` answers
-  pub opened-is : (h : Begun) (t : List ℕ) (r : Opened) → h ≡ begun_of d room → t ≡ table_after d (replicate 64 0) → r.answer ≡ h.answer → r.count ≡ h.count → r.before ≡ h.before → r.table ≡ t
-      → r ≡ opened_of d room
-  unfolding begun_of opened_of
-  opened-is h t r eh et a n u w = λ i. record {
-    answer = (a ∙ ap (λ (b : Begun). b.answer) eh) i;
-    count = (n ∙ ap (λ (b : Begun). b.count) eh) i;
-    before = (u ∙ ap (λ (b : Begun). b.before) eh) i;
-    table = (w ∙ et) i;
-  }
+  refused-listed : (f : Refusal) → list_answer d room ≡ Err f → eqb (list_refusal d room) 0 ≡ false
+  refused-listed f e = by (eqb (list_refusal d room) 0) refl
+    where
+      by : (b : Bool) → eqb (list_refusal d room) 0 ≡ b → eqb (list_refusal d room) 0 ≡ false
+      by true q = absurd (let z : Err f ≡ Ok (layout_of d) = sym e ∙ listed true q in let g : ◌≡◌ {A = ℕ} 0 1 = cc in omega arith)
+      by false q = q
 
-  pub opened-answer : (opened_of d room).answer ≡ list_answer d room
-  unfolding opened_of
-  opened-answer = refl
+  pub count-refused : (f : Refusal) → list_answer d room ≡ Err f → list_count d room ≡ 0
+  unfolding list_count
+  count-refused f e = rw (refused-listed f e)
 
-  pub opened-count : (opened_of d room).count ≡ list_count d room
-  unfolding opened_of
-  opened-count = refl
-
-  pub opened-before : (opened_of d room).before ≡ list_laying d room 0
-  unfolding opened_of
-  opened-before = refl
+  pub laying-refused : (f : Refusal) → list_answer d room ≡ Err f → (i : ℕ) → list_laying d room i ≡ laying_fresh false
+  unfolding list_laying
+  laying-refused f e i = rw (refused-listed f e)
 
   -- the turns of the loop: there are some only where the list is filled
   module _ (i : ℕ) (less : i < list_count d room) where
@@ -152,8 +140,7 @@ module _ (d : List ℕ) (room : ℕ) where
     turn_asks = rw (laying_is i) (record_asks d (accepted-uses d (list_accepted filling)) i there)
 
     pub turn_record : (step_at d (list_laying d room i) i).placement ≡ placement_at d i
-    unfolding step_at placement_at
-    turn_record = rw (laying_is i)
+    turn_record = ap (λ (l : Laying). (step_at d l i).placement) (laying_is i) ∙ record_at d i
 
     pub turn_after : (step_at d (list_laying d room i) i).after ≡ list_laying d room (i + 1)
     turn_after = ap (λ (l : Laying). (step_at d l i).after) (laying_is i) ∙ laying_next d i ∙ sym (laying_is (i + 1))

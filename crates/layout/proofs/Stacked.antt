@@ -1,16 +1,18 @@
 -- Which argument goes to the stack first, by what is used after each (request 2026-10), and that the area tells whether one does. Assumes nothing.
-use Rattle.std.specs.Prelude.{Err, Ok}
+use Rattle.std.specs.Prelude.{Err, Ok, Some, None}
 use mathlib.Core.Path.{◌≡◌, refl, sym, ap, ◌∙◌}
 use mathlib.Core.Bool.{Bool, true, false, cond}
 use mathlib.Core.List.{List}
 use Prim.Native.Nat.{ℕ, ◌+◌, ◌-◌, ◌≤◌, ◌<◌}
 use native.Mathlib.Omega.{arith}
-use borrow.Author.Tests.{lt-ltb, le-ltb, ltb-false, eq-eqb, ne_eqb, not-true, not-false}
+use borrow.Author.Tests.{lt-ltb, le-ltb, ltb-true, eq-eqb, ne_eqb, not-true, not-false}
 use lib.Dec.{ltb, eqb}
 use Rattle.description.specs.Description.{arguments_in, argument_at, model_in}
 use Rattle.form.specs.Search.{first_from}
 use Rattle.form.proofs.Search.{search_stop, search_on, search_end}
 use Rattle.form.specs.declared.Refusal.{Refusal}
+use Rattle.form.specs.Reading.{judgment}
+use Rattle.form.proofs.Judgment.{refused}
 use Rattle.types.specs.Decode.{ty_at}
 use Rattle.types.specs.Wrong.{refusal_for}
 use Rattle.types.proofs.Large.{accepted-sized}
@@ -19,18 +21,17 @@ use Rattle.uses.specs.Uses.{uses_refusal}
 use Rattle.uses.proofs.Uses.{accepted-types}
 use Rattle.places.specs.declared.Used.{Used}
 use Rattle.places.specs.Shapes.{Shape, Shaped, shape_of}
-use Rattle.places.specs.Places.{eights, fits, start, next, fresh}
+use Rattle.places.specs.Places.{eights, fits, start, next}
 use Rattle.places.proofs.Fits.{place-not, next_fits}
 use Rattle.places.proofs.Offsets.{stack-lowest, stack-rounded}
 use Rattle.layout.specs.Arguments.{shape_at, used_at, hidden}
-use Rattle.layout.specs.Asks.{AskArgument}
-use Rattle.layout.specs.Placements.{turn_at}
-use Rattle.layout.specs.StackNeeds.{stacked, first_stacked, stack_need, stack_answer}
-use Rattle.layout.specs.declared.placements.Turn.{Turn}
+use Rattle.layout.specs.Placements.{laying_fresh, laying_at, step_at}
+use Rattle.layout.specs.StackNeeds.{stacked, first_stacked, first_found, stack_need, stack_answer}
+use Rattle.layout.specs.declared.placements.Laying.{Laying}
 use Rattle.layout.specs.declared.needing.StackNeed.{StackNeed}
-use Rattle.layout.proofs.Arguments.{used-none, used-next}
-use Rattle.layout.proofs.Bounds.{argument-known, argument-shaped}
-use Rattle.layout.proofs.Layouts.{asks_at}
+use Rattle.layout.proofs.Arguments.{used-next}
+use Rattle.layout.proofs.Bounds.{arguments-few, argument-known, argument-shaped}
+use Rattle.layout.proofs.Layouts.{laying_first, turn_laid}
 
 -- one argument: in registers the end of the stack arguments stays, on the stack it moves on, since no type is empty
 kept : (u : Used) (s : Shape) → fits u s.kinds ≡ true → (next eights u s).stack.0 ≡ u.stack.0
@@ -72,48 +73,57 @@ module _ (d : List ℕ) (right : uses_refusal d ≡ 0) where
 -- ---- the loop that looks for it
 
 -- before argument i: none before it goes to the stack
-pub record Looking (d : List ℕ) (i : ℕ) (u : Used) : Type 0 where
-  pub right : uses_refusal d ≡ 0
-  pub within : i ≤ arguments_in d
-  pub used : u ≡ used_at d i
-  pub none : u.stack.0 ≡ 0
+pub record Looking (d : List ℕ) (i : ℕ) (l : Laying) : Type 0 where
+  pub laying : l ≡ laying_at d i
+  pub none : l.used.stack.0 ≡ 0
   pub rest : first_from (stacked d) i (arguments_in d - i) ≡ first_stacked d
 
-pub looking_first : (d : List ℕ) → uses_refusal d ≡ 0 → (b : Bool) → b ≡ hidden d → (u : Used) → u ≡ fresh b → Looking d 0 u
-looking_first d right b is u e = record {
-  right = right;
-  within = omega arith;
-  used = e ∙ ap fresh is ∙ sym (used-none d);
-  none = ap (λ (w : Used). w.stack.0) e;
+pub looking_first : (d : List ℕ) (b : Bool) → b ≡ hidden d → (l : Laying) → l ≡ laying_fresh b → Looking d 0 l
+unfolding laying_fresh
+looking_first d b is l e = record {
+  laying = laying_first d b is l e;
+  none = ap (λ (m : Laying). m.used.stack.0) e;
   rest = let q : arguments_in d - 0 ≡ arguments_in d = omega arith in rw q;
 }
 
-module _ (d : List ℕ) (i : ℕ) (u : Used) (g : Looking d i u) where
-  pub looking_asks : i < arguments_in d → AskArgument d i u
-  looking_asks l = record { right = g.right; there = l; before = rw g.used (asks_at d g.right i (arguments_in d) g.within (omega arith)).before }
+module _ (d : List ℕ) (right : uses_refusal d ≡ 0) (i : ℕ) (l : Laying) (g : Looking d i l) where
+  module _ (h : i < arguments_in d) (m : Laying) (e : m ≡ (step_at d l i).after) where
+    turned : m ≡ laying_at d (i + 1)
+    turned = turn_laid d i l g.laying m e
 
-  module _ (l : i < arguments_in d) (r : Turn) (e : r ≡ turn_at d u i) where
-    turned : r.used ≡ used_at d (i + 1)
-    unfolding turn_at
-    turned = ap (λ (t : Turn). t.used) e ∙ ap (λ (w : Used). next eights w (shape_at d i)) g.used ∙ sym (used-next d i)
+    tells : ltb 0 m.used.stack.0 ≡ stacked d i
+    unfolding laying_at
+    tells =
+        ap (λ (x : Laying). ltb 0 x.used.stack.0) turned
+        ∙ stack-tells d right i h (sym (ap (λ (x : Laying). x.used.stack.0) g.laying) ∙ g.none)
 
-    tells : ltb 0 r.used.stack.0 ≡ stacked d i
-    tells = ap (λ (w : Used). ltb 0 w.stack.0) turned ∙ stack-tells d g.right i l (sym (ap (λ (w : Used). w.stack.0) g.used) ∙ g.none)
+    pub looking_found : 0 < m.used.stack.0 → Some i ≡ first_found d
+    unfolding first_found
+    looking_found p =
+        let is = sym (search_stop (stacked d) i (arguments_in d) h (sym tells ∙ lt-ltb 0 m.used.stack.0 p)) ∙ g.rest in
+        rw (← is, lt-ltb i (arguments_in d) h)
 
-    pub looking_found : ltb 0 r.used.stack.0 ≡ true → i ≡ first_stacked d
-    looking_found h = sym (search_stop (stacked d) i (arguments_in d) l (sym tells ∙ h)) ∙ g.rest
-
-    pub looking_on : ltb 0 r.used.stack.0 ≡ false → Looking d (i + 1) r.used
-    looking_on h = record {
-      right = g.right;
-      within = omega arith;
-      used = turned;
-      none = let z = ltb-false 0 r.used.stack.0 h in omega arith;
-      rest = search_on (stacked d) i (arguments_in d) l (sym tells ∙ h) ∙ g.rest;
+    pub looking_on : m.used.stack.0 ≤ 0 → Looking d (i + 1) m
+    looking_on p = record {
+      laying = turned;
+      none = omega arith;
+      rest = search_on (stacked d) i (arguments_in d) h (sym tells ∙ le-ltb 0 m.used.stack.0 p) ∙ g.rest;
     }
 
-  pub looking_end : arguments_in d ≤ i → arguments_in d ≡ first_stacked d
-  looking_end l = let q : i ≡ arguments_in d = omega (arith, g.within) in sym q ∙ sym (search_end (stacked d) i (arguments_in d) l) ∙ g.rest
+pub looking_end : (d : List ℕ) (l : Laying) → Looking d (arguments_in d) l → None ≡ first_found d
+unfolding first_found
+looking_end d l g =
+    let is : arguments_in d ≡ first_stacked d = sym (search_end (stacked d) (arguments_in d) (arguments_in d) (omega arith)) ∙ g.rest in
+    rw (← is, le-ltb (arguments_in d) (arguments_in d) (omega arith))
+
+-- it is one of the arguments
+pub found-low : (d : List ℕ) → uses_refusal d ≡ 0 → (k : ℕ) → Some k ≡ first_found d → k ≤ 64
+unfolding first_found
+found-low d right k e = by (ltb (first_stacked d) (arguments_in d)) refl e
+  where
+    by : (b : Bool) → ltb (first_stacked d) (arguments_in d) ≡ b → Some k ≡ cond b (Some (first_stacked d)) None → k ≤ 64
+    by true t z = let is : k ≡ first_stacked d = cc in omega (arith, is, ltb-true (first_stacked d) (arguments_in d) t, arguments-few d right)
+    by false t z = absurd (let f : ◌≡◌ {A = ℕ} 0 1 = cc in omega arith)
 
 -- ---- the answer
 
@@ -121,21 +131,27 @@ answered : (d : List ℕ) (b : Bool) → eqb (uses_refusal d) 0 ≡ b → stack_
 unfolding stack_answer
 answered d b e = rw e
 
-pub need_refused : (d : List ℕ) (n : ℕ) (r : Refusal) → n ≡ uses_refusal d → (n ≡ 0 → ⊥) → r ≡ refusal_for d n → Err r ≡ stack_answer d
-need_refused d n r e z q = ap Err (q ∙ ap (refusal_for d) e) ∙ sym (answered d false (ne_eqb (uses_refusal d) 0 (λ h. z (e ∙ h))))
+pub need_refused : (d : List ℕ) (r : Refusal) → Err r ≡ judgment (uses_refusal d) (refusal_for d (uses_refusal d)) → Err r ≡ stack_answer d
+need_refused d r e =
+    let wrong = refused _ _ _ e in
+    ap Err wrong.1 ∙ sym (answered d false (ne_eqb (uses_refusal d) 0 wrong.0))
 
-module _ (d : List ℕ) (right : uses_refusal d ≡ 0) (k a : ℕ) (is : k ≡ first_stacked d) (all : a ≡ arguments_in d) where
+module _ (d : List ℕ) (right : uses_refusal d ≡ 0) where
   known : (n : StackNeed) → n ≡ stack_need d → Ok n ≡ stack_answer d
   known n e = ap Ok e ∙ sym (answered d true (eq-eqb (uses_refusal d) 0 right))
 
-  pub need_some : k < a → Ok (record { needed = true; looked = k + 1 }) ≡ stack_answer d
-  unfolding stack_need
-  need_some h =
-      known _
-      (rw (lt-ltb (first_stacked d) (arguments_in d) (omega (arith, is, all))) (λ j. record { needed = true; looked = is j + 1 }))
+  pub need_some : (k : ℕ) → Some k ≡ first_found d → (n : StackNeed) → n.needed ≡ true → n.looked ≡ k + 1 → Ok n ≡ stack_answer d
+  unfolding first_found stack_need
+  need_some k e n p q = by (ltb (first_stacked d) (arguments_in d)) refl e
+    where
+      by : (b : Bool) → ltb (first_stacked d) (arguments_in d) ≡ b → Some k ≡ cond b (Some (first_stacked d)) None → Ok n ≡ stack_answer d
+      by true t z = let is : k ≡ first_stacked d = cc in known n (rw t (λ j. record { needed = p j; looked = (q ∙ ap (λ (x : ℕ). x + 1) is) j }))
+      by false t z = absurd (let f : ◌≡◌ {A = ℕ} 0 1 = cc in omega arith)
 
-  pub need_none : a ≤ k → Ok (record { needed = false; looked = a }) ≡ stack_answer d
-  unfolding stack_need
-  need_none h =
-      known _
-      (rw (le-ltb (first_stacked d) (arguments_in d) (omega (arith, is, all))) (λ j. record { needed = false; looked = all j }))
+  pub need_none : None ≡ first_found d → (n : StackNeed) → n.needed ≡ false → n.looked ≡ arguments_in d → Ok n ≡ stack_answer d
+  unfolding first_found stack_need
+  need_none e n p q = by (ltb (first_stacked d) (arguments_in d)) refl e
+    where
+      by : (b : Bool) → ltb (first_stacked d) (arguments_in d) ≡ b → None ≡ cond b (Some (first_stacked d)) None → Ok n ≡ stack_answer d
+      by true t z = absurd (let f : ◌≡◌ {A = ℕ} 0 1 = cc in omega arith)
+      by false t z = known n (rw t (λ j. record { needed = p j; looked = q j }))

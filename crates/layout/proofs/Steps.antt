@@ -34,8 +34,8 @@ use Rattle.classify.specs.Table.{pair_in, wide_in, unpacked_of, Tabled}
 use Rattle.classify.proofs.Table.{pair-taken}
 use Rattle.layout.specs.Arguments.{is_named, shape_at, is_void, return_classes, return_place, returned_size, hidden}
 use Rattle.layout.specs.Asks.{AskArgument, AskRecord}
-use Rattle.layout.specs.Placements.{step_of, step_at, turn_at}
-use Rattle.layout.specs.declared.placements.Turn.{Turn}
+use Rattle.layout.specs.Placements.{step_of, step_at}
+use Rattle.units.specs.declared.Bytes.{Bytes}
 use Rattle.layout.specs.declared.placements.Laying.{Laying}
 use Rattle.layout.proofs.Bounds.{arguments-few, types-few, argument-known, argument-small, argument-some, argument-shaped, before-room}
 
@@ -102,53 +102,21 @@ module _ (d t : List ℕ) (w : Tabled d t) (u : Used) (i : ℕ) (a : AskArgument
   pub place-asks : (k < 64) × Room u × Small (shape_in named (get_or t k 0))
   place-asks = (turn_low, before-room i u (omega (arith, arguments-few d a.right, a.there)) a.before, rw entry-shape (argument-small d a.right i a.there))
 
-  -- without the record
-  pub turn_asks : (k < 64) × Room u × Small (shape_in named (get_or t k 0)) × Asking (get_or t k 0)
-  turn_asks = (place-asks.0, place-asks.1, place-asks.2, asking-known d t w k known)
-
-  pub turn_is : (x : Extent) → IsEntry (get_or t k 0) x → (after : Used) → after ≡ next eights u (shape_in named (get_or t k 0))
-      → ◌≡◌ {A = Turn} (record { size = x.size; used = after }) (turn_at d u i)
-  unfolding turn_at shape_in
-  turn_is x h after q =
-      let size : x.size.0 ≡ (shape_at d i).size = h.size ∙ ap (λ (s : Shape). s.size) entry-shape in
-      let used : after ≡ next eights u (shape_at d i) = q ∙ ap (λ (s : Shape). next eights u s) entry-shape in
-      λ j. record { size = record { 0 = size j }; used = used j }
+  pub turn_asks : Room u × Small (shape_in named (get_or t k 0)) × Asking (get_or t k 0)
+  turn_asks = (place-asks.1, place-asks.2, asking-known d t w k known)
 
 -- the record, by the same entry
-module _ (d t : List ℕ) (w : Tabled d t) (l : Laying) (i : ℕ) (a : AskRecord d i l) (k : ℕ) (e : k ≡ argument_at d i) (named : Bool) (n : is_named d i ≡ named) (x : Extent) (h : IsEntry (get_or t k 0) x) where
+module _ (d t : List ℕ) (w : Tabled d t) (l : Laying) (i : ℕ) (a : AskRecord d i l) (k : ℕ) (e : k ≡ argument_at d i) (named : Bool) (n : is_named d i ≡ named) where
   shape_is : shape_in named (get_or t k 0) ≡ shape_at d i
   shape_is = entry-shape d t w l.used i a.argument k e named n
 
-  size_is : x.size.0 ≡ (shape_at d i).size
-  unfolding shape_in
-  size_is = h.size ∙ ap (λ (s : Shape). s.size) shape_is
-
-  align_is : x.align.0 ≡ (shape_at d i).align
-  unfolding shape_in
-  align_is = h.align ∙ ap (λ (s : Shape). s.align) shape_is
-
-  -- no sum overflows
-  pub values-room : l.values.0 + x.size.0 ≤ 2 ^ 63
-  values-room =
-      omega (
-        arith,
-        size_is,
-        (argument-small d a.argument.right i a.argument.there).size,
-        a.sum,
-        arguments-few d a.argument.right,
-        a.argument.there,
-      )
-
   -- what `place_between` asks, where u is used after the argument
   pub between_asks : (u : Used) → u ≡ next eights l.used (shape_in named (get_or t k 0))
-      → (k < 64) × (l.used.stack.0 ≤ 2 ^ 20) × (x.align.0 ≤ 32) × IsEntry (get_or t k 0) x × Between named (get_or t k 0) l.used u
+      → (l.used.stack.0 ≤ 2 ^ 20) × Between named (get_or t k 0) l.used u
   unfolding shape_in
   between_asks u f =
       let asks = place-asks d t w l.used i a.argument k e named n in (
-        asks.0,
         asks.1.stack,
-        omega (arith, align_is, (argument-small d a.argument.right i a.argument.there).align),
-        h,
         record {
           shaped = rw shape_is (argument-shaped d a.argument.right i a.argument.there);
           some = omega (arith, ap (λ (s : Shape). s.size) shape_is, argument-some d a.argument.right i a.argument.there);
@@ -156,15 +124,46 @@ module _ (d t : List ℕ) (w : Tabled d t) (l : Laying) (i : ℕ) (a : AskRecord
         },
       )
 
-  pub step_is : (u : Used) → u ≡ next eights l.used (shape_in named (get_or t k 0))
-      → (p : Place) → place_of p ≡ place eights l.used (shape_in named (get_or t k 0))
-      → step_of l k x p named u ≡ step_at d l i
-  unfolding step_at
-  step_is u f p g =
-      let placed = place_is p (place eights l.used (shape_in named (get_or t k 0))) g ∙ ap (λ (s : Shape). recorded (place eights l.used s)) shape_is in
-      let used = f ∙ ap (λ (s : Shape). next eights l.used s) shape_is in
-      let values : l.values.0 + x.size.0 ≡ l.values.0 + (shape_at d i).size = ap (λ (m : ℕ). l.values.0 + m) size_is in
-      λ j. record {
-        placement = record { ty = e j; size = record { 0 = size_is j }; align = record { 0 = align_is j }; place = placed j; at = l.values; named = sym n j };
-        after = record { used = used j; values = record { 0 = values j } };
-      }
+  -- by what its entry says
+  module _ (x : Extent) (h : IsEntry (get_or t k 0) x) where
+    size_is : x.size.0 ≡ (shape_at d i).size
+    unfolding shape_in
+    size_is = h.size ∙ ap (λ (s : Shape). s.size) shape_is
+
+    align_is : x.align.0 ≡ (shape_at d i).align
+    unfolding shape_in
+    align_is = h.align ∙ ap (λ (s : Shape). s.align) shape_is
+
+    -- no sum overflows
+    pub values-room : l.values.0 + x.size.0 ≤ 2 ^ 63
+    values-room =
+        omega (
+          arith,
+          size_is,
+          (argument-small d a.argument.right i a.argument.there).size,
+          a.sum,
+          arguments-few d a.argument.right,
+          a.argument.there,
+        )
+
+    -- what is laid out after it, without the record
+    pub pass_is : (u : Used) → u ≡ next eights l.used (shape_in named (get_or t k 0)) → (v : Bytes) → v.0 ≡ l.values.0 + x.size.0
+        → ◌≡◌ {A = Laying} (record { used = u; values = v }) (step_at d l i).after
+    unfolding step_at
+    pass_is u f v g =
+        let used = f ∙ ap (λ (s : Shape). next eights l.used s) shape_is in
+        let values : v.0 ≡ l.values.0 + (shape_at d i).size = g ∙ ap (λ (m : ℕ). l.values.0 + m) size_is in
+        λ j. record { used = used j; values = record { 0 = values j } }
+
+    pub step_is : (u : Used) → u ≡ next eights l.used (shape_in named (get_or t k 0))
+        → (p : Place) → place_of p ≡ place eights l.used (shape_in named (get_or t k 0))
+        → step_of l k x p named u ≡ step_at d l i
+    unfolding step_at
+    step_is u f p g =
+        let placed = place_is p (place eights l.used (shape_in named (get_or t k 0))) g ∙ ap (λ (s : Shape). recorded (place eights l.used s)) shape_is in
+        let used = f ∙ ap (λ (s : Shape). next eights l.used s) shape_is in
+        let values : l.values.0 + x.size.0 ≡ l.values.0 + (shape_at d i).size = ap (λ (m : ℕ). l.values.0 + m) size_is in
+        λ j. record {
+          placement = record { ty = e j; size = record { 0 = size_is j }; align = record { 0 = align_is j }; place = placed j; at = l.values; named = sym n j };
+          after = record { used = used j; values = record { 0 = values j } };
+        }

@@ -1,11 +1,8 @@
 -- What the functions that lay arguments out ask. Assumes nothing: these are definitions.
-use Rattle.std.specs.Prelude.{◌≡◌, Bool, List, ℕ, ◌+◌, ◌*◌, ◌≤◌, ◌<◌}
+use Rattle.std.specs.Prelude.{◌≡◌, Bool, List, ℕ, ◌*◌, ◌≤◌, ◌<◌}
 use Rattle.description.specs.Description.{arguments_in}
 use Rattle.uses.specs.Uses.{uses_refusal}
 use Rattle.places.specs.declared.Used.{Used}
-use Rattle.places.specs.Shapes.{Shape}
-use Rattle.places.specs.Places.{eights, after}
-use Rattle.places.specs.Images.{total}
 use Rattle.layout.specs.Arguments.{is_named}
 use Rattle.layout.specs.declared.placements.Laying.{Laying}
 
@@ -26,19 +23,6 @@ pub record AskRecord (d : List ℕ) (i : ℕ) (l : Laying) : Type 0 where
   pub argument : AskArgument d i l.used
   pub sum : l.values.0 ≤ 4096 * i
 
--- arguments i to n, those before them having so many bytes
-pub record AskArguments (d : List ℕ) (i n : ℕ) (u : Used) (bytes : ℕ) : Type 0 where
-  pub right : uses_refusal d ≡ 0
-  pub order : i ≤ n
-  pub there : n ≤ arguments_in d
-  pub before : Before i u
-  pub sum : bytes ≤ 4096 * i
-
--- all of them are named, or none
+-- the arguments i to n are all named, or none is
 pub record Alike (d : List ℕ) (i n : ℕ) (named : Bool) : Type 0 where
   pub each : (j : ℕ) → i ≤ j → j < n → is_named d j ≡ named
-
--- what is used, and how many bytes the values have, once these arguments are placed as well
-pub record IsLaid (u : Used) (bytes : ℕ) (ss : List Shape) (r : Laying) : Type 0 where
-  pub used : r.used ≡ after eights u ss
-  pub values : r.values.0 ≡ bytes + total ss

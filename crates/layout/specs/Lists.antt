@@ -1,6 +1,6 @@
 -- The list of placement records that the caller lends: document 01, "One placement record for each argument goes into the list the
 -- caller lends .. Entries past A stay". Assumes nothing: these are definitions.
-use Rattle.std.specs.Prelude.{Bool, false, cond, List, [], ◌∷◌, ◌++◌, ℕ, ltb, eqb, replicate, Err, Ok, Result}
+use Rattle.std.specs.Prelude.{Bool, false, cond, List, [], ◌∷◌, ◌++◌, ℕ, ltb, eqb, Err, Ok, Result}
 use Rattle.description.specs.Description.{arguments_in}
 use Rattle.form.specs.Order.{Rule, rule, first}
 use Rattle.types.specs.Wrong.{refusal_for}
@@ -8,9 +8,7 @@ unfoldable pub use Rattle.types.specs.Table.{filled}
 use Rattle.layout.specs.Placements.{laying_fresh, laying_at}
 use Rattle.layout.specs.declared.placements.Laying.{Laying}
 use Rattle.layout.specs.Verdict.{check_order}
-use Rattle.layout.specs.Layout.{layout_of, table_after}
-use Rattle.layout.specs.declared.lent_list.Begun.{Begun}
-use Rattle.layout.specs.declared.lent_list.Opened.{Opened}
+use Rattle.layout.specs.Layout.{layout_of}
 use Rattle.layout.specs.declared.Layout.{Layout}
 use Rattle.form.specs.declared.Refusal.{Refusal}
 
@@ -35,11 +33,3 @@ list_count d room = cond (eqb (list_refusal d room) 0) (arguments_in d) 0
 -- what is laid out before record i is written
 unfoldable pub list_laying : List ℕ → ℕ → ℕ → Laying
 list_laying d room i = cond (eqb (list_refusal d room) 0) (laying_at d i) (laying_fresh false)
-
--- what is decided before the first record
-unfoldable pub begun_of : List ℕ → ℕ → Begun
-begun_of d room = record { answer = list_answer d room; count = list_count d room; before = list_laying d room 0 }
-
--- the same, and the table that the records are made by
-unfoldable pub opened_of : List ℕ → ℕ → Opened
-opened_of d room = record { answer = list_answer d room; count = list_count d room; before = list_laying d room 0; table = table_after d (replicate 64 0) }

@@ -10,8 +10,6 @@ use Rattle.places.specs.Recorded.{recorded}
 use Rattle.layout.specs.Arguments.{is_named, shape_at, used_at, value_start}
 use Rattle.layout.specs.declared.placements.Laying.{Laying}
 use Rattle.layout.specs.declared.placements.Placement.{Placement}
-use Rattle.layout.specs.declared.placements.Step.{Step}
-use Rattle.layout.specs.declared.placements.Turn.{Turn}
 
 -- what is laid out: so much is used, and the values have so many bytes. Before any argument, and before argument i
 unfoldable pub laying_fresh : Bool → Laying
@@ -32,7 +30,11 @@ placement_from d l i = record {
   named = is_named d i;
 }
 
--- and what is laid out after it
+-- the record of an argument, and what is laid out after it
+pub record Step : Type 0 where
+  pub placement : Placement
+  pub after : Laying
+
 unfoldable pub step_at : List ℕ → Laying → ℕ → Step
 step_at d l i = record {
   placement = placement_from d l i;
@@ -45,10 +47,6 @@ step_of l k x p named u = record {
   placement = record { ty = k; size = x.size; align = x.align; place = p; at = l.values; named = named };
   after = record { used = u; values = record { 0 = l.values.0 + x.size.0 } };
 }
-
--- its bytes and what is used after it, without its record
-unfoldable pub turn_at : List ℕ → Used → ℕ → Turn
-turn_at d u i = record { size = record { 0 = (shape_at d i).size }; used = next eights u (shape_at d i) }
 
 -- the record of argument i
 unfoldable pub placement_at : List ℕ → ℕ → Placement

@@ -1,5 +1,5 @@
 -- Whether a call needs the stack at all: document 02, request 2026-10. Assumes nothing: these are definitions.
-use Rattle.std.specs.Prelude.{◌≡◌, Bool, true, false, not, cond, List, ℕ, ◌+◌, ◌<◌, ltb, eqb, Err, Ok, Result}
+use Rattle.std.specs.Prelude.{◌≡◌, Bool, true, false, not, cond, List, ℕ, ◌+◌, ◌<◌, ltb, eqb, Err, Ok, Result, None, Option, Some}
 use Rattle.description.specs.Description.{arguments_in}
 use Rattle.form.specs.Search.{first_from}
 use Rattle.types.specs.Wrong.{refusal_for}
@@ -19,6 +19,10 @@ stacked d i = not (fits (used_at d i) (shape_at d i).kinds)
 -- "the first argument that goes to the stack", or A where there is none
 abbrev pub first_stacked : List ℕ → ℕ
 first_stacked d = first_from (stacked d) 0 (arguments_in d)
+
+-- the same, where there is one
+unfoldable pub first_found : List ℕ → Option ℕ
+first_found d = cond (ltb (first_stacked d) (arguments_in d)) (Some (first_stacked d)) None
 
 -- "The count of arguments looked at .. equals that argument's position plus one, or A where there is none"
 unfoldable pub stack_need : List ℕ → StackNeed

@@ -1,67 +1,52 @@
 // The verdict on any bytes, 1 to 10, and the layout of those that get none (document 01, "Places", "Refusal numbers").
-ghost use Rattle.std.specs.Prelude.{◌≡◌, ◌≤◌};
+ghost use Rattle.std.specs.Prelude.{◌≡◌, ◌≤◌, IfOk};
 ghost use Rattle.description.specs.Description.{arguments_in};
+ghost use Rattle.form.specs.Reading.{judgment};
+ghost use Rattle.types.specs.Wrong.{refusal_for};
 ghost use Rattle.classify.specs.Table.{Tabled};
 ghost use Rattle.uses.specs.Uses.{uses_refusal};
 ghost use Rattle.layout.specs.Arguments.{used_at};
 ghost use Rattle.layout.specs.Layout.{layout_of, refusal_in, layout_answer, table_after};
 ghost use Rattle.layout.specs.Verdict.{verdict};
-ghost use Rattle.types.specs.Wrong.{refusal_for};
 
-use crate::placements::Laying;
-use crate::{Layout, placements};
-use form::Refusal;
+use crate::{Described, Laying, Layout};
+use form::{Reason, Refusal};
 use places::Used;
 use units::Bytes;
 
-// What is used after the first n arguments, and the hidden address.
-pub fn used_after(d: &[u8], n: usize, table: &[u32; 64]) -> Used
-    requires { (uses_refusal d.now ≡ 0) × (n ≤ arguments_in d.now) × Tabled d.now table.now }
-    ensures { result ≡ used_at d.now n }
-{
-    let named = description::byte_at(d, 7);
-    let hidden = placements::hidden_of(d, table);
-    let before = Laying {
-        used: places::fresh(hidden),
-        values: Bytes(0),
-    };
-    if n <= named {
-        return placements::lay_more(d, before, 0, n, table, true).used;
+impl<'a> Described<'a> {
+    // What is used after the first n arguments, and the hidden address.
+    pub fn used_after(self, n: usize) -> Used
+        requires { n ≤ arguments_in self.bytes.now }
+        ensures { result ≡ used_at self.entry.bytes.now n }
+    {
+        let named = self.named().min(n);
+        let mut laying = Laying::fresh(self.hidden());
+        self.lay_more(0, named, true, &mut laying);
+        self.lay_more(named, n, false, &mut laying);
+        laying.used
     }
-    let first = placements::lay_more(d, before, 0, named, table, true);
-    placements::lay_more(d, first, named, n, table, false).used
-}
 
-// The layout of a description that none of 1 to 9 refuses.
-fn lay(d: &[u8], table: &[u32; 64]) -> Layout
-    requires { (uses_refusal d.now ≡ 0) × Tabled d.now table.now }
-    ensures { result ≡ layout_of d.now }
-{
-    let named = description::byte_at(d, 7);
-    let arguments = description::byte_at(d, 8);
-    let hidden = placements::hidden_of(d, table);
-    let before = Laying {
-        used: places::fresh(hidden),
-        values: Bytes(0),
-    };
-    let first = placements::lay_more(d, before, 0, named, table, true);
-    let start = first.used;
-    let all = placements::lay_more(d, first, named, arguments, table, false);
-    let used = all.used;
-    let values = all.values;
-    let align = places::area_align(used);
-    let area = places::area_of(used);
-    let returns = placements::return_of(d, table);
-    let returned = placements::returned_size(d, table);
-    Layout {
-        used: used,
-        area: area,
-        align: align,
-        values: values,
-        returns: returns,
-        returned: returned,
-        hidden: hidden,
-        named: start,
+    // The layout.
+    fn layout(self) -> Layout
+        ensures { result ≡ layout_of self.entry.bytes.now }
+    {
+        let hidden = self.hidden();
+        let mut laying = Laying::fresh(hidden);
+        self.lay_more(0, self.named(), true, &mut laying);
+        let named = laying.used;
+        self.lay_more(self.named(), self.arguments(), false, &mut laying);
+        let Laying { used, values } = laying;
+        Layout {
+            used,
+            area: used.area(),
+            align: used.area_align(),
+            values,
+            returns: self.returns(),
+            returned: self.returned_size(),
+            hidden,
+            named,
+        }
     }
 }
 
@@ -79,21 +64,29 @@ pub fn refusal_in(answer: Result<Layout, Refusal>) -> Refusal
 
 // ---- any bytes
 
+// Which of 1 to 9 refuses any bytes. Where none does, the table holds what is known of each type.
+pub(crate) fn judge(d: &[u8], table: &mut [u32; 64]) -> Result<(), Refusal>
+    ensures { (result ≡ judgment (uses_refusal d.now) (refusal_for d.now (uses_refusal d.now)))
+        × (table.new ≡ table_after d.now table.old)
+        × (uses_refusal d.now ≡ 0 → Tabled d.now table.new)
+        × IfOk result (λ _. (uses_refusal d.now ≡ 0) × Tabled d.now table.new) }
+{
+    uses::judge(d, table)?;
+    classify::fill_classes(d, table);
+    Ok(())
+}
+
 // The layout of any bytes, or which of 1 to 10 refuses them. Where none does, the table holds what is known of each type.
 pub fn layout_with(d: &[u8], table: &mut [u32; 64]) -> Result<Layout, Refusal>
     ensures { (result ≡ layout_answer d.now)
         × (table.new ≡ table_after d.now table.old)
-        × (verdict d.now ≡ 0 → Tabled d.now table.new) }
+        × (verdict d.now ≡ 0 → Tabled d.now table.new)
+        × IfOk result (λ layout. (layout ≡ layout_of d.now) × (verdict d.now ≡ 0) × (uses_refusal d.now ≡ 0) × Tabled d.now table.new) }
 {
-    let number = uses::uses_refusal_with(d, table);
-    if number != 0 {
-        return Err(types::refusal_for(d, number));
-    }
-    classify::fill_classes(d, table);
-    let layout = lay(d, table);
-    let area = layout.area;
-    if units::over(area, Bytes(16384)) {
-        return Err(form::refusal_of(10));
+    judge(d, table)?;
+    let layout = Described { bytes: d, table }.layout();
+    if layout.area > Bytes(16384) {
+        return Err(Refusal::from(Reason::AreaTooLarge));
     }
     Ok(layout)
 }
@@ -108,13 +101,10 @@ pub fn layout_of(d: &[u8]) -> Result<Layout, Refusal>
 
 // ---- the verdict alone
 
-// Which of the refusals 1 to 10 the description gets; number 0 where it is accepted.
-pub fn check(d: &[u8]) -> Refusal
-    ensures { result ≡ refusal_for d.now (verdict d.now) }
+// Which of the refusals 1 to 10 the description gets.
+pub fn check(d: &[u8]) -> Result<(), Refusal>
+    ensures { result ≡ judgment (verdict d.now) (refusal_for d.now (verdict d.now)) }
 {
-    let answer = layout_of(d);
-    let Err(refusal) = answer else {
-        return form::refusal_of(0);
-    };
-    refusal
+    layout_of(d)?;
+    Ok(())
 }

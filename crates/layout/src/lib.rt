@@ -1,14 +1,14 @@
 // The layout of a call (document 01, "Places"): the verdict on a description, 1 to 10, what its arguments take together, and one record for each.
 #![tactic(auto)]
 
-pub use deciding::{check, layout_of, layout_with, refusal_in, used_after};
+pub use deciding::{check, layout_of, layout_with, refusal_in};
 pub use described::Described;
-pub use lent_list::{Begun, begin_with, lay_out};
+pub use lent_list::{begin_with, lay_out};
 pub use needing::{StackNeed, needs_stack};
-pub use placements::{Laying, Placement, Step, laying_fresh, place_argument, step_of};
+pub use placements::{Laying, Placement};
 
 mod described; // a description and the table of its types
-mod placements; // the record of one argument, and what is used after some of them
+mod placements; // the record of one argument, and what is laid out after some of them
 mod deciding; // the verdict 1 to 10, and the layout of any bytes
 mod lent_list; // one record for each argument, into a list that the caller lends; 11
 mod needing; // whether the stack is needed, at the first argument that goes there

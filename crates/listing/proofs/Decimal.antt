@@ -8,8 +8,9 @@ use borrow.Author.Tests.{lt-ltb, le-ltb, ltb-true, ltb-false}
 use lib.Dec.{ltb}
 use lib.ListN.{length, length-append}
 use Rattle.listing.specs.Decimal.{digit, digits, decimal, read}
-use Rattle.listing.specs.Written.{Wrote}
-use Rattle.listing.proofs.Written.{wrote_join, wrote_exact, wrote_more, wrote_same}
+use Rattle.listing.specs.declared.texts.Text.{Text}
+use Rattle.listing.specs.Puts.{Puts}
+use Rattle.listing.proofs.Puts.{puts_join, puts_exact, puts_more, puts_same}
 
 -- a step
 digits-small : (k n : ℕ) → n < 10 → digits k n ≡ digit n ∷ []
@@ -85,16 +86,15 @@ unfolding decimal
 decimal-short k n h = digits-short n k n h
 
 -- how they are stored
-module _ (n : ℕ) {a : List ℕ} {at : ℕ} where
-  pub wrote_small : {b : List ℕ} {p : ℕ} → n < 10 → Wrote 1 a at (digit n ∷ []) b p → Wrote (length (decimal n)) a at (decimal n) b p
-  wrote_small h w = wrote_exact (wrote_same w (sym (decimal-small n h)))
+module _ (n : ℕ) {a b : Text} where
+  pub puts_small : n < 10 → Puts 1 a b (digit n ∷ []) → Puts (length (decimal n)) a b (decimal n)
+  puts_small h w = puts_exact (puts_same w (sym (decimal-small n h)))
 
-  pub wrote_large : {b : List ℕ} {p : ℕ} {c : List ℕ} {q : ℕ} → 10 ≤ n → Wrote (length (decimal (n / 10))) a at (decimal (n / 10)) b p → Wrote 1 b p (digit (n % 10) ∷ []) c q
-      → Wrote (length (decimal n)) a at (decimal n) c q
-  wrote_large h v w = wrote_exact (wrote_same (wrote_join v w) (sym (decimal-large n h)))
+  pub puts_large : {c : Text} → 10 ≤ n → Puts (length (decimal (n / 10))) a b (decimal (n / 10)) → Puts 1 b c (digit (n % 10) ∷ []) → Puts (length (decimal n)) a c (decimal n)
+  puts_large h v w = puts_exact (puts_same (puts_join v w) (sym (decimal-large n h)))
 
-  pub wrote_five : {b : List ℕ} {p : ℕ} → n < 100000 → Wrote (length (decimal n)) a at (decimal n) b p → Wrote 5 a at (decimal n) b p
-  wrote_five h w = wrote_more w (decimal-short 4 n h)
+  pub puts_five : n < 100000 → Puts (length (decimal n)) a b (decimal n) → Puts 5 a b (decimal n)
+  puts_five h w = puts_more w (decimal-short 4 n h)
 
 -- the room that the last digit takes
 pub room_small : (n at : ℕ) → n < 10 → at + length (decimal n) ≤ 8192 → at < 8192

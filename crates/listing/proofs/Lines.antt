@@ -19,8 +19,11 @@ use Rattle.layout.specs.Placements.{laying_fresh, laying_at, placement_at, step_
 use Rattle.layout.specs.Verdict.{verdict}
 use Rattle.layout.proofs.Verdict.{accepted-uses}
 use Rattle.layout.proofs.Layouts.{record_asks, laying_none, laying_next, laid-accepted}
-use Rattle.listing.specs.Written.{Wrote}
-use Rattle.listing.proofs.Written.{wrote_none, wrote_join, wrote_more, wrote_same, written_is}
+use Rattle.listing.specs.declared.texts.Text.{Text}
+use Rattle.listing.specs.Written.{written}
+use Rattle.listing.specs.Puts.{Puts}
+use Rattle.listing.proofs.Written.{written_is}
+use Rattle.listing.proofs.Puts.{puts_none, puts_join, puts_more, puts_same, puts_behind, puts_bytes}
 use Rattle.listing.specs.Words.{numbered, walk, gp, fp, over, newline}
 use Rattle.listing.specs.Listing.{head_line, record_line, record_lines, return_line, walk_line, laid_text, text_of, listing}
 use Rattle.listing.specs.Asks.{Accepted}
@@ -41,23 +44,23 @@ records-next d i =
     ∙ sym (records-last d i 0)
     ∙ ap (record_lines d 0) (sym (add-one i))
 
--- i records are stored, and what is laid out before the next is known
-pub record Going (d before : List ℕ) (at : ℕ) (after : List ℕ) (next : ℕ) (laid : Laying) (i : ℕ) : Type 0 where
+-- i records are put, and what is laid out before the next is known
+pub record Going (d : List ℕ) (before after : Text) (laid : Laying) (i : ℕ) : Type 0 where
   pub right : verdict d ≡ 0
   pub most : i ≤ arguments_in d
   pub laid-is : laid ≡ laying_at d i
-  pub wrote : Wrote (69 * i) before at (record_lines d 0 i) after next
+  pub puts : Puts (69 * i) before after (record_lines d 0 i)
 
-pub going_first : (d out : List ℕ) (at : ℕ) (l : Layout) (x : Laying) → Accepted d l → x ≡ laying_fresh l.hidden → Going d out at out at x 0
+pub going_first : (d : List ℕ) (text : Text) (l : Layout) (x : Laying) → Accepted d l → x ≡ laying_fresh l.hidden → Going d text text x 0
 unfolding record_lines layout_of
-going_first d out at l x a e = record {
+going_first d text l x a e = record {
   right = a.right;
   most = omega arith;
   laid-is = e ∙ ap (λ (k : Layout). laying_fresh k.hidden) a.laid ∙ sym (laying_none d);
-  wrote = wrote_none out at;
+  puts = puts_none text;
 }
 
-module _ {d a : List ℕ} {at : ℕ} {b : List ℕ} {p : ℕ} {x : Laying} {i : ℕ} (g : Going d a at b p x i) where
+module _ {d : List ℕ} {a b : Text} {x : Laying} {i : ℕ} (g : Going d a b x i) where
   pub going_asks : i < arguments_in d → AskRecord d i x
   going_asks h = rw g.laid-is (record_asks d (accepted-uses d g.right) i h)
 
@@ -68,62 +71,59 @@ module _ {d a : List ℕ} {at : ℕ} {b : List ℕ} {p : ℕ} {x : Laying} {i : 
   going_after : (s : Step) → s ≡ step_at d x i → s.after ≡ laying_at d (i + 1)
   going_after s e = ap (λ (t : Step). t.after) (e ∙ ap (λ (w : Laying). step_at d w i) g.laid-is) ∙ laying_next d i
 
-  pub going_next : {c : List ℕ} {q : ℕ} (s : Step) → s ≡ step_at d x i → i < arguments_in d → Wrote 69 b p (record_line i s.placement) c q → Going d a at c q s.after (i + 1)
+  pub going_next : {c : Text} (s : Step) → s ≡ step_at d x i → i < arguments_in d → Puts 69 b c (record_line i s.placement) → Going d a c s.after (i + 1)
   going_next s e h w = record {
     right = g.right;
     most = omega arith;
     laid-is = going_after s e;
-    wrote =
-        wrote_same (wrote_more (wrote_join g.wrote (wrote_same w (ap (record_line i) (going_record s e)))) (omega arith))
+    puts =
+        puts_same (puts_more (puts_join g.puts (puts_same w (ap (record_line i) (going_record s e)))) (omega arith))
         (records-next d i);
   }
 
-  pub going_last : arguments_in d ≤ i → arguments_in d ≤ 64 → Wrote 4416 a at (record_lines d 0 (arguments_in d)) b p
+  pub going_last : arguments_in d ≤ i → arguments_in d ≤ 64 → Puts 4416 a b (record_lines d 0 (arguments_in d))
   going_last h m =
       let n : i ≡ arguments_in d = omega (arith, g.most) in
-      wrote_same (wrote_more g.wrote (omega arith)) (ap (record_lines d 0) n)
+      puts_same (puts_more g.puts (omega arith)) (ap (record_lines d 0) n)
 
 -- a walk's line
-pub walk_is : {a : List ℕ} {at : ℕ} {b : List ℕ} {p : ℕ} {c : List ℕ} {q : ℕ} {e : List ℕ} {r : ℕ} {f : List ℕ} {s : ℕ} (variadic : ℕ) (u : Used) (general vector : ℕ)
-    → (variadic ≡ 0 → ⊥) → general ≡ 8 * u.general.0 → vector ≡ 16 * u.vector.0
-    → Wrote 13 a at (numbered (walk ++ gp) general) b p → Wrote 9 b p (numbered fp (48 + vector)) c q → Wrote 11 c q (numbered over u.stack.0) e r → Wrote 1 e r newline f s
-    → Wrote 34 a at (walk_line variadic u) f s
+pub walk_is : {a b c e f : Text} (variadic : ℕ) (u : Used) (general vector : ℕ) → (variadic ≡ 0 → ⊥) → general ≡ 8 * u.general.0 → vector ≡ 16 * u.vector.0
+    → Puts 13 a b (numbered (walk ++ gp) general) → Puts 9 b c (numbered fp (48 + vector)) → Puts 11 c e (numbered over u.stack.0) → Puts 1 e f newline
+    → Puts 34 a f (walk_line variadic u)
 unfolding walk_line
 walk_is variadic u general vector z g v w x y n =
     rw (ne_eqb variadic 0 z)
-    (wrote_join (wrote_join (wrote_join (wrote_same w (ap (numbered (walk ++ gp)) g)) (wrote_same x (ap (λ (k : ℕ). numbered fp (48 + k)) v))) y) n)
+    (puts_join (puts_join (puts_join (puts_same w (ap (numbered (walk ++ gp)) g)) (puts_same x (ap (λ (k : ℕ). numbered fp (48 + k)) v))) y) n)
 
 -- the lines of an accepted description
-pub laid-is : {a : List ℕ} {at : ℕ} {b : List ℕ} {p : ℕ} {c : List ℕ} {q : ℕ} {e : List ℕ} {r : ℕ} {f : List ℕ} {s : ℕ} (d : List ℕ) (l : Layout) {all first k variadic : ℕ}
-    → all ≡ arguments_in d → first ≡ named_in d → k ≡ return_in d → variadic ≡ variadic_in d
-    → Wrote 60 a at (head_line all first l) b p → Wrote 4416 b p (record_lines d 0 (arguments_in d)) c q → Wrote 30 c q (return_line k l.returns) e r → Wrote 34 e r (walk_line variadic l.named) f s
-    → Wrote 4540 a at (laid_text d l) f s
+pub laid-is : {a b c e f : Text} (d : List ℕ) (l : Layout) {all first k variadic : ℕ} → all ≡ arguments_in d → first ≡ named_in d → k ≡ return_in d → variadic ≡ variadic_in d
+    → Puts 60 a b (head_line all first l) → Puts 4416 b c (record_lines d 0 (arguments_in d)) → Puts 30 c e (return_line k l.returns) → Puts 34 e f (walk_line variadic l.named)
+    → Puts 4540 a f (laid_text d l)
 unfolding laid_text
 laid-is d l all first k variadic v w x y =
-    wrote_join
-    (wrote_join (wrote_join (wrote_same v (ap₂ (λ (m n : ℕ). head_line m n l) all first)) w) (wrote_same x (ap (λ (n : ℕ). return_line n l.returns) k)))
-    (wrote_same y (ap (λ (n : ℕ). walk_line n l.named) variadic))
+    puts_join
+    (puts_join (puts_join (puts_same v (ap₂ (λ (m n : ℕ). head_line m n l) all first)) w) (puts_same x (ap (λ (n : ℕ). return_line n l.returns) k)))
+    (puts_same y (ap (λ (n : ℕ). walk_line n l.named) variadic))
 
 pub accepted-laid : (d : List ℕ) (l : Layout) → layout_answer d ≡ Ok l → Accepted d l
 accepted-laid d l e = let k = laid-accepted d l e in record { right = k.0; laid = k.1 }
 
+pub listing-is : {a b : Text} (d : List ℕ) (answer : Result Layout Refusal) → answer ≡ layout_answer d → Puts 4540 a b (text_of d answer) → Puts 4540 a b (listing d)
+unfolding listing
+listing-is d answer e w = puts_same w (ap (text_of d) e)
+
 -- the whole text at the start of the buffer
-module _ (d out : List ℕ) (answer : Result Layout Refusal) (e : answer ≡ layout_answer d) (room : 8192 ≡ length out) {after : List ℕ} {end : ℕ} (w : Wrote 4540 out 0 (text_of d answer) after end) where
-  text-is : text_of d answer ≡ listing d
-  unfolding listing
-  text-is = ap (text_of d) e
+module _ (d out : List ℕ) (room : length out ≡ 8192) {a b : Text} (first : (a.out.now ≡ out) × (a.at ≡ 0)) (w : Puts 4540 a b (listing d)) where
+  pub listing-length : b.at ≡ length (listing d)
+  listing-length = omega (arith, first.1, puts_behind w)
 
-  wrote_listing : Wrote 4540 out 0 (listing d) after end
-  wrote_listing = wrote_same w text-is
+  pub listing-short : b.at ≤ 4540
+  listing-short = omega (arith, first.1, puts_behind w, w.short)
 
-  pub listing-length : end ≡ length (listing d)
-  listing-length = omega (arith, wrote_listing.behind)
-
-  pub listing-short : end ≤ 4540
-  listing-short = omega (arith, wrote_listing.behind, wrote_listing.short)
-
-  pub listing-bytes : after ≡ listing d ++ drop (length (listing d)) out
-  listing-bytes =
-      wrote_listing.bytes
-      ∙ written_is out 0 (listing d) (omega (arith, wrote_listing.short))
+  pub listing-bytes : {new : List ℕ} → new ≡ b.out.now → new ≡ listing d ++ drop (length (listing d)) out
+  listing-bytes e =
+      e
+      ∙ puts_bytes w
+      ∙ ap₂ (λ (l : List ℕ) (k : ℕ). written l k (listing d)) first.0 first.1
+      ∙ written_is out 0 (listing d) (omega (arith, w.short))
       ∙ ap (λ (k : ℕ). listing d ++ drop k out) (zero-add (length (listing d)))

@@ -4,12 +4,12 @@ use mathlib.Core.List.{List, [], ◌∷◌, ◌++◌}
 use Prim.Native.Nat.{ℕ, suc, ◌+◌, ◌≤◌}
 use native.Mathlib.Nat.{add-zero, add-suc, suc-add}
 use native.Mathlib.Omega.{arith}
-use lib.ListN.{length, take, drop, set, length-append}
+use lib.ListN.{length, take, drop, set}
 use lib.Seq.{sets, length-sets, sets-eq, take-length}
 use Rattle.addresses.specs.Addresses.{run, scatter}
 use Rattle.addresses.specs.Copy.{copied}
 use Rattle.addresses.proofs.Runs.{gather-run}
-use Rattle.listing.specs.Written.{written, Wrote}
+use Rattle.listing.specs.Written.{written}
 
 pub length-written : (buffer : List ℕ) (at : ℕ) (text : List ℕ) → length (written buffer at text) ≡ length buffer
 unfolding written
@@ -33,28 +33,6 @@ pub written_none : (buffer : List ℕ) (at : ℕ) → written buffer at [] ≡ b
 unfolding written
 written_none buffer at = refl
 
--- nothing; one text behind another; with a higher bound
-pub wrote_none : (buffer : List ℕ) (at : ℕ) → Wrote 0 buffer at [] buffer at
-wrote_none buffer at = record { bytes = sym (written_none buffer at); behind = omega arith; short = omega arith }
-
-pub wrote_join : {j k : ℕ} {a : List ℕ} {at : ℕ} {s b : List ℕ} {p : ℕ} {t c : List ℕ} {q : ℕ}
-    → Wrote j a at s b p → Wrote k b p t c q → Wrote (j + k) a at (s ++ t) c q
-wrote_join {j} {k} {a} {at} {s} {b} {p} {t} {c} {q} v w = record {
-  bytes = w.bytes ∙ ap (λ (l : List ℕ). written l p t) v.bytes ∙ ap (λ (n : ℕ). written (written a at s) n t) v.behind ∙ written-append a at s t;
-  behind = omega (arith, v.behind, w.behind, length-append s t);
-  short = omega (arith, v.short, w.short, length-append s t);
-}
-
-pub wrote_more : {j k : ℕ} {a : List ℕ} {at : ℕ} {s b : List ℕ} {p : ℕ} → Wrote j a at s b p → j ≤ k → Wrote k a at s b p
-wrote_more w h = record { bytes = w.bytes; behind = w.behind; short = omega (arith, w.short) }
-
-pub wrote_exact : {k : ℕ} {a : List ℕ} {at : ℕ} {s b : List ℕ} {p : ℕ} → Wrote k a at s b p → Wrote (length s) a at s b p
-wrote_exact w = record { bytes = w.bytes; behind = w.behind; short = omega arith }
-
--- the same text by another name
-pub wrote_same : {k : ℕ} {a : List ℕ} {at : ℕ} {s t b : List ℕ} {p : ℕ} → Wrote k a at s b p → s ≡ t → Wrote k a at t b p
-wrote_same w e = rw e at w
-
 -- a copy of a whole word
 scatter-sets : (vs l : List ℕ) (i : ℕ) → scatter l (run i (length vs)) vs ≡ sets l i vs
 scatter-sets [] l i = refl
@@ -65,10 +43,3 @@ unfolding copied written
 copied-written buffer at word =
     ap (λ (vs : List ℕ). scatter buffer (run at (length word)) vs) (gather-run (length word) 0 word (omega arith) ∙ take-length word)
     ∙ scatter-sets word buffer at
-
-pub wrote_copy : (buffer : List ℕ) (at : ℕ) (word after : List ℕ) → after ≡ copied buffer at word 0 (length word) → Wrote (length word) buffer at word after (at + length word)
-wrote_copy buffer at word after e = record { bytes = e ∙ copied-written buffer at word; behind = refl; short = omega arith }
-
-pub wrote_byte : (buffer : List ℕ) (at b : ℕ) → Wrote 1 buffer at (b ∷ []) (set buffer at b) (at + 1)
-unfolding written
-wrote_byte buffer at b = record { bytes = refl; behind = refl; short = omega arith }

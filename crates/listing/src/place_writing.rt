@@ -1,61 +1,61 @@
-// The words of registers and places (document 01, "The lister"). Each function stores from index `at` on and answers the index behind.
+// The words of registers and places (document 01, "The lister").
 ghost use Rattle.std.specs.Prelude.{◌+◌, ◌≤◌};
-ghost use Rattle.listing.specs.Written.{Wrote};
+ghost use Rattle.listing.specs.Puts.{Puts};
 ghost use Rattle.listing.specs.PlaceWords.{general_word, vector_word, register_word, place_words, return_words, offset_of};
 
-use crate::text;
+use crate::Text;
 use places::{Place, Register, ReturnPlace};
 
 // The n-th general register, of a returned value or of an argument.
-fn put_general(out: &mut [u8; 8192], at: usize, back: bool, n: usize) -> usize
-    requires { at + 4 ≤ 8192 }
-    ensures { Wrote 4 out.old at (general_word back n) out.new result }
+fn put_general(text: &mut Text, back: bool, n: usize)
+    requires { text.old.at + 4 ≤ 8192 }
+    ensures { Puts 4 text.old text.new (general_word back n) }
 {
     if back {
-        return match n {
-            0 => text::put(out, at, b" rax"),
-            1 => text::put(out, at, b" rdx"),
-            _ => at,
-        };
-    }
-    match n {
-        0 => text::put(out, at, b" rdi"),
-        1 => text::put(out, at, b" rsi"),
-        2 => text::put(out, at, b" rdx"),
-        3 => text::put(out, at, b" rcx"),
-        4 => text::put(out, at, b" r8"),
-        5 => text::put(out, at, b" r9"),
-        _ => at,
+        match n {
+            0 => text.put(b" rax"),
+            1 => text.put(b" rdx"),
+            _ => {}
+        }
+    } else {
+        match n {
+            0 => text.put(b" rdi"),
+            1 => text.put(b" rsi"),
+            2 => text.put(b" rdx"),
+            3 => text.put(b" rcx"),
+            4 => text.put(b" r8"),
+            5 => text.put(b" r9"),
+            _ => {}
+        }
     }
 }
 
 // xmm0 to xmm7.
-fn put_vector(out: &mut [u8; 8192], at: usize, n: usize) -> usize
-    requires { at + 5 ≤ 8192 }
-    ensures { Wrote 5 out.old at (vector_word n) out.new result }
+fn put_vector(text: &mut Text, n: usize)
+    requires { text.old.at + 5 ≤ 8192 }
+    ensures { Puts 5 text.old text.new (vector_word n) }
 {
-    if 8 <= n {
-        return at;
+    if n < 8 {
+        text.put(b" xmm");
+        text.put_digit(n);
     }
-    let next = text::put(out, at, b" xmm");
-    text::put_digit(out, next, n)
 }
 
 // A register of a returned value, or of an argument.
-fn put_register(out: &mut [u8; 8192], at: usize, back: bool, register: Register) -> usize
-    requires { at + 6 ≤ 8192 }
-    ensures { Wrote 6 out.old at (register_word back register) out.new result }
+fn put_register(text: &mut Text, back: bool, register: Register)
+    requires { text.old.at + 6 ≤ 8192 }
+    ensures { Puts 6 text.old text.new (register_word back register) }
 {
     match register {
-        Register::General(n) => put_general(out, at, back, n.0),
-        Register::Vector(n) => put_vector(out, at, n.0),
+        Register::General(n) => put_general(text, back, n.0),
+        Register::Vector(n) => put_vector(text, n.0),
         Register::Upper(n) => {
-            let next = put_vector(out, at, n.0);
-            text::put(out, next, b"h")
+            put_vector(text, n.0);
+            text.put(b"h");
         }
         Register::Wide(n) => {
-            let next = put_vector(out, at, n.0);
-            text::put(out, next, b"y")
+            put_vector(text, n.0);
+            text.put(b"y");
         }
     }
 }
@@ -63,34 +63,34 @@ fn put_register(out: &mut [u8; 8192], at: usize, back: bool, register: Register)
 // ---- places
 
 // Registers in eightbyte order, or a stack offset.
-pub fn put_place(out: &mut [u8; 8192], at: usize, place: Place) -> usize
-    requires { (at + 12 ≤ 8192) × (offset_of place ≤ 16384) }
-    ensures { Wrote 12 out.old at (place_words place) out.new result }
+pub fn put_place(text: &mut Text, place: Place)
+    requires { (text.old.at + 12 ≤ 8192) × (offset_of place ≤ 16384) }
+    ensures { Puts 12 text.old text.new (place_words place) }
 {
     match place {
-        Place::One(register) => put_register(out, at, false, register),
+        Place::One(register) => put_register(text, false, register),
         Place::Two(first, second) => {
-            let next = put_register(out, at, false, first);
-            put_register(out, next, false, second)
+            put_register(text, false, first);
+            put_register(text, false, second);
         }
-        Place::Stack(offset) => text::put_number(out, at, b" stack ", offset.0),
+        Place::Stack(offset) => text.put_number(b" stack ", offset.0),
     }
 }
 
 // Where a value is returned.
-pub fn put_return_place(out: &mut [u8; 8192], at: usize, place: ReturnPlace) -> usize
-    requires { at + 12 ≤ 8192 }
-    ensures { Wrote 12 out.old at (return_words place) out.new result }
+pub fn put_return_place(text: &mut Text, place: ReturnPlace)
+    requires { text.old.at + 12 ≤ 8192 }
+    ensures { Puts 12 text.old text.new (return_words place) }
 {
     match place {
-        ReturnPlace::Void => text::put(out, at, b" void"),
-        ReturnPlace::Memory => text::put(out, at, b" memory"),
-        ReturnPlace::One(register) => put_register(out, at, true, register),
+        ReturnPlace::Void => text.put(b" void"),
+        ReturnPlace::Memory => text.put(b" memory"),
+        ReturnPlace::One(register) => put_register(text, true, register),
         ReturnPlace::Two(first, second) => {
-            let next = put_register(out, at, true, first);
-            put_register(out, next, true, second)
+            put_register(text, true, first);
+            put_register(text, true, second);
         }
-        ReturnPlace::St0 => text::put(out, at, b" st0"),
-        ReturnPlace::St0St1 => text::put(out, at, b" st0 st1"),
+        ReturnPlace::St0 => text.put(b" st0"),
+        ReturnPlace::St0St1 => text.put(b" st0 st1"),
     }
 }

@@ -3,18 +3,17 @@ use mathlib.Core.Path.{◌≡◌, refl, sym, ap, ap₂, ◌∙◌}
 use mathlib.Core.Logic.{◌⊎◌, inl, inr, ⊎_elim}
 use mathlib.Core.Bool.{Bool, true, false, cond, not, ◌&&◌, and-eq-true_iff}
 use mathlib.Core.List.{List, [], ◌∷◌}
-use Prim.Native.Nat.{ℕ, ◌+◌, ◌*◌, ◌/◌, ◌%◌, ◌-◌, ◌≤◌, ◌<◌, max}
+use Prim.Native.Nat.{ℕ, ◌+◌, ◌*◌, ◌/◌, ◌%◌, ◌≤◌, ◌<◌, max}
 use native.Mathlib.Omega.{arith}
 use borrow.Author.Tests.{eqb-true}
 use lib.Dec.{eqb}
 use lib.ListN.{length}
 use Rattle.units.specs.Raise.{raise}
 use Rattle.units.proofs.Raise.{raise-not_below}
-use Rattle.units.specs.declared.Registers.{Registers}
 use Rattle.classes.specs.declared.Class.{Class}
-use Rattle.classes.specs.declared.Class.TheVariants.{Integer, Sse}
 use Rattle.classes.specs.Classes.{same, is_x87}
 use Rattle.classes.proofs.Laws.{each_two}
+use Rattle.types.proofs.Alignments.{is-high}
 use Rattle.classify.specs.Table.{pair_in, wide_in, unpacked_of}
 use Rattle.places.specs.declared.Kind.{Kind}
 use Rattle.places.specs.declared.Kind.TheVariants.{General as general, Vector as vector, Upper as upper, Wide as wide}
@@ -128,29 +127,16 @@ last-is u j vector = ap (λ (n : ℕ). Vector (record { 0 = n })) (omega arith)
 last-is u j upper = ap (λ (n : ℕ). Upper (record { 0 = n })) (omega arith)
 last-is u j wide = ap (λ (n : ℕ). Wide (record { 0 = n })) (omega arith)
 
--- ---- the code's tests of a class
-
-pub first-general : (c : Class) (u : Used) → same c Integer ≡ true → General u.general ≡ register_for u.general.0 u.vector.0 (first_kind c)
-first-general c u e = rw e
-
-pub first-vector : (c : Class) (u : Used) → same c Integer ≡ false → Vector u.vector ≡ register_for u.general.0 u.vector.0 (first_kind c)
-first-vector c u e = rw e
-
-pub second-general : (c : Class) (w : Used) (n : Registers) → same c Integer ≡ true → n.0 ≡ w.general.0 - 1 → General n ≡ last_for w (second_kind c)
-second-general c w n e q = rw e (ap (λ (m : ℕ). General (record { 0 = m })) q)
-
-pub second-vector : (c : Class) (w : Used) (n : Registers) → same c Integer ≡ false → same c Sse ≡ true → n.0 ≡ w.vector.0 - 1 → Vector n ≡ last_for w (second_kind c)
-second-vector c w n e f q = rw (e, f) (ap (λ (m : ℕ). Vector (record { 0 = m })) q)
-
-pub second-upper : (c : Class) (w : Used) (n : Registers) → same c Integer ≡ false → same c Sse ≡ false → n.0 ≡ w.vector.0 - 1 → Upper n ≡ last_for w (second_kind c)
-second-upper c w n e f q = rw (e, f) (ap (λ (m : ℕ). Upper (record { 0 = m })) q)
-
 -- ---- by an entry
 
 module _ (named : Bool) (e : ℕ) (u w : Used) (h : Between named e u w) where
   size-some : 1 ≤ (shape_in named e).size
   unfolding shape_in
   size-some = h.some
+
+  pub low-align : e / 8192 % 64 ≤ 32
+  unfolding shape_in
+  low-align = is-high h.shaped.aligned
 
   pub told-stack : u.stack.0 < w.stack.0 → (align o : ℕ) → align ≡ e / 8192 % 64 → o ≡ raise (max 8 align) u.stack.0 → on_stack o ≡ place eights u (shape_in named e)
   unfolding shape_in

@@ -1,26 +1,35 @@
 // Which registers a value asks for, by its classes (document 01, "Places").
-ghost use Rattle.std.specs.Prelude.{◌≡◌, [], ◌∷◌, ◌<◌, ◌/◌, get_or};
-ghost use Rattle.places.specs.Shapes.{kinds_of, kinds_for, shape_in};
-ghost use Rattle.places.specs.Recorded.{listed, asked};
-ghost use Rattle.places.specs.Steps.{eightbyte_of};
+ghost use Rattle.std.specs.Prelude.{◌≡◌, ◌||◌, [], ◌∷◌, ◌/◌};
+ghost use Rattle.classes.specs.declared.Class.TheVariants.{Memory};
+ghost use Rattle.classes.specs.Classes.{same, is_x87};
+ghost use Rattle.types.specs.Table.{IsEntry};
+ghost use Rattle.places.specs.Shapes.{kind_of, kinds_of, kinds_for, shape_in};
+ghost use Rattle.places.specs.Recorded.{at_most_one, listed, asked};
 ghost use Rattle.classify.specs.Table.{unpacked_of};
 
-use crate::{Eightbyte, Kind, Kinds, Shape};
+use crate::{Argument, Kind, Kinds, Shape};
 use classes::Class;
+use types::Extent;
+
+// "MEMORY, X87, X87UP and COMPLEX_X87 go on the stack".
+fn goes_on_stack(class: Class) -> bool
+    ensures { result ≡ (same class Memory || is_x87 class) }
+{
+    matches!(
+        class,
+        Class::Memory | Class::X87 | Class::X87Up | Class::ComplexX87
+    )
+}
 
 // What an eightbyte of this class asks for.
-fn eightbyte_of(class: Class) -> Eightbyte
-    ensures { result ≡ eightbyte_of class }
+fn kind_of(class: Class) -> Option<Kind>
+    ensures { at_most_one result ≡ kind_of class }
 {
     match class {
-        Class::NoClass => Eightbyte::Empty,
-        Class::Integer => Eightbyte::Asks(Kind::General),
-        Class::Sse => Eightbyte::Asks(Kind::Vector),
-        Class::SseUp => Eightbyte::Asks(Kind::Upper),
-        Class::X87 => Eightbyte::OnStack,
-        Class::X87Up => Eightbyte::OnStack,
-        Class::ComplexX87 => Eightbyte::OnStack,
-        Class::Memory => Eightbyte::OnStack,
+        Class::Integer => Some(Kind::General),
+        Class::Sse => Some(Kind::Vector),
+        Class::SseUp => Some(Kind::Upper),
+        _ => None,
     }
 }
 
@@ -28,54 +37,47 @@ fn eightbyte_of(class: Class) -> Eightbyte
 pub fn kinds_of(first: Class, second: Class) -> Kinds
     ensures { listed result ≡ kinds_of (first ∷ second ∷ []) }
 {
-    let low = eightbyte_of(first);
-    let high = eightbyte_of(second);
-    match low {
-        Eightbyte::OnStack => Kinds::Stack,
-        Eightbyte::Empty => match high {
-            Eightbyte::OnStack => Kinds::Stack,
-            Eightbyte::Empty => Kinds::Stack,
-            Eightbyte::Asks(kind) => Kinds::One(kind),
-        },
-        Eightbyte::Asks(kind) => match high {
-            Eightbyte::OnStack => Kinds::Stack,
-            Eightbyte::Empty => Kinds::One(kind),
-            Eightbyte::Asks(other) => Kinds::Two(kind, other),
-        },
+    if goes_on_stack(first) || goes_on_stack(second) {
+        return Kinds::Stack;
+    }
+    match (kind_of(first), kind_of(second)) {
+        (Some(low), Some(high)) => Kinds::Two(low, high),
+        (Some(kind), None) => Kinds::One(kind),
+        (None, Some(kind)) => Kinds::One(kind),
+        (None, None) => Kinds::Stack,
     }
 }
 
-// What an argument of type k asks for, by the table: "A named argument of these four classes takes one vector register; an unnamed one, structures
-// included, is always on the stack".
-fn kinds_for(table: &[u32; 64], k: usize, named: bool) -> Kinds
-    requires { k < 64 }
-    ensures { listed result ≡ kinds_for named (unpacked_of (get_or table.now k 0 / 524288)) }
-{
-    if classify::is_wide(table, k) {
-        return if named {
-            Kinds::One(Kind::Wide)
-        } else {
-            Kinds::Stack
-        };
+impl Argument {
+    // Size and alignment of its type.
+    pub fn extent(self) -> Extent
+        ensures { IsEntry self.entry.0 result }
+    {
+        types::extent_by(self.entry.0)
     }
-    let classes = classify::classes_in(table, k);
-    let first = classes[0];
-    let second = classes[1];
-    kinds_of(first, second)
-}
 
-// What places an argument of type k, by the table.
-pub fn shape_in(table: &[u32; 64], k: usize, named: bool) -> Shape
-    requires { k < 64 }
-    ensures { asked result ≡ shape_in named (get_or table.now k 0) }
-{
-    let kinds = kinds_for(table, k, named);
-    let extent = types::extent_in(table, k);
-    let size = extent.size;
-    let align = extent.align;
-    Shape {
-        kinds: kinds,
-        size: size,
-        align: align,
+    // What it asks for: "A named argument of these four classes takes one vector register; an unnamed one, structures included, is
+    // always on the stack".
+    fn kinds(self) -> Kinds
+        ensures { listed result ≡ kinds_for self.named (unpacked_of (self.entry.0 / 524288)) }
+    {
+        if self.entry.is_wide() {
+            return if self.named {
+                Kinds::One(Kind::Wide)
+            } else {
+                Kinds::Stack
+            };
+        }
+        let [first, second] = self.entry.classes();
+        kinds_of(first, second)
+    }
+
+    // What places it.
+    pub fn shape(self) -> Shape
+        ensures { asked result ≡ shape_in self.named self.entry.0 }
+    {
+        let kinds = self.kinds();
+        let Extent { size, align } = self.extent();
+        Shape { kinds, size, align }
     }
 }

@@ -21,8 +21,8 @@ use Rattle.flat.specs.declared.Walk.{Walk}
 use Rattle.flat.specs.Stations.{station_meant, walk_meant}
 use Rattle.flat.proofs.Kept.{walk-means}
 use Rattle.flat.specs.contracts.Walk as walk
-use Rattle.c_calls.specs.Outcome.{refusal_in, left_in}
-use Rattle.c_calls.specs.WalkCalls.{finish_given}
+use Rattle.callbridge.specs.Outcome.{refusal_in, left_in}
+use Rattle.callbridge.specs.WalkCalls.{finish_given}
 use Rattle.callbridge.proofs.Told.{finish-told}
 use Rattle.callbridge.specs.contracts.cb_finish_walk
 use Rattle.promises.specs.Meaning.{Answered, of_refusal}

@@ -21,8 +21,8 @@ use Rattle.station.proofs.Orders.{kept}
 use Rattle.flat.specs.declared.Layout.{Layout}
 use Rattle.flat.specs.Records.{layout_of as flat_layout}
 use Rattle.flat.specs.contracts.Layout as layout-record
-use Rattle.c_calls.specs.Outcome.{refusal_in, left_in}
-use Rattle.c_calls.specs.LayoutCalls.{list_given}
+use Rattle.callbridge.specs.Outcome.{refusal_in, left_in}
+use Rattle.callbridge.specs.LayoutCalls.{list_given}
 use Rattle.callbridge.proofs.Told.{list_told}
 use Rattle.callbridge.specs.contracts.cb_lay_out
 use Rattle.promises.specs.Extending.{SamePlace, NoSmaller, Extending}

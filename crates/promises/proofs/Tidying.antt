@@ -21,8 +21,8 @@ use Rattle.tidying.proofs.Tidied.{same_exactly, tidy-form}
 use Rattle.tidying.proofs.Wellformed.{tidy-table}
 use Rattle.tidying.proofs.EachByte.{tidy-bytes}
 use Rattle.tidying.proofs.Cases.{tidy-cases, wide_case}
-use Rattle.c_calls.specs.Outcome.{refusal_in, left_in}
-use Rattle.c_calls.specs.TidyingCalls.{tidied_given}
+use Rattle.callbridge.specs.Outcome.{refusal_in, left_in}
+use Rattle.callbridge.specs.TidyingCalls.{tidied_given}
 use Rattle.callbridge.proofs.Told.{tidied-told}
 use Rattle.callbridge.specs.contracts.cb_tidy_length
 use Rattle.callbridge.specs.contracts.cb_tidy

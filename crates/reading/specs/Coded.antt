@@ -1,5 +1,5 @@
 -- How the tables hold the grammar: classes, alternatives and absences as numbers. Assumes nothing: these are definitions.
-use Rattle.std.specs.Prelude.{[], ℕ, zero, suc, get_or}
+use Rattle.std.specs.Prelude.{Bool, true, false, [], ℕ, zero, suc, get_or, Option, None, Some}
 use Rattle.grammar.specs.Tokens.{Class, blank, letter, digit, dot, alone}
 use Rattle.grammar.specs.Grammar.{Rest, stop, goes, Absence, required, optional}
 use Rattle.reading.specs.Productions.{productions}
@@ -19,3 +19,12 @@ rest_at (suc p) = goes (get_or productions p [])
 abbrev pub absent_code : Absence → ℕ
 absent_code required = 0
 absent_code (optional e) = 1
+
+abbrev pub may_lack : Absence → Bool
+may_lack required = false
+may_lack (optional e) = true
+
+-- 0 for none, else one more
+abbrev pub counted : Option ℕ → ℕ
+counted None = 0
+counted (Some n) = suc n

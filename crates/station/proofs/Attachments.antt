@@ -1,22 +1,20 @@
 -- Attach and detach: which number, exactly, and what is left. Assumes nothing.
+use Rattle.std.specs.Prelude.{Ok, Err}
 use mathlib.Core.Path.{◌≡◌, refl, sym, ap, ◌∙◌}
 use mathlib.Core.Logic.{◌↔◌, ◌≢◌}
 use mathlib.Core.Bool.{true, false, not}
-use mathlib.Core.List.{List, [], ◌∷◌, ◌++◌}
-use Prim.Native.Nat.{ℕ, zero, suc, ◌+◌, ◌-◌, ◌≤◌, ◌<◌}
+use mathlib.Core.List.{List}
+use Prim.Native.Nat.{ℕ, zero, suc, ◌≤◌, ◌<◌}
 use native.Mathlib.Omega.{arith}
 use lib.Dec.{leb, ltb, eqb}
-use lib.ListN.{length, take, replicate, length-replicate}
-use borrow.Author.Tests.{ne_eqb, le-leb, lt-leb, eqb-true, ltb-false, leb-false, not-false}
-use Rattle.form.specs.Reading.{refusal_at, refusal_by, refusal_of}
+use lib.ListN.{length, replicate}
+use borrow.Author.Tests.{eq-eqb, ne_eqb, le-leb, lt-leb, eqb-true, ltb-false, leb-false, not-false}
+use Rattle.form.specs.Reading.{refusal_of}
 use Rattle.form.proofs.Named.{names-none}
 use Rattle.form.specs.declared.Refusal.{Refusal}
-use Rattle.addresses.specs.Addresses.{run, gather, scatter}
-use Rattle.addresses.specs.Copy.{copied, cleared}
-use Rattle.addresses.proofs.Runs.{gather-run, scatter-whole, all-run}
-use Rattle.addresses.proofs.Parts.{scatter-left}
 use Rattle.station.specs.declared.Station.{Station}
-use Rattle.station.specs.Paper.{Paper, verdict_of, refusal_under}
+use Rattle.station.specs.Outcome.{answer_of}
+use Rattle.station.specs.Paper.{Paper, verdict_of, refusal_under, answer_under}
 use Rattle.station.specs.Attachment.{wrong_seat, seat_of, freed, holding, detach_order, detach_refusal, detach_station, detach_seat, attach_order, attach_refusal, attach_station, attach_seat}
 use Rattle.station.proofs.Orders.{kept, left, first_rest, or-false}
 use Rattle.form.specs.Order.{NoneHolds, Answers, Positive}
@@ -124,18 +122,9 @@ module _ (P : Paper) (s : Station) (seat d : List ℕ) where
   unfolding attach_station attach_seat
   attach-done e = (kept (attach_refusal P s seat d) _ _ e, kept (attach_refusal P s seat d) _ _ e)
 
--- ---- as code has it
-
--- a refusal's number is the number that it was made of
-pub number-of : (n : ℕ) (r : Refusal) → r ≡ refusal_of n → r.number ≡ n
-unfolding refusal_of refusal_at
-number-of n r e = ap (λ (q : Refusal). q.number) e
+-- ---- as an answer
 
 module _ (P : Paper) (d : List ℕ) (n : ℕ) where
-  pub number-under : (r : Refusal) → r ≡ refusal_under P d n → r.number ≡ n
-  unfolding refusal_under refusal_by refusal_at
-  number-under r e = ap (λ (q : Refusal). q.number) e
-
   -- no type is named where nothing is refused, nor by a number above 7
   pub under_none : n ≡ 0 → refusal_under P d n ≡ refusal_of n
   unfolding refusal_under
@@ -145,27 +134,46 @@ module _ (P : Paper) (d : List ℕ) (n : ℕ) where
   unfolding refusal_under
   under-high l = names-none (P.broken d) (P.large d) n (ne_eqb n 6 (λ q. omega arith)) (ne_eqb n 7 (λ q. omega arith))
 
-replicate-add : (m n : ℕ) → replicate {A = ℕ} (m + n) 0 ≡ replicate m 0 ++ replicate n 0
-replicate-add zero n = let e : zero + n ≡ n = omega arith in ap (λ (k : ℕ). replicate k 0) e
-replicate-add (suc m) n =
-    let e : suc m + n ≡ suc (m + n) = omega arith in
-    ap (λ (k : ℕ). replicate k 0) e ∙ ap (λ (l : List ℕ). 0 ∷ l) (replicate-add m n)
+module _ {A : Type 0} (P : Paper) (d : List ℕ) where
+  -- a refusal that is passed on
+  pub under-not : (n m : ℕ) (r : Refusal) (x : A) → r ≡ refusal_under P d m → 0 < m → n ≡ m → Err r ≡ answer_under P d n x
+  unfolding answer_under
+  under-not n m r x e l p = rw (p, ne_eqb m 0 (λ q. omega arith)) (ap Err e)
 
--- a cleared seat with the description copied into it: "the description, then zeros"
-pub filled-seat : (seat mid d : List ℕ) → length seat ≡ 586 → length d ≤ 586 → mid ≡ cleared seat → copied mid 0 d 0 (length d) ≡ seat_of d
-unfolding seat_of copied cleared
-filled-seat seat mid d e l m =
-    let n = length d in
-    let zs = replicate {A = ℕ} n 0 in
-    let whole_length : length seat ≡ n + (586 - n) = omega arith in
-    let split : mid ≡ zs ++ replicate (586 - n) 0 = m ∙ ap (λ (k : ℕ). replicate k 0) whole_length ∙ replicate-add n (586 - n) in
-    ap (λ (x : List ℕ). scatter x (run 0 n) (gather d (run 0 n))) split
-    ∙ scatter-left (run 0 n) (gather d (run 0 n)) zs (replicate (586 - n) 0) (all-run 0 n (λ k a b. rw (length-replicate {A = ℕ} n 0) (omega arith)))
-    ∙ ap (λ (x : List ℕ). x ++ replicate (586 - n) 0) (ap (λ (v : List ℕ). scatter zs (run 0 n) v) (whole d) ∙ scatter-whole d zs (length-replicate n 0))
-  where
-    take_all : (l : List ℕ) → take (length l) l ≡ l
-    take_all [] = refl
-    take_all (x ∷ xs) = ap (λ (ys : List ℕ). x ∷ ys) (take_all xs)
+  -- one of the call's own
+  pub under-refused : (n m : ℕ) (r : Refusal) (x : A) → r ≡ refusal_of m → 7 < m → n ≡ m → Err r ≡ answer_under P d n x
+  under-refused n m r x e l p = under-not n m r x (e ∙ sym (under-high P d m l)) (omega arith) p
 
-    whole : (l : List ℕ) → gather l (run 0 (length l)) ≡ l
-    whole l = gather-run (length l) 0 l (omega arith) ∙ take_all l
+  pub under-done : (n : ℕ) (x y : A) → n ≡ 0 → x ≡ y → Ok x ≡ answer_under P d n y
+  unfolding answer_under
+  under-done n x y p e = rw (eq-eqb n 0 p) (ap Ok e)
+
+  -- what an answer says of its number
+  pub under-ok : (n : ℕ) (x y : A) → answer_under P d n x ≡ Ok y → n ≡ 0
+  unfolding answer_under
+  under-ok zero x y e = refl
+  under-ok (suc n) x y e = let z = rw (ne_eqb (suc n) 0 (λ q. omega arith)) at e in cc
+
+  pub under-err : (n : ℕ) (x : A) (r : Refusal) → answer_under P d n x ≡ Err r → n ≢ 0
+  unfolding answer_under
+  under-err zero x r e q = cc
+  under-err (suc n) x r e q = omega (arith, q)
+
+module _ {A : Type 0} where
+  pub of-refused : (n m : ℕ) (r : Refusal) (x : A) → r ≡ refusal_of m → 0 < m → n ≡ m → Err r ≡ answer_of n x
+  unfolding answer_of
+  of-refused n m r x e l p = rw (p, ne_eqb m 0 (λ q. omega arith)) (ap Err e)
+
+  pub of-done : (n : ℕ) (x y : A) → n ≡ 0 → x ≡ y → Ok x ≡ answer_of n y
+  unfolding answer_of
+  of-done n x y p e = rw (eq-eqb n 0 p) (ap Ok e)
+
+  pub of-ok : (n : ℕ) (x y : A) → answer_of n x ≡ Ok y → n ≡ 0
+  unfolding answer_of
+  of-ok zero x y e = refl
+  of-ok (suc n) x y e = let z = rw (ne_eqb (suc n) 0 (λ q. omega arith)) at e in cc
+
+  pub of-err : (n : ℕ) (x : A) (r : Refusal) → answer_of n x ≡ Err r → n ≢ 0
+  unfolding answer_of
+  of-err zero x r e q = cc
+  of-err (suc n) x r e q = omega (arith, q)

@@ -1,4 +1,5 @@
 -- One call to change modules (request 2026-09): which number, exactly, and what is left. Assumes nothing.
+use Rattle.std.specs.Prelude.{Result}
 use mathlib.Core.Path.{◌≡◌, refl, sym, ap₂, ◌∙◌}
 use mathlib.Core.Logic.{◌↔◌, ◌≢◌}
 use mathlib.Core.Bool.{Bool, true, false}
@@ -12,7 +13,7 @@ use Rattle.form.specs.declared.Refusal.{Refusal}
 use Rattle.form.proofs.Order.{accepts-exactly, refuses-exactly}
 use Rattle.station.specs.declared.Station.{Station}
 use Rattle.station.specs.Outcome.{leaves}
-use Rattle.station.specs.Paper.{Paper, verdict_of, refusal_under}
+use Rattle.station.specs.Paper.{Paper, verdict_of, answer_under}
 use Rattle.station.specs.Attachment.{wrong_seat, seat_of, freed, holding, detach_refusal, detach_station, detach_seat, attach_refusal, attach_station, attach_seat, change_refusal, change_station, change_seat, change_order}
 use Rattle.station.proofs.Attachments.{detach-wrong, detach-idle, detach-right, detach-left, detach-done, attach-wrong, attach-left, attach-done}
 
@@ -140,10 +141,10 @@ module _ (P : Paper) (s : Station) (seat d : List ℕ) where
       let t = attach-done P (detach_station s seat) (detach_seat s seat) d e in
       (t.0 ∙ (λ j. record { attached = true; length = (holding s d).length; number = suc (detach-number s seat j) }), t.1)
 
-  -- ---- as code has it: what the two functions by value ensure, one after the other
+  -- ---- as code has it: what a detach and an attach ensure, one after the other
 
-  pub change-composed : (x y : Station) (r : Refusal) (mid after : List ℕ) → x ≡ detach_station s seat → mid ≡ detach_seat s seat
-      → (r ≡ refusal_under P d (attach_refusal P x mid d)) × (y ≡ attach_station P x mid d) × (after ≡ attach_seat P x mid d)
-      → (r ≡ refusal_under P d (change_refusal P s seat d)) × (y ≡ change_station P s seat d) × (after ≡ change_seat P s seat d)
+  pub change-composed : (x y : Station) (r : Result (Unit {0}) Refusal) (mid after : List ℕ) → x ≡ detach_station s seat → mid ≡ detach_seat s seat
+      → (r ≡ answer_under P d (attach_refusal P x mid d) tt) × (y ≡ attach_station P x mid d) × (after ≡ attach_seat P x mid d)
+      → (r ≡ answer_under P d (change_refusal P s seat d) tt) × (y ≡ change_station P s seat d) × (after ≡ change_seat P s seat d)
   unfolding change_refusal change_station change_seat
   change-composed x y r mid after e f h = rw (← e, ← f) h

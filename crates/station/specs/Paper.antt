@@ -1,6 +1,6 @@
 -- What the chapters before say of a description's bytes, as one record, so that station and walk are defined for any such paper;
 -- `kcb` is document 01's. Assumes nothing: these are definitions.
-use Rattle.std.specs.Prelude.{Bool, cond, List, [], map, ℕ, eqb, length, get_or, take}
+use Rattle.std.specs.Prelude.{Bool, cond, List, [], map, ℕ, eqb, length, get_or, take, Result, Ok, Err}
 use Rattle.std.proofs.Common.{arith}
 use Rattle.addresses.specs.Addresses.{run}
 use Rattle.description.specs.Description.{variadic_in, named_in, arguments_in, argument_at, model_in}
@@ -39,6 +39,10 @@ module _ (P : Paper) where
   -- the refusal of a description under number n: 6 and 7 name a type (request 2026-01)
   unfoldable pub refusal_under : List ℕ → ℕ → Refusal
   refusal_under d n = refusal_by (P.broken d) (P.large d) n
+
+  -- what a call answers of a description under number n: this where n is 0, and else the refusal
+  unfoldable pub answer_under : {A : Type 0} → List ℕ → ℕ → A → Result A Refusal
+  answer_under d n x = cond (eqb n 0) (Ok x) (Err (refusal_under d n))
 
   -- A
   unfoldable pub arguments : List ℕ → ℕ

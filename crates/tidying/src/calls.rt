@@ -15,10 +15,7 @@ fn number_types<'a>(d: &'a [u8], marks: &'a mut [u32; 64]) -> Result<Tidied<'a>,
         (λ tidied. (length_refusal d.now ≡ 0) × (tidied.numbering.types.bytes.now ≡ d.now))
         (λ refusal. (length_refusal d.now ≢ 0) × (refusal ≡ refusal_for d.now (length_refusal d.now))) }
 {
-    let refusal = layout::check(d);
-    if refusal.number != 0 {
-        return Err(refusal);
-    }
+    layout::check(d)?;
     marking::mark_all(d, marks);
     Tidied::of_call(MarkedTypes { bytes: d, marks })
 }

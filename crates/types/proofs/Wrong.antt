@@ -1,15 +1,15 @@
 -- Which type a refusal names (request 2026-01). Assumes nothing.
-use mathlib.Core.Path.{◌≡◌, sym, ap, ◌∙◌}
-use mathlib.Core.Bool.{false}
+use mathlib.Core.Path.{◌≡◌, refl, sym, ◌∙◌}
+use mathlib.Core.Bool.{Bool, true, false, cond}
 use mathlib.Core.Logic.{◌≢◌}
 use mathlib.Core.List.{List, ◌∷◌, ◌++◌}
 use Prim.Native.Nat.{ℕ}
 use lib.Dec.{eqb}
-use borrow.Author.Tests.{ne_eqb, lt-ltb, le-ltb}
+use borrow.Author.Tests.{ne_eqb, lt-ltb, le-ltb, eqb-true}
 use Rattle.std.specs.Prelude.{Ok, Err, Some, None}
 use Rattle.description.specs.Description.{types_in, model_in}
 use Rattle.form.specs.Order.{Rule, rule, first, Without, form_order, form_refusal}
-use Rattle.form.specs.Reading.{refusal_at, refusal_by, refusal_of, judgment, form_refused}
+use Rattle.form.specs.Reading.{refusal_at, refusal_by, refusal_of, judgment, form_refused, refusal_in}
 use Rattle.form.specs.Search.{first_within}
 use Rattle.form.specs.declared.Refusal.{Refusal}
 use Rattle.form.proofs.Judgment.{passed, refused}
@@ -39,6 +39,14 @@ judged d later n other e =
 pub no_type : (d : List ℕ) (n : ℕ) → eqb n 6 ≡ false → eqb n 7 ≡ false → refusal_for d n ≡ refusal_of n
 unfolding refusal_for
 no_type d n six seven = names-none _ _ n six seven
+
+-- a number judged, and the refusal that its answer carries
+pub refusal_in-judgment : (d : List ℕ) (n : ℕ) → refusal_in (judgment n (refusal_for d n)) ≡ refusal_for d n
+refusal_in-judgment d n = by (eqb n 0) refl
+  where
+    by : (b : Bool) → eqb n 0 ≡ b → refusal_in (cond b (Ok (tt {0})) (Err (refusal_for d n))) ≡ refusal_for d n
+    by true q = rw (eqb-true n 0 q) (sym (no_type d 0 refl refl))
+    by false q = refl
 
 -- what is answered for a description, by what its form and its first large type are
 module _ (d : List ℕ) where

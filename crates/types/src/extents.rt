@@ -17,7 +17,11 @@ pub fn offset_after(union: bool, end: Bytes, align: Bytes) -> Bytes
     requires { (end.0 ≤ 2 ^ 32) × ((0 < align.0) × (align.0 ≤ 32)) }
     ensures { result.0 ≡ offset_after union end.0 align.0 }
 {
-    if union { Bytes(0) } else { end.raised_to(align) }
+    if union {
+        Bytes(0)
+    } else {
+        end.raised_to(align)
+    }
 }
 
 // Where the members end after one more.

@@ -1,11 +1,11 @@
 -- The refusals 1 to 9: which number, exactly, and what a description is sure of that gets none. Assumes nothing.
-use mathlib.Core.Path.{◌≡◌, refl, ◌∙◌}
+use mathlib.Core.Path.{◌≡◌, refl}
 use mathlib.Core.Bool.{Bool, true, false, cond}
-use mathlib.Core.List.{List, [], ◌∷◌}
+use mathlib.Core.List.{List}
 use mathlib.Core.Logic.{◌↔◌, ◌≢◌}
 use Prim.Native.Nat.{ℕ, ◌-◌, ◌≤◌, ◌<◌}
 use native.Mathlib.Omega.{arith}
-use borrow.Author.Tests.{ltb-false, leb-false, lt-ltb, le-ltb}
+use borrow.Author.Tests.{ltb-false, leb-false}
 use lib.Dec.{leb, ltb, eqb}
 use Rattle.description.specs.Description.{types_in, named_in, arguments_in, return_in, kind_at, argument_at, Whole}
 use Rattle.std.specs.Prelude.{Err}

@@ -41,8 +41,7 @@ fn wrong_use(d: &[u8]) -> bool
     ensures { result ≡ wrong_use d.now }
 {
     wrong_return(d)
-        || (0..description::byte_at(d, 8))
-            .any(|i| wrong_number(d, description::argument_at(d, i)))
+        || (0..description::byte_at(d, 8)).any(|i| wrong_number(d, description::argument_at(d, i)))
 }
 
 // ---- 9: unnamed arguments

@@ -2,7 +2,7 @@
 use Rattle.std.specs.Prelude.{Err, Ok, Result}
 use mathlib.Core.Path.{◌≡◌, refl, sym, ap, ◌∙◌}
 use mathlib.Core.Logic.{◌↔◌, ◌≢◌}
-use mathlib.Core.Bool.{Bool, true, false, cond, not, ◌||◌}
+use mathlib.Core.Bool.{Bool, true, false, cond, not, ◌||◌, ◌&&◌}
 use mathlib.Core.List.{List, [], ◌∷◌}
 use Prim.Native.Nat.{ℕ, ◌≤◌, ◌<◌}
 use native.Mathlib.Omega.{arith}
@@ -27,17 +27,16 @@ use Rattle.places.proofs.Fits.{after-bounds}
 use Rattle.types.specs.Decode.{ty_at}
 use Rattle.layout.specs.declared.Layout.{Layout}
 use Rattle.layout.specs.Arguments.{is_named, shape_at as layout_shape, shapes_from, hidden, used_at as layout_used}
-use Rattle.layout.specs.Verdict.{verdict}
-use Rattle.layout.specs.Layout.{layout_of, layout_answer, refusal_in}
+use Rattle.layout.specs.Layout.{layout_of, layout_answer}
 use Rattle.layout.proofs.Verdict.{accepted-uses}
 use Rattle.layout.proofs.Bounds.{argument-known}
-use Rattle.layout.proofs.Layouts.{laid-accepted, refused-verdict, refused-nonzero}
+use Rattle.layout.proofs.Layouts.{laid-accepted}
 use Rattle.station.specs.declared.Station.{Station}
-use Rattle.station.specs.Paper.{Paper, kcb, verdict_of, refusal_under, arguments, shape_at}
+use Rattle.station.specs.Paper.{Paper, kcb, verdict_of, refusal_under, arguments, shape_at, area_of}
 use Rattle.station.specs.Attachment.{wrong_seat, described}
 use Rattle.station.proofs.Orders.{or-false}
 use Rattle.station.proofs.Attachments.{under-high}
-use Rattle.station.proofs.Kcb.{kcb-verdict, kcb-refusal, kcb-arguments, kcb-area, kcb-shape, kcb-type}
+use Rattle.station.proofs.Kcb.{laid-right, laid-not, kcb-arguments, kcb-area, kcb-shape, kcb-type}
 use Rattle.walk.specs.declared.Walk.{Walk}
 use Rattle.walk.specs.Offsets.{walk_at}
 use Rattle.walk.specs.Orders.{Ask, asking, with_offsets, standing, wrong_registers, other_number, astray, at_end, other_type, wrong_stack, walk_order, step_order, show_order, step_refusal, show_refusal, rest_refusal}
@@ -48,17 +47,8 @@ use Rattle.places.specs.declared.Shape.{Shape}
 
 -- ---- the layout's answer
 
-pub laid-right : (d : List ℕ) (r : Result Layout Refusal) (l : Layout) → r ≡ layout_answer d → r ≡ Ok l → (verdict_of kcb d ≡ 0) × (l ≡ layout_of d)
-laid-right d r l e p = let z = laid-accepted d l (sym e ∙ p) in (kcb-verdict d ∙ z.0, z.1)
-
-pub laid-uses : (d : List ℕ) (r : Result Layout Refusal) (l : Layout) → r ≡ layout_answer d → r ≡ Ok l → uses_refusal d ≡ 0
-laid-uses d r l e p = accepted-uses d (laid-accepted d l (sym e ∙ p)).0
-
-pub refused-right : (d : List ℕ) (r : Result Layout Refusal) (q v : Refusal) → r ≡ layout_answer d → r ≡ Err q → v ≡ refusal_in r
-    → (v ≡ refusal_under kcb d (verdict_of kcb d)) × (verdict_of kcb d ≢ 0)
-refused-right d r q v e p w =
-    let z : layout_answer d ≡ Err q = sym e ∙ p in
-    (w ∙ ap refusal_in p ∙ refused-verdict d q z ∙ sym (kcb-refusal d (verdict d)) ∙ ap (refusal_under kcb d) (sym (kcb-verdict d)), λ v. refused-nonzero d q z (sym (kcb-verdict d) ∙ v))
+pub laid-uses : (d : List ℕ) (l : Layout) → layout_answer d ≡ Ok l → uses_refusal d ≡ 0
+laid-uses d l e = accepted-uses d (laid-accepted d l e).0
 
 pub headed : (d : List ℕ) → uses_refusal d ≡ 0 → 11 ≤ length d
 headed d u = accepted-headed d (accepted-form d (accepted-types d u))
@@ -85,6 +75,11 @@ pub astray-high : (d : List ℕ) (w : Walk) → named_in d ≤ w.position → ar
 unfolding astray kcb
 astray-high d w l h = rw (le-ltb w.position (named_in d) l, kcb-arguments d, lt-ltb (arguments_in d) w.position h)
 
+one_differs : (a b c : Bool) → not (a && (b && c)) ≡ (not a || (not b || not c))
+one_differs true true c = refl
+one_differs true false c = refl
+one_differs false b c = refl
+
 module _ (d : List ℕ) (w v : Walk) (u : Used) (from : named_in d ≤ w.position) (to : w.position ≤ arguments_in d)
     (used : u ≡ layout_used d w.position) (there : v ≡ with_offsets w.number w.position (walk_at u)) where
   astray-is : astray kcb d w ≡ (not (eqb w.general.0 v.general.0) || (not (eqb w.vector.0 v.vector.0) || not (eqb w.overflow.0 v.overflow.0)))
@@ -92,15 +87,11 @@ module _ (d : List ℕ) (w v : Walk) (u : Used) (from : named_in d ≤ w.positio
   astray-is =
       rw (le-ltb w.position (named_in d) from, kcb-arguments d, le-ltb (arguments_in d) w.position to, ← standing-is d w.number w.position v to (there ∙ ap (λ (x : Used). with_offsets w.number w.position (walk_at x)) used))
 
-  pub astray-general : (b : Bool) → b ≡ eqb w.general.0 v.general.0 → b ≡ false → true ≡ astray kcb d w
-  astray-general b e f = sym (astray-is ∙ rw (sym e ∙ f))
-
-  pub astray-vector : (b : Bool) → eqb w.general.0 v.general.0 ≡ true → b ≡ eqb w.vector.0 v.vector.0 → b ≡ false → true ≡ astray kcb d w
-  astray-vector b g e f = sym (astray-is ∙ rw (g, sym e ∙ f))
-
-  pub astray-overflow : (b : Bool) → eqb w.general.0 v.general.0 ≡ true → eqb w.vector.0 v.vector.0 ≡ true → b ≡ eqb w.overflow.0 v.overflow.0
-      → not b ≡ astray kcb d w
-  astray-overflow b g h e = sym (astray-is ∙ rw (g, h, sym e))
+  -- the two records are compared whole
+  pub astray-differs : not (eqb w.number v.number && (eqb w.position v.position && (eqb w.general.0 v.general.0 && (eqb w.vector.0 v.vector.0 && eqb w.overflow.0 v.overflow.0)))) ≡ astray kcb d w
+  astray-differs =
+      rw (eq-eqb w.number v.number (sym (ap (λ (x : Walk). x.number) there)), eq-eqb w.position v.position (sym (ap (λ (x : Walk). x.position) there)))
+      (one_differs (eqb w.general.0 v.general.0) (eqb w.vector.0 v.vector.0) (eqb w.overflow.0 v.overflow.0) ∙ sym astray-is)
 
 -- a record that is not astray is the one that stands there
 module _ (P : Paper) where
@@ -132,7 +123,7 @@ on-before d w e h = omega (arith, (astray-not kcb d w e).to, kcb-arguments d)
 -- ---- the numbers, where the description is accepted
 
 module _ (P : Paper) (s : Station) (d : List ℕ) (w : Walk) (a : Ask) where
-  pub rest-early : verdict_of P d ≢ 0 → rest_refusal P s d w a ≡ verdict_of P d
+  rest-early : verdict_of P d ≢ 0 → rest_refusal P s d w a ≡ verdict_of P d
   unfolding verdict_of rest_refusal
   rest-early h = first-before (P.order d) _ h
 
@@ -141,61 +132,28 @@ module _ (P : Paper) (s : Station) (d : List ℕ) (w : Walk) (a : Ask) where
     unfolding verdict_of rest_refusal
     rest-late = first-behind (P.order d) _ (P.counted d) ok
 
-    pub rest-17 : other_number s w ≡ true → rest_refusal P s d w a ≡ 17
+    rest-17 : other_number s w ≡ true → rest_refusal P s d w a ≡ 17
     rest-17 e = rest-late ∙ rw e
 
-    pub rest-18 : other_number s w ≡ false → astray P d w ≡ true → rest_refusal P s d w a ≡ 18
+    rest-18 : other_number s w ≡ false → astray P d w ≡ true → rest_refusal P s d w a ≡ 18
     rest-18 e f = rest-late ∙ rw (e, f)
 
-    pub rest-19 : other_number s w ≡ false → astray P d w ≡ false → at_end P d w ≡ true → rest_refusal P s d w a ≡ 19
+    rest-19 : other_number s w ≡ false → astray P d w ≡ false → at_end P d w ≡ true → rest_refusal P s d w a ≡ 19
     rest-19 e f g = rest-late ∙ rw (e, f, g)
 
-    pub rest-20 : other_number s w ≡ false → astray P d w ≡ false → at_end P d w ≡ false → other_type P d w a ≡ true → rest_refusal P s d w a ≡ 20
+    rest-20 : other_number s w ≡ false → astray P d w ≡ false → at_end P d w ≡ false → other_type P d w a ≡ true → rest_refusal P s d w a ≡ 20
     rest-20 e f g h = rest-late ∙ rw (e, f, g, h)
 
-    pub rest-11 : other_number s w ≡ false → astray P d w ≡ false → at_end P d w ≡ false → other_type P d w a ≡ false → wrong_stack P d a ≡ true → rest_refusal P s d w a ≡ 11
+    rest-11 : other_number s w ≡ false → astray P d w ≡ false → at_end P d w ≡ false → other_type P d w a ≡ false → wrong_stack P d a ≡ true → rest_refusal P s d w a ≡ 11
     rest-11 e f g h k = rest-late ∙ rw (e, f, g, h, k)
 
     pub rest-right : other_number s w ≡ false → astray P d w ≡ false → at_end P d w ≡ false → other_type P d w a ≡ false → wrong_stack P d a ≡ false → rest_refusal P s d w a ≡ 0
     rest-right e f g h k = rest-late ∙ rw (e, f, g, h, k)
 
--- the tests, as code makes them
-pub other-number : (s : Station) (w : Walk) → w.number ≢ s.number → other_number s w ≡ true
-unfolding other_number
-other-number s w h = rw (ne_eqb w.number s.number h)
-
-pub same_number : (s : Station) (w : Walk) → w.number ≡ s.number → other_number s w ≡ false
-unfolding other_number
-same_number s w e = rw (eq-eqb w.number s.number e)
-
-pub at-end : (d : List ℕ) (w : Walk) → w.position ≡ arguments_in d → at_end kcb d w ≡ true
-unfolding at_end
-at-end d w e = rw (kcb-arguments d, eq-eqb w.position (arguments_in d) e)
-
-pub not_at_end : (d : List ℕ) (w : Walk) → w.position ≢ arguments_in d → at_end kcb d w ≡ false
-unfolding at_end
-not_at_end d w h = rw (kcb-arguments d, ne_eqb w.position (arguments_in d) h)
-
-pub other-type : (d : List ℕ) (w : Walk) (a : Ask) (t : ℕ) → w.position < arguments_in d → t ≡ argument_at d w.position → t ≢ a.asked → other_type kcb d w a ≡ true
-unfolding other_type
-other-type d w a t l e h = rw (kcb-type d w.position l, ne_eqb a.asked (argument_at d w.position) (λ q. h (e ∙ sym q)))
-
-pub same-type : (d : List ℕ) (w : Walk) (a : Ask) (t : ℕ) → w.position < arguments_in d → t ≡ argument_at d w.position → t ≡ a.asked → other_type kcb d w a ≡ false
-unfolding other_type
-same-type d w a t l e q = rw (kcb-type d w.position l, eq-eqb a.asked (argument_at d w.position) (sym q ∙ e))
-
-pub at-not : (d : List ℕ) (p b : ℕ) → b ≡ arguments_in d → p ≢ b → p ≢ arguments_in d
-at-not d p b e h q = h (q ∙ sym e)
-
-pub at-is : (d : List ℕ) (p b : ℕ) → b ≡ arguments_in d → p ≡ b → p ≡ arguments_in d
-at-is d p b e q = q ∙ e
+-- ---- a standing, check after check, as code makes them
 
 pub asked-type : (d : List ℕ) → uses_refusal d ≡ 0 → (p k : ℕ) → p < arguments_in d → k ≡ argument_at d p → Sized (model_in d) d k
 asked-type d u p k l e = accepted-sized d (accepted-types d u) k (rw e (argument-known d u p l))
-
-pub stack-test : (d : List ℕ) (a : Ask) (l : Layout) (b : Bool) → l ≡ layout_of d → b ≡ eqb (length a.stack) l.area.0 → wrong_stack kcb d a ≡ not b
-unfolding wrong_stack layout_of
-stack-test d a l b e q = rw (kcb-area d) (ap not (sym (q ∙ ap (λ (m : Layout). eqb (length a.stack) m.area.0) e)))
 
 -- a walk stands before unnamed arguments only
 pub on-unnamed : (d : List ℕ) (w : Walk) → astray kcb d w ≡ false → is_named d w.position ≡ false
@@ -207,14 +165,84 @@ pub shape_here : (d : List ℕ) (p k : ℕ) (s : Coded) → is_named d p ≡ fal
 unfolding layout_shape
 shape_here d p k s n l e q = q ∙ ap (λ (j : ℕ). shape_of (model_in d) false (ty_at d j)) e ∙ rw (kcb-shape d p l, n)
 
-module _ (P : Paper) (d : List ℕ) (n m : ℕ) (r : Refusal) where
+module _ (P : Paper) (d : List ℕ) (n m : ℕ) (p : ℕ) (r : Refusal) where
   -- a refusal that is passed on
-  pub refused-on : r ≡ refusal_under P d m → 0 < m → n ≡ m → (n ≢ 0) × (r ≡ refusal_under P d n)
-  refused-on e l p = ((λ z. omega arith), e ∙ ap (refusal_under P d) (sym p))
+  refused-on : r ≡ refusal_under P d m → 0 < m → n ≡ m → IsStanding P n d p (Err r)
+  refused-on e l q = ((λ z. omega arith), e ∙ ap (refusal_under P d) (sym q))
 
   -- one of the walk's own
-  pub refused_as : r ≡ refusal_of m → 7 < m → n ≡ m → (n ≢ 0) × (r ≡ refusal_under P d n)
-  refused_as e l p = refused-on (e ∙ sym (under-high P d m l)) (omega arith) p
+  pub refused_as : r ≡ refusal_of m → 7 < m → n ≡ m → IsStanding P n d p (Err r)
+  refused_as e l q = refused-on (e ∙ sym (under-high P d m l)) (omega arith) q
+
+module _ (s : Station) (d : List ℕ) (w : Walk) (stack : List ℕ) (ty : ℕ) where
+  abbrev a : Ask
+  a = asking [] stack ty []
+
+  abbrev Stands : Result Coded Refusal → Type 0
+  Stands r = IsStanding kcb (rest_refusal kcb s d w a) d w.position r
+
+  pub stands-not : (r : Refusal) → layout_answer d ≡ Err r → Stands (Err r)
+  stands-not r e = let z = laid-not d r e in refused-on kcb _ _ _ w.position r z.0 (omega (arith, z.1)) (rest-early kcb s d w a z.1)
+
+  module _ (l : Layout) (laid : layout_answer d ≡ Ok l) where
+    ok : verdict_of kcb d ≡ 0
+    ok = (laid-right d l laid).0
+
+    pub stands-17 : (r : Refusal) → r ≡ refusal_of 17 → w.number ≢ s.number → Stands (Err r)
+    unfolding other_number
+    stands-17 r e h = refused_as kcb _ _ 17 w.position r e (omega arith) (rest-17 kcb s d w a ok (rw (ne_eqb w.number s.number h)))
+
+    module _ (same : w.number ≡ s.number) where
+      same_number : other_number s w ≡ false
+      unfolding other_number
+      same_number = rw (eq-eqb w.number s.number same)
+
+      pub stands-18 : (r : Refusal) → r ≡ refusal_of 18 → astray kcb d w ≡ true → Stands (Err r)
+      stands-18 r e h = refused_as kcb _ _ 18 w.position r e (omega arith) (rest-18 kcb s d w a ok same_number h)
+
+      module _ (on : astray kcb d w ≡ false) where
+        pub stands-19 : (r : Refusal) → r ≡ refusal_of 19 → w.position ≡ arguments_in d → Stands (Err r)
+        unfolding at_end
+        stands-19 r e h = refused_as kcb _ _ 19 w.position r e (omega arith) (rest-19 kcb s d w a ok same_number on (rw (kcb-arguments d, eq-eqb w.position (arguments_in d) h)))
+
+        module _ (not_last : w.position ≢ arguments_in d) where
+          before : w.position < arguments_in d
+          before = on-before d w on not_last
+
+          not_at_end : at_end kcb d w ≡ false
+          unfolding at_end
+          not_at_end = rw (kcb-arguments d, ne_eqb w.position (arguments_in d) not_last)
+
+          module _ (t : ℕ) (type : t ≡ argument_at d w.position) where
+            pub stands-20 : (r : Refusal) → r ≡ refusal_of 20 → t ≢ ty → Stands (Err r)
+            unfolding other_type
+            stands-20 r e h =
+                refused_as kcb _ _ 20 w.position r e (omega arith) (rest-20 kcb s d w a ok same_number on not_at_end
+                (rw (kcb-type d w.position before, ne_eqb ty (argument_at d w.position) (λ q. h (type ∙ sym q)))))
+
+            pub sized-here : Sized (model_in d) d t
+            sized-here = asked-type d (laid-uses d l laid) w.position t before type
+
+            module _ (asked_for : t ≡ ty) where
+              same_type : other_type kcb d w a ≡ false
+              unfolding other_type
+              same_type = rw (kcb-type d w.position before, eq-eqb ty (argument_at d w.position) (sym asked_for ∙ type))
+
+              area : l.area.0 ≡ area_of kcb d
+              unfolding layout_of
+              area = ap (λ (m : Layout). m.area.0) (laid-right d l laid).1 ∙ sym (kcb-area d)
+
+              pub stands-11 : (r : Refusal) → r ≡ refusal_of 11 → length stack ≢ l.area.0 → Stands (Err r)
+              unfolding wrong_stack
+              stands-11 r e h =
+                  refused_as kcb _ _ 11 w.position r e (omega arith) (rest-11 kcb s d w a ok same_number on not_at_end same_type (rw (ne_eqb (length stack) (area_of kcb d) (λ q. h (q ∙ sym area)))))
+
+              pub stands-right : (c : Coded) → length stack ≡ l.area.0 → asked c ≡ shape_of (model_in d) false (ty_at d t) → Stands (Ok c)
+              unfolding wrong_stack
+              stands-right c e q = (
+                rest-right kcb s d w a ok same_number on not_at_end same_type (rw (eq-eqb (length stack) (area_of kcb d) (e ∙ area))),
+                shape_here d w.position t c (on-unnamed d w on) before type q,
+              )
 
 -- ---- all of the order
 

@@ -1,11 +1,12 @@
 -- Section 3.5.7 as code has it: at most two eightbytes, and registers counted. Assumes nothing.
 use mathlib.Core.Path.{◌≡◌, refl, sym, ap, ap₂, ◌∙◌}
-use mathlib.Core.Bool.{Bool, true, false, ◌&&◌, cond, not, true≢false}
+use mathlib.Core.Bool.{Bool, true, false, cond, true≢false}
 use mathlib.Core.List.{List, [], ◌∷◌}
-use Prim.Native.Nat.{ℕ, suc, ◌+◌, ◌*◌, ◌-◌, ◌≤◌, ◌<◌}
+use Rattle.std.proofs.Common.{rules, is_le, nat_cmp}
+use Prim.Native.Nat.{ℕ, suc, ◌+◌, ◌*◌, ◌-◌, ◌≤◌}
 use native.Mathlib.Omega.{arith}
 use lib.Dec.{leb, ltb}
-use borrow.Author.Tests.{ltb-true, ltb-false, le-leb, lt-leb}
+use borrow.Author.Tests.{ltb-true}
 use Rattle.units.specs.Raise.{raise}
 use Rattle.units.proofs.Raise.{raise-below}
 use Rattle.units.specs.declared.Bytes.{Bytes}
@@ -55,27 +56,23 @@ pub holds-none : (w : Walk) (k : Kinds) → has_some (listed k) ≡ false → fa
 unfolding holds
 holds-none w k e = rw e
 
-pub holds-general : (w : Walk) (k : Kinds) → 48 - 8 * generals (listed k) < w.general.0 → false ≡ holds (offsets_of w) (listed k)
-unfolding holds
-holds-general w k l = by (has_some (listed k))
-  where
-    by : (b : Bool) → false ≡ (b && (leb w.general.0 (48 - 8 * generals (listed k)) && leb w.vector.0 (176 - 16 * vectors (listed k))))
-    by true = rw (lt-leb w.general.0 (48 - 8 * generals (listed k)) l)
-    by false = refl
+-- a type that its class lets be in registers
+pub some-kinds : (k : Kinds) → (k ≡ NoRegister → ⊥) → has_some (listed k) ≡ true
+some-kinds NoRegister h = absurd (h refl)
+some-kinds (Single k) h = refl
+some-kinds (Pair j k) h = refl
 
-not_over : (a b : ℕ) → not (ltb b a) ≡ leb a b
-not_over a b = by (ltb b a) refl
-  where
-    by : (t : Bool) → ltb b a ≡ t → not t ≡ leb a b
-    by true e = sym (lt-leb a b (ltb-true b a e))
-    by false e = sym (le-leb a b (ltb-false b a e))
+pub is_le-leb : (a b : ℕ) → is_le (nat_cmp a b) ≡ leb a b
+is_le-leb a b = search rules
 
-pub holds-last : (w : Walk) (k : Kinds) (r : Bool) (limit : ℕ) → has_some (listed k) ≡ true → w.general.0 ≤ 48 - 8 * generals (listed k)
-    → limit ≡ 176 - 16 * vectors (listed k) → r ≡ ltb limit w.vector.0 → not r ≡ holds (offsets_of w) (listed k)
-unfolding holds
-holds-last w k r limit e l m p =
-    rw (e, le-leb w.general.0 (48 - 8 * generals (listed k)) l)
-    (ap not p ∙ not_over w.vector.0 limit ∙ ap (leb w.vector.0) m)
+module _ (w : Walk) (k : Kinds) (some : has_some (listed k) ≡ true) (g : ℕ) (bound : g ≡ 48 - 8 * generals (listed k)) where
+  pub holds-general : leb w.general.0 g ≡ false → false ≡ holds (offsets_of w) (listed k)
+  unfolding holds
+  holds-general e = rw (some, ← bound, e)
+
+  pub holds-vector : (f : ℕ) → f ≡ 176 - 16 * vectors (listed k) → leb w.general.0 g ≡ true → leb w.vector.0 f ≡ holds (offsets_of w) (listed k)
+  unfolding holds
+  holds-vector f q e = rw (some, ← bound, e, ← q)
 
 -- a type that goes on the stack by its class does not hold
 pub none-fits : (w : Walk) (k : Kinds) (b : Bool) → k ≡ NoRegister → b ≡ holds (offsets_of w) (listed k) → b ≡ true → ⊥

@@ -1,10 +1,10 @@
 -- Open: which number, exactly, and the record. Assumes nothing.
-use Rattle.std.specs.Prelude.{Err, Ok, Result}
-use mathlib.Core.Path.{◌≡◌, sym, ap, ◌∙◌}
+use Rattle.std.specs.Prelude.{Err, Result}
+use mathlib.Core.Path.{◌≡◌, refl, sym, ap, ◌∙◌}
 use mathlib.Core.Logic.{◌↔◌, ◌≢◌}
 use mathlib.Core.Bool.{true, false, cond, not}
 use mathlib.Core.List.{List, [], ◌∷◌}
-use Prim.Native.Nat.{ℕ, ◌≤◌, ◌<◌}
+use Prim.Native.Nat.{ℕ, ◌≤◌}
 use native.Mathlib.Omega.{arith}
 use lib.ListN.{take}
 use borrow.Author.Tests.{eq-eqb, ne_eqb}
@@ -19,9 +19,9 @@ use Rattle.layout.specs.Arguments.{used_at as layout_used}
 use Rattle.layout.specs.Layout.{layout_of}
 use Rattle.layout.specs.declared.Layout.{Layout}
 use Rattle.station.specs.declared.Station.{Station}
-use Rattle.station.specs.Paper.{Paper, kcb, verdict_of, refusal_under}
+use Rattle.station.specs.Paper.{Paper, kcb, verdict_of, answer_under}
 use Rattle.station.specs.Attachment.{wrong_seat, described}
-use Rattle.station.proofs.Attachments.{under-high}
+use Rattle.station.proofs.Attachments.{under-refused}
 use Rattle.station.proofs.Kcb.{kcb-used}
 use Rattle.walk.specs.declared.Walk.{Walk}
 use Rattle.walk.specs.Offsets.{walk_at}
@@ -31,19 +31,9 @@ use Rattle.form.proofs.Order.{first-behind, first-before, positive-append, accep
 
 -- ---- as an answer
 
-module _ (P : Paper) (d : List ℕ) where
-  -- a refusal that is passed on
-  pub opened-not : (n m : ℕ) (r : Refusal) (w : Walk) → r ≡ refusal_under P d m → 0 < m → n ≡ m → Err r ≡ opened_if P d n w
-  unfolding opened_if
-  opened-not n m r w e l p = rw (p, ne_eqb m 0 (λ q. omega arith)) (ap Err e)
-
-  -- one of the walk's own
-  pub opened-refused : (n m : ℕ) (r : Refusal) (w : Walk) → r ≡ refusal_of m → 7 < m → n ≡ m → Err r ≡ opened_if P d n w
-  opened-refused n m r w e l p = opened-not n m r w (e ∙ sym (under-high P d m l)) (omega arith) p
-
-  pub opened-done : (n : ℕ) (v w : Walk) → n ≡ 0 → v ≡ w → Ok v ≡ opened_if P d n w
-  unfolding opened_if
-  opened-done n v w p e = rw (eq-eqb n 0 p) (ap Ok e)
+pub opened-is : (P : Paper) (d : List ℕ) (n : ℕ) (w : Walk) → answer_under P d n w ≡ opened_if P d n w
+unfolding answer_under opened_if
+opened-is P d n w = refl
 
 module _ (P : Paper) (d : List ℕ) where
   pub variadic-early : verdict_of P d ≢ 0 → first (variadic_order P d) ≡ verdict_of P d
@@ -103,11 +93,11 @@ module _ (P : Paper) (s : Station) (seat : List ℕ) where
 
   pub answer-wrong : (r : Refusal) → r ≡ refusal_of 11 → wrong_seat s seat ≡ true → Err r ≡ open_answer P s seat
   unfolding open_answer
-  answer-wrong r q e = opened-refused P _ _ 11 r _ q (omega arith) (open_wrong e)
+  answer-wrong r q e = under-refused P _ _ 11 r _ q (omega arith) (open_wrong e) ∙ opened-is P _ _ _
 
   pub answer-idle : (r : Refusal) → r ≡ refusal_of 13 → wrong_seat s seat ≡ false → s.attached ≡ false → Err r ≡ open_answer P s seat
   unfolding open_answer
-  answer-idle r q e a = opened-refused P _ _ 13 r _ q (omega arith) (open_idle e a)
+  answer-idle r q e a = under-refused P _ _ 13 r _ q (omega arith) (open_idle e a) ∙ opened-is P _ _ _
 
   pub answer-rest : (r : Result Walk Refusal) → wrong_seat s seat ≡ false → s.attached ≡ true
       → r ≡ opened_if P (take s.length.0 seat) (first (variadic_order P (take s.length.0 seat))) (standing P (take s.length.0 seat) s.number (P.named (take s.length.0 seat)))

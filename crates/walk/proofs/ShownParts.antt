@@ -1,13 +1,11 @@
 -- Show: which part, that it lies within its image, and that it holds the bytes that a step would copy. Assumes nothing.
-use Rattle.walk.specs.declared.showing.Shown.TheVariants.{Registers}
 use Rattle.std.specs.Prelude.{Err, None, Ok, Option, Result, Some}
-use mathlib.Core.Path.{◌≡◌, refl, sym, ap, ◌∙◌}
+use mathlib.Core.Path.{◌≡◌, refl, sym, ap, subst, ◌∙◌}
 use mathlib.Core.Logic.{◌≢◌}
 use mathlib.Core.Bool.{Bool, true, false, cond, false≢true, true≢false}
 use mathlib.Core.List.{List, [], ◌∷◌, ◌++◌, append-nil}
 use Prim.Native.Nat.{ℕ, ◌+◌, ◌*◌, ◌-◌, ◌≤◌, min}
 use native.Mathlib.Omega.{arith}
-use native.Mathlib.Nat.{add-sub_cancel_left}
 use lib.ListN.{length, take, drop}
 use borrow.Author.Tests.{eq-eqb, ne_eqb}
 use Rattle.addresses.specs.Addresses.{All, run, gather}
@@ -26,20 +24,20 @@ use Rattle.places.specs.Recorded.{asked, Small}
 use Rattle.places.proofs.Fits.{fits-true}
 use Rattle.places.proofs.Apart.{spread-adjoin, slots-inside}
 use Rattle.station.specs.declared.Station.{Station}
-use Rattle.station.specs.Paper.{Paper, kcb, refusal_under, shape_at, used_at}
+use Rattle.station.specs.Paper.{Paper, kcb, answer_under, shape_at, used_at}
 use Rattle.station.specs.Attachment.{described}
-use Rattle.station.proofs.Attachments.{under_none}
+use Rattle.station.proofs.Attachments.{under-not, under-done}
 use Rattle.walk.specs.declared.Walk.{Walk}
 use Rattle.walk.specs.declared.Fetch.{Fetch}
 use Rattle.walk.specs.Offsets.{Source, read_at, bytes_from, source_of, source_in}
 use Rattle.walk.specs.Orders.{Ask, offsets_of, show_refusal}
 use Rattle.walk.specs.Steps.{bytes_at}
-use Rattle.walk.specs.Asks.{InBounds, IsStanding, refusal_in}
+use Rattle.walk.specs.Asks.{InBounds, IsStanding}
 use Rattle.walk.proofs.Unnamed.{narrow-seated}
 use Rattle.walk.proofs.Passes.{Ready, ready, kcb-reads, kcb-room}
-use Rattle.walk.specs.declared.showing.Part.{Part}
 use Rattle.walk.specs.Show.{one_piece, head_of, whole, part_in, shown_bytes, Lies, shown_in, shown_answer, show_part}
 use Rattle.walk.specs.declared.showing.Shown.{Shown}
+use Rattle.walk.specs.declared.showing.Shown.TheVariants.{Registers}
 
 -- ---- one part of one image
 
@@ -143,35 +141,32 @@ shows_none P s seat w a h = rw (ne_eqb (show_refusal P s seat w a) 0 h)
 
 -- ---- as code has it
 
-pub number_is : (P : Paper) (n : ℕ) (d : List ℕ) (p : ℕ) (t : Result Coded Refusal) (r : Refusal) → IsStanding P n d p t → r ≡ refusal_in t → r ≡ refusal_under P d n
-number_is P n d p (Ok c) r h e = e ∙ sym (under_none P d 0 refl) ∙ ap (refusal_under P d) (sym h.0)
-number_is P n d p (Err q) r h e = e ∙ h.1
+pub number-not : (P : Paper) (n : ℕ) (d : List ℕ) (p : ℕ) (r : Refusal) → IsStanding P n d p (Err r) → Err r ≡ answer_under P d n (tt {0})
+number-not P n d p r h = under-not P d n n r tt h.1 (omega (arith, h.0)) refl
 
-module _ (s : Station) (seat : List ℕ) (w : Walk) (a : Ask) (t : Result Coded Refusal) (h : IsStanding kcb (show_refusal kcb s seat w a) (described s seat) w.position t) where
-  pub shown-refused : (q r : Refusal) → t ≡ Err q → r ≡ refusal_in t → Err r ≡ shown_answer kcb s seat w a
+pub number-none : (P : Paper) (n : ℕ) (d : List ℕ) (p : ℕ) (c : Coded) → IsStanding P n d p (Ok c) → Ok tt ≡ answer_under P d n (tt {0})
+number-none P n d p c h = under-done P d n tt tt h.0 refl
+
+module _ (s : Station) (seat : List ℕ) (w : Walk) (a : Ask) where
+  pub shown-refused : (r : Refusal) → IsStanding kcb (show_refusal kcb s seat w a) (described s seat) w.position (Err r) → Err r ≡ shown_answer kcb s seat w a
   unfolding shown_answer
-  shown-refused q r e p =
-      let g : IsStanding kcb (show_refusal kcb s seat w a) (described s seat) w.position (Err q) = rw e at h in
-      rw (ne_eqb (show_refusal kcb s seat w a) 0 g.0) (ap Err (p ∙ ap refusal_in e ∙ g.1))
+  shown-refused r h = rw (ne_eqb (show_refusal kcb s seat w a) 0 h.0) (ap Err h.1)
 
-  module _ (c : Coded) (e : t ≡ Ok c) where
-    stands : IsStanding kcb (show_refusal kcb s seat w a) (described s seat) w.position (Ok c)
-    stands = rw e at h
-
+  module _ (c : Coded) (h : IsStanding kcb (show_refusal kcb s seat w a) (described s seat) w.position (Ok c)) where
     pub reached-here : InBounds w
-    reached-here = (ready s seat w a stands.0).reached
+    reached-here = (ready s seat w a h.0).reached
 
     pub small-here : Small (asked c)
-    small-here = rw stands.1 (ready s seat w a stands.0).small
+    small-here = rw h.1 (ready s seat w a h.0).small
 
-    pub shown-there : (f : Fetch) (r : Result (Option Shown) Refusal) → source_of f ≡ read_at eights (offsets_of w) (asked c) → r ≡ part_in (source_of f) (asked c)
-        → (r ≡ shown_answer kcb s seat w a) × Lies r (length a.registers) (length a.stack)
+    pub shown-there : (f : Fetch) (o : Option Shown) → source_of f ≡ read_at eights (offsets_of w) (asked c) → Ok o ≡ part_in (source_of f) (asked c)
+        → (Ok o ≡ shown_answer kcb s seat w a) × Lies (Ok o) (length a.registers) (length a.stack)
     unfolding shown_answer shown_in kcb
-    shown-there f r p q =
-        let z = ready s seat w a stands.0 in
-        let x : r ≡ shown_in kcb (described s seat) w = q ∙ ap (λ (o : Source). part_in o (asked c)) p ∙ ap (λ (i : Shape). part_in (read_at eights (offsets_of w) i) i) stands.1 in (
-          x ∙ (rw (eq-eqb (show_refusal kcb s seat w a) 0 stands.0)),
-          rw (x, z.registers) (shown-lies s seat w a z),
+    shown-there f o p q =
+        let z = ready s seat w a h.0 in
+        let x : Ok o ≡ shown_in kcb (described s seat) w = q ∙ ap (λ (i : Source). part_in i (asked c)) p ∙ ap (λ (i : Shape). part_in (read_at eights (offsets_of w) i) i) h.1 in (
+          x ∙ (rw (eq-eqb (show_refusal kcb s seat w a) 0 h.0)),
+          rw z.registers (subst (λ (v : Result (Option Shown) Refusal). Lies v 176 (length a.stack)) (sym x) (shown-lies s seat w a z)),
         )
 
 -- the bytes that an answer names are what show answers
@@ -179,7 +174,3 @@ pub shows-bytes : (P : Paper) (s : Station) (seat : List ℕ) (w : Walk) (a : As
     → shown_bytes x a.registers a.stack ≡ show_part P s seat w a
 unfolding show_part
 shows-bytes P s seat w a x e = ap (λ (y : Result (Option Shown) Refusal). shown_bytes y a.registers a.stack) e
-
--- a part that is cut from its offset to its end has as many bytes as the part has
-pub part_cut : (image : List ℕ) (p : Part) → take (p.offset.0 + p.length.0 - p.offset.0) (drop p.offset.0 image) ≡ take p.length.0 (drop p.offset.0 image)
-part_cut image p = ap (λ (k : ℕ). take k (drop p.offset.0 image)) (add-sub_cancel_left p.offset.0 p.length.0)

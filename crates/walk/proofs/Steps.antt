@@ -6,9 +6,8 @@ use mathlib.Core.Bool.{Bool, true, false, cond, not, ◌||◌}
 use mathlib.Core.List.{List, [], ◌∷◌, ◌++◌}
 use Prim.Native.Nat.{ℕ, suc, ◌<◌}
 use native.Mathlib.Omega.{arith}
-use lib.Dec.{eqb}
 use lib.ListN.{length}
-use borrow.Author.Tests.{eqb-true}
+use borrow.Author.Tests.{eq-eqb, ne_eqb}
 use Rattle.addresses.specs.Addresses.{gather}
 use Rattle.form.specs.Order.{Rule, rule, first, Positive}
 use Rattle.form.specs.Reading.{refusal_of}
@@ -17,16 +16,16 @@ use Rattle.places.specs.declared.Shape.{Shape as Coded}
 use Rattle.places.specs.Shapes.{Shape}
 use Rattle.places.specs.Recorded.{asked, Small}
 use Rattle.station.specs.declared.Station.{Station}
-use Rattle.station.specs.Paper.{Paper, kcb, refusal_under, shape_at}
+use Rattle.station.specs.Paper.{Paper, kcb, answer_under, shape_at}
 use Rattle.station.specs.Attachment.{wrong_seat, described}
-use Rattle.station.proofs.Attachments.{under_none, under-high}
+use Rattle.station.proofs.Attachments.{under-not, under-refused, under-done}
 use Rattle.station.proofs.Orders.{kept, left}
 use Rattle.walk.specs.declared.Walk.{Walk}
 use Rattle.walk.specs.declared.Fetch.{Fetch}
 use Rattle.walk.specs.Offsets.{Source, read_at, step, bytes_from, source_of}
 use Rattle.walk.specs.Orders.{Ask, asking, offsets_of, with_offsets, wrong_registers, other_number, astray, at_end, other_type, wrong_stack, wrong_out, step_refusal, show_refusal}
 use Rattle.walk.specs.Steps.{bytes_at, moved_on, step_walk, step_out}
-use Rattle.walk.specs.Asks.{InBounds, Within, IsStanding, refusal_in}
+use Rattle.walk.specs.Asks.{InBounds, Within, IsStanding}
 use Rattle.walk.proofs.Passes.{Ready, ready}
 use Rattle.places.specs.Places.{eights}
 
@@ -97,68 +96,60 @@ pub show-blind : (P : Paper) (s : Station) (seat : List ℕ) (w : Walk) (regs st
 unfolding show_refusal wrong_registers other_type wrong_stack
 show-blind P s seat w regs stack out ty = refl
 
-module _ (s : Station) (seat : List ℕ) (w : Walk) (regs stack out : List ℕ) (ty : ℕ) (t : Result Coded Refusal)
-    (h : IsStanding kcb (show_refusal kcb s seat w (asking regs stack ty [])) (described s seat) w.position t) where
+module _ (s : Station) (seat : List ℕ) (w : Walk) (regs stack out : List ℕ) (ty : ℕ) where
   abbrev a : Ask
   a = asking regs stack ty out
 
-  pub leaves-refused : (q r : Refusal) → t ≡ Err q → r ≡ refusal_in t
-      → (r ≡ refusal_under kcb (described s seat) (step_refusal kcb s seat w a)) × (w ≡ step_walk kcb s seat w a) × (out ≡ step_out kcb s seat w a)
-  leaves-refused q r e p =
-      let g : IsStanding kcb (show_refusal kcb s seat w (asking regs stack ty [])) (described s seat) w.position (Err q) = rw e at h in
+  abbrev Stands : Result Coded Refusal → Type 0
+  Stands r = IsStanding kcb (show_refusal kcb s seat w (asking regs stack ty [])) (described s seat) w.position r
+
+  pub leaves-refused : (r : Refusal) → Stands (Err r)
+      → (Err r ≡ answer_under kcb (described s seat) (step_refusal kcb s seat w a) (tt {0})) × (w ≡ step_walk kcb s seat w a) × (out ≡ step_out kcb s seat w a)
+  leaves-refused r g =
       let b = show-blind kcb s seat w regs stack out ty in
       let n : show_refusal kcb s seat w a ≢ 0 = λ z. g.0 (b ∙ z) in
       let x = step-early kcb s seat w a n in
       let y = step_left kcb s seat w a (λ z. n (sym x ∙ z)) in
-      (p ∙ ap refusal_in e ∙ g.1 ∙ ap (refusal_under kcb (described s seat)) (b ∙ sym x), y.0, y.1)
+      (under-not kcb _ _ _ r tt g.1 (omega (arith, g.0)) (x ∙ sym b), y.0, y.1)
 
-  module _ (c : Coded) (e : t ≡ Ok c) where
-    stands : IsStanding kcb (show_refusal kcb s seat w (asking regs stack ty [])) (described s seat) w.position (Ok c)
-    stands = rw e at h
-
+  module _ (c : Coded) (h : Stands (Ok c)) where
     accepted : show_refusal kcb s seat w a ≡ 0
-    accepted = sym (show-blind kcb s seat w regs stack out ty) ∙ stands.0
+    accepted = sym (show-blind kcb s seat w regs stack out ty) ∙ h.0
 
     is-ready : Ready s seat w a
     is-ready = ready s seat w a accepted
 
     size_is : c.size.0 ≡ (shape_at kcb (described s seat) w.position).size
-    size_is = ap (λ (x : Shape). x.size) stands.1
+    size_is = ap (λ (x : Shape). x.size) h.1
 
-    pub leaves-out : (r : Refusal) (b : Bool) → r ≡ refusal_of 11 → b ≡ eqb (length out) c.size.0 → not b ≡ true
-        → (r ≡ refusal_under kcb (described s seat) (step_refusal kcb s seat w a)) × (w ≡ step_walk kcb s seat w a) × (out ≡ step_out kcb s seat w a)
+    pub leaves-out : (r : Refusal) → r ≡ refusal_of 11 → length out ≢ c.size.0
+        → (Err r ≡ answer_under kcb (described s seat) (step_refusal kcb s seat w a) (tt {0})) × (w ≡ step_walk kcb s seat w a) × (out ≡ step_out kcb s seat w a)
     unfolding wrong_out
-    leaves-out r b p q z =
-        let k : wrong_out kcb (described s seat) w a ≡ true = ap (λ (n : ℕ). not (eqb (length out) n)) (sym size_is) ∙ ap not (sym q) ∙ z in
+    leaves-out r p z =
+        let k : wrong_out kcb (described s seat) w a ≡ true = rw (ne_eqb (length out) (shape_at kcb (described s seat) w.position).size (λ q. z (q ∙ sym size_is))) in
         let x : step_refusal kcb s seat w a ≡ 11 = step-late kcb s seat w a accepted ∙ (rw k) in
         let y = step_left kcb s seat w a (λ m. omega arith) in
-        (p ∙ sym (under-high kcb (described s seat) 11 (omega arith)) ∙ ap (refusal_under kcb (described s seat)) (sym x), y.0, y.1)
+        (under-refused kcb _ _ 11 r tt p (omega arith) x, y.0, y.1)
 
     pub reached-here : InBounds w
     reached-here = is-ready.reached
 
     pub small-here : Small (asked c)
-    small-here = rw stands.1 is-ready.small
+    small-here = rw h.1 is-ready.small
 
-    pub copies_here : (f : Fetch) (b : Bool) → source_of f ≡ read_at eights (offsets_of w) (asked c) → b ≡ eqb (length out) c.size.0 → not b ≡ false
-        → (length regs ≡ 176) × (length out ≡ c.size.0) × Within f c.size.0 176 (length stack)
-    copies_here f b q p z =
-        (is-ready.registers, eqb-true (length out) c.size.0 (sym p ∙ not_one b z), rw size_is (is-ready.fetched f (q ∙ ap (read_at eights (offsets_of w)) stands.1)))
-      where
-        not_one : (b : Bool) → not b ≡ false → b ≡ true
-        not_one true e = refl
-        not_one false e = sym e
+    module _ (full : length out ≡ c.size.0) (f : Fetch) (fetched : source_of f ≡ read_at eights (offsets_of w) (asked c)) where
+      pub copies_here : (length regs ≡ 176) × (length out ≡ c.size.0) × Within f c.size.0 176 (length stack)
+      copies_here = (is-ready.registers, full, rw size_is (is-ready.fetched f (fetched ∙ ap (read_at eights (offsets_of w)) h.1)))
 
-    pub leaves-moved : (r : Refusal) (b : Bool) (f : Fetch) (v : Walk) (last : List ℕ) → r ≡ refusal_of 0 → b ≡ eqb (length out) c.size.0 → not b ≡ false
-        → source_of f ≡ read_at eights (offsets_of w) (asked c) → last ≡ gather (regs ++ stack) (bytes_from 176 (source_of f) c.size.0)
-        → v ≡ with_offsets w.number (suc w.position) (step eights (offsets_of w) (asked c))
-        → (r ≡ refusal_under kcb (described s seat) (step_refusal kcb s seat w a)) × (v ≡ step_walk kcb s seat w a) × (last ≡ step_out kcb s seat w a)
-    unfolding wrong_out moved_on bytes_at kcb
-    leaves-moved r b f v last p q z g m n =
-        let k : wrong_out kcb (described s seat) w a ≡ false = ap (λ (i : ℕ). not (eqb (length out) i)) (sym size_is) ∙ ap not (sym q) ∙ z in
-        let x : step_refusal kcb s seat w a ≡ 0 = step-late kcb s seat w a accepted ∙ (rw k) in
-        let y = step-done kcb s seat w a x in (
-          p ∙ sym (under_none kcb (described s seat) 0 refl) ∙ ap (refusal_under kcb (described s seat)) (sym x),
-          n ∙ ap (λ (i : Shape). with_offsets w.number (suc w.position) (step eights (offsets_of w) i)) stands.1 ∙ sym y.0,
-          m ∙ ap₂ (λ (o : Source) (i : ℕ). gather (regs ++ stack) (bytes_from 176 o i)) (g ∙ ap (read_at eights (offsets_of w)) stands.1) size_is ∙ sym y.1,
-        )
+      pub leaves-moved : (v : Walk) (last : List ℕ) → last ≡ gather (regs ++ stack) (bytes_from 176 (source_of f) c.size.0)
+          → v ≡ with_offsets w.number (suc w.position) (step eights (offsets_of w) (asked c))
+          → (Ok tt ≡ answer_under kcb (described s seat) (step_refusal kcb s seat w a) (tt {0})) × (v ≡ step_walk kcb s seat w a) × (last ≡ step_out kcb s seat w a)
+      unfolding wrong_out moved_on bytes_at kcb
+      leaves-moved v last m n =
+          let k : wrong_out kcb (described s seat) w a ≡ false = rw (eq-eqb (length out) (shape_at kcb (described s seat) w.position).size (full ∙ size_is)) in
+          let x : step_refusal kcb s seat w a ≡ 0 = step-late kcb s seat w a accepted ∙ (rw k) in
+          let y = step-done kcb s seat w a x in (
+            under-done kcb _ _ tt tt x refl,
+            n ∙ ap (λ (i : Shape). with_offsets w.number (suc w.position) (step eights (offsets_of w) i)) h.1 ∙ sym y.0,
+            m ∙ ap₂ (λ (o : Source) (i : ℕ). gather (regs ++ stack) (bytes_from 176 o i)) (fetched ∙ ap (read_at eights (offsets_of w)) h.1) size_is ∙ sym y.1,
+          )

@@ -1,6 +1,5 @@
 -- What the functions of a walk ask and answer. Assumes nothing: these are definitions.
 use Rattle.std.specs.Prelude.{◌≡◌, ◌≢◌, List, ℕ, ◌+◌, ◌-◌, ◌^◌, ◌≤◌, Err, Ok, Result}
-use Rattle.form.specs.Reading.{refusal_of}
 use Rattle.form.specs.declared.Refusal.{Refusal}
 use Rattle.places.specs.declared.Kind.{Kind}
 use Rattle.places.specs.declared.Kind.TheVariants.{General as general, Vector as vector, Upper as upper, Wide as wide}
@@ -43,8 +42,3 @@ Within (Stack o) n regs stack = o.0 + n ≤ stack
 abbrev pub IsStanding : Paper → ℕ → List ℕ → ℕ → Result Shape Refusal → Type 0
 IsStanding P n d p (Ok s) = (n ≡ 0) × (asked s ≡ shape_at P d p)
 IsStanding P n d p (Err r) = (n ≢ 0) × (r ≡ refusal_under P d n)
-
--- the refusal that a standing carries
-abbrev pub refusal_in : Result Shape Refusal → Refusal
-refusal_in (Ok s) = refusal_of 0
-refusal_in (Err r) = r

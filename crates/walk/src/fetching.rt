@@ -1,8 +1,7 @@
 // Where a walk stands before an argument, where it fetches it and where it stands then (000, section 3.5.7).
-ghost use Rattle.std.specs.Prelude.{◌≡◌, cond, suc, ◌+◌, ◌*◌, ◌^◌, ◌≤◌, ltb};
+ghost use Rattle.std.specs.Prelude.{◌≡◌, [], ◌∷◌, cond, suc, ◌+◌, ◌*◌, ◌^◌, ◌<◌, ◌≤◌, ltb};
 ghost use Rattle.units.specs.Raise.{raise};
-ghost use Rattle.places.specs.Shapes.{has_some};
-ghost use Rattle.places.specs.Places.{eights, general_for, vector_for};
+ghost use Rattle.places.specs.Places.{eights};
 ghost use Rattle.places.specs.Recorded.{listed, asked as asked_of, Small};
 ghost use Rattle.walk.specs.Offsets.{holds, read_at, step as step_offsets, source_of, walk_at};
 ghost use Rattle.walk.specs.Orders.{offsets_of, with_offsets};
@@ -10,173 +9,153 @@ ghost use Rattle.walk.specs.Asks.{InBounds, IsCounted, read_for};
 
 use crate::{Counts, Fetch, Walk};
 use places::{Kind, Kinds, Shape, Used};
+use std::ops::Add;
 use units::{Bytes, Registers};
 
-// The walk before argument `position`, where so much is used.
-pub fn walk_at(number: u32, position: usize, used: Used) -> Walk
-    requires { (used.general.0 ≤ 6) × (used.vector.0 ≤ 8) }
-    ensures { result ≡ with_offsets number position (walk_at used) }
-{
-    let general = units::general_bytes(used.general);
-    let vector = units::plus(Bytes(48), units::vector_bytes(used.vector));
-    let overflow = used.stack;
-    Walk {
-        number: number,
-        position: position,
-        general: general,
-        vector: vector,
-        overflow: overflow,
-    }
-}
+// ---- num_gp and num_fp: "num_gp and num_fp are registers"
 
-// The registers of one eightbyte more.
-fn count_one(before: Counts, kind: Kind) -> Counts
-    requires { (before.general.0 ≤ 1) × (before.vector.0 ≤ 1) }
-    ensures { (result.general.0 ≡ before.general.0 + general_for kind) × (result.vector.0 ≡ before.vector.0 + vector_for kind) }
-{
-    let general = before.general;
-    let vector = before.vector;
-    match kind {
-        Kind::General => Counts {
-            general: units::one_more(general),
-            vector: vector,
-        },
-        Kind::Vector => Counts {
-            general: general,
-            vector: units::one_more(vector),
-        },
-        Kind::Upper => before,
-        Kind::Wide => Counts {
-            general: general,
-            vector: units::one_more(vector),
-        },
-    }
-}
+// The registers of one eightbyte.
+impl From<Kind> for Counts {
+    ghost from_gives = { λ kind counts. IsCounted (kind ∷ []) counts };
 
-// The registers that a type needs: "num_gp and num_fp are registers".
-fn registers_for(kinds: Kinds) -> Counts
-    ensures { IsCounted (listed kinds) result }
-{
-    let none = Counts {
-        general: Registers(0),
-        vector: Registers(0),
-    };
-    match kinds {
-        Kinds::Stack => none,
-        Kinds::One(kind) => count_one(none, kind),
-        Kinds::Two(low, high) => count_one(count_one(none, low), high),
-    }
-}
-
-// Whether its class lets the type be in registers.
-fn may_fit(kinds: Kinds) -> bool
-    ensures { result ≡ has_some (listed kinds) }
-{
-    match kinds {
-        Kinds::Stack => false,
-        Kinds::One(_) => true,
-        Kinds::Two(_, _) => true,
-    }
-}
-
-// Whether the type is fetched from the register image: "a type that may be in registers, with gp_offset at most 48 - 8 num_gp and
-// fp_offset at most 176 - 16 num_fp".
-fn fits(walk: Walk, kinds: Kinds) -> bool
-    ensures { result ≡ holds (offsets_of walk) (listed kinds) }
-{
-    if !may_fit(kinds) {
-        return false;
-    }
-    let needed = registers_for(kinds);
-    let general = walk.general;
-    let vector = walk.vector;
-    if units::over(
-        general,
-        units::minus(Bytes(48), units::general_bytes(needed.general)),
-    ) {
-        return false;
-    }
-    !units::over(
-        vector,
-        units::minus(Bytes(176), units::vector_bytes(needed.vector)),
-    )
-}
-
-// "the walk raises to the type's alignment where that exceeds 8".
-fn raise_overflow(overflow: Bytes, align: Bytes) -> Bytes
-    requires { (overflow.0 ≤ 2 ^ 20) × (align.0 ≤ 32) }
-    ensures { result.0 ≡ cond (ltb 8 align.0) (raise align.0 overflow.0) overflow.0 }
-{
-    if units::over(align, Bytes(8)) {
-        return units::raise_to(align, overflow);
-    }
-    overflow
-}
-
-// The offset at which an eightbyte of this kind is read, behind those that took `passed`.
-fn read(walk: Walk, passed: Counts, kind: Kind) -> Bytes
-    requires { InBounds walk × (passed.general.0 ≤ 1) × (passed.vector.0 ≤ 1) }
-    ensures { result.0 ≡ read_for (walk.general.0 + 8 * passed.general.0) (walk.vector.0 + 16 * passed.vector.0) kind }
-{
-    let general = units::plus(walk.general, units::general_bytes(passed.general));
-    let vector = units::plus(walk.vector, units::vector_bytes(passed.vector));
-    match kind {
-        Kind::General => general,
-        Kind::Vector => vector,
-        Kind::Upper => units::minus(vector, Bytes(8)),
-        Kind::Wide => vector,
-    }
-}
-
-// Where the argument that the walk stands before is fetched.
-pub fn fetch_at(walk: Walk, shape: Shape) -> Fetch
-    requires { InBounds walk × Small (asked_of shape) }
-    ensures { source_of result ≡ read_at eights (offsets_of walk) (asked_of shape) }
-{
-    let kinds = shape.kinds;
-    let offset = raise_overflow(walk.overflow, shape.align);
-    if !fits(walk, kinds) {
-        return Fetch::Stack(offset);
-    }
-    let none = registers_for(Kinds::Stack);
-    match kinds {
-        Kinds::Stack => Fetch::Stack(offset),
-        Kinds::One(kind) => Fetch::One(read(walk, none, kind)),
-        Kinds::Two(low, high) => {
-            let first = read(walk, none, low);
-            let second = read(walk, registers_for(Kinds::One(low)), high);
-            Fetch::Two(first, second)
+    fn from(kind: Kind) -> Counts {
+        let (general, vector) = match kind {
+            Kind::General => (1, 0),
+            Kind::Vector | Kind::Wide => (0, 1),
+            Kind::Upper => (0, 0),
+        };
+        Counts {
+            general: Registers(general),
+            vector: Registers(vector),
         }
     }
 }
 
-// The walk behind that argument: "both offsets move on", or "its size is added, and the result is raised to 8".
-pub fn moved_on(walk: Walk, shape: Shape) -> Walk
-    requires { InBounds walk × Small (asked_of shape) }
-    ensures { result ≡ with_offsets walk.number (suc walk.position) (step_offsets eights (offsets_of walk) (asked_of shape)) }
-{
-    let number = walk.number;
-    let position = walk.position + 1;
-    let general = walk.general;
-    let vector = walk.vector;
-    let overflow = walk.overflow;
-    let kinds = shape.kinds;
-    if fits(walk, kinds) {
-        let needed = registers_for(kinds);
-        return Walk {
-            number: number,
-            position: position,
-            general: units::plus(general, units::general_bytes(needed.general)),
-            vector: units::plus(vector, units::vector_bytes(needed.vector)),
-            overflow: overflow,
-        };
+// The registers of some eightbytes, and of others.
+impl Add for Counts {
+    type Output = Counts;
+
+    ghost can_add = { λ some more. (some.general.0 + more.general.0 < 2 ^ 64) × (some.vector.0 + more.vector.0 < 2 ^ 64) };
+
+    ghost add_gives = { λ some more all. (all.general.0 ≡ some.general.0 + more.general.0) × (all.vector.0 ≡ some.vector.0 + more.vector.0) };
+
+    fn add(self, more: Counts) -> Counts {
+        Counts {
+            general: self.general + more.general,
+            vector: self.vector + more.vector,
+        }
     }
-    let end = units::plus(raise_overflow(overflow, shape.align), shape.size);
-    Walk {
-        number: number,
-        position: position,
-        general: general,
-        vector: vector,
-        overflow: units::raise_to(Bytes(8), end),
+}
+
+// The registers that a type needs.
+impl From<Kinds> for Counts {
+    ghost from_gives = { λ kinds counts. IsCounted (listed kinds) counts };
+
+    fn from(kinds: Kinds) -> Counts {
+        match kinds {
+            Kinds::Stack => Counts {
+                general: Registers(0),
+                vector: Registers(0),
+            },
+            Kinds::One(kind) => Counts::from(kind),
+            Kinds::Two(low, high) => Counts::from(low) + Counts::from(high),
+        }
+    }
+}
+
+// ---- where the walk stands
+
+impl Walk {
+    // The walk before argument `position`, where so much is used.
+    pub(crate) fn standing(number: u32, position: usize, used: Used) -> Self
+        requires { (used.general.0 ≤ 6) × (used.vector.0 ≤ 8) }
+        ensures { result ≡ with_offsets number position (walk_at used) }
+    {
+        Self {
+            number,
+            position,
+            general: used.general.general_bytes(),
+            vector: Bytes(48) + used.vector.vector_bytes(),
+            overflow: used.stack,
+        }
+    }
+
+    // Whether the type is fetched from the register image: "a type that may be in registers, with gp_offset at most 48 - 8 num_gp and
+    // fp_offset at most 176 - 16 num_fp".
+    fn fits(self, kinds: Kinds) -> bool
+        ensures { result ≡ holds (offsets_of self) (listed kinds) }
+    {
+        let needed = Counts::from(kinds);
+        !matches!(kinds, Kinds::Stack)
+            && self.general <= Bytes(48) - needed.general.general_bytes()
+            && self.vector <= Bytes(176) - needed.vector.vector_bytes()
+    }
+
+    // The overflow offset before an argument: "the walk raises to the type's alignment where that exceeds 8".
+    fn raised(self, align: Bytes) -> Bytes
+        requires { (self.overflow.0 ≤ 2 ^ 20) × (align.0 ≤ 32) }
+        ensures { result.0 ≡ cond (ltb 8 align.0) (raise align.0 self.overflow.0) self.overflow.0 }
+    {
+        if align > Bytes(8) {
+            return self.overflow.raised_to(align);
+        }
+        self.overflow
+    }
+
+    // The offset at which an eightbyte of this kind is read, behind those that took `passed`.
+    fn read(self, passed: Counts, kind: Kind) -> Bytes
+        requires { InBounds self × (passed.general.0 ≤ 1) × (passed.vector.0 ≤ 1) }
+        ensures { result.0 ≡ read_for (self.general.0 + 8 * passed.general.0) (self.vector.0 + 16 * passed.vector.0) kind }
+    {
+        let vector = self.vector + passed.vector.vector_bytes();
+        match kind {
+            Kind::General => self.general + passed.general.general_bytes(),
+            Kind::Vector | Kind::Wide => vector,
+            Kind::Upper => vector - Bytes(8),
+        }
+    }
+
+    // Where the argument that the walk stands before is fetched.
+    pub fn fetch(self, shape: Shape) -> Fetch
+        requires { InBounds self × Small (asked_of shape) }
+        ensures { source_of result ≡ read_at eights (offsets_of self) (asked_of shape) }
+    {
+        let none = Counts::from(Kinds::Stack);
+        let offset = self.raised(shape.align);
+        if !self.fits(shape.kinds) {
+            return Fetch::Stack(offset);
+        }
+        match shape.kinds {
+            Kinds::Stack => Fetch::Stack(offset),
+            Kinds::One(kind) => Fetch::One(self.read(none, kind)),
+            Kinds::Two(low, high) => {
+                let first = self.read(none, low);
+                let second = self.read(Counts::from(low), high);
+                Fetch::Two(first, second)
+            }
+        }
+    }
+
+    // The walk behind that argument: "both offsets move on", or "its size is added, and the result is raised to 8".
+    pub fn behind(self, shape: Shape) -> Self
+        requires { InBounds self × Small (asked_of shape) }
+        ensures { result ≡ with_offsets self.number (suc self.position) (step_offsets eights (offsets_of self) (asked_of shape)) }
+    {
+        let position = self.position + 1;
+        if self.fits(shape.kinds) {
+            let needed = Counts::from(shape.kinds);
+            return Self {
+                position,
+                general: self.general + needed.general.general_bytes(),
+                vector: self.vector + needed.vector.vector_bytes(),
+                ..self
+            };
+        }
+        let end = self.raised(shape.align) + shape.size;
+        Self {
+            position,
+            overflow: end.raised_to(Bytes(8)),
+            ..self
+        }
     }
 }

@@ -1,23 +1,22 @@
 // The walk over unnamed arguments (document 01, "Station and walk"; 000, section 3.5.7): opened, checked, stepped, and the next argument shown where it lies.
 #![tactic(auto)]
 
-pub use checking::{checked, is_astray};
-pub use fetching::{fetch_at, moved_on};
+pub use checking::checked;
 pub use opening::open_walk;
 pub use showing::{Part, Shown, show, show_number, shown_at};
-pub use stepping::{Stepped, copy_out, step, step_by_value};
+pub use stepping::step;
 
 mod fetching; // where a walk stands, fetches and stands then, worked out
 mod opening; // opening a walk
 mod checking; // whether a walk goes on where it stands: every check of a step but that of the out buffer
-mod stepping; // the step of a walk, by value and lent
+mod stepping; // the step of a walk
 mod showing; // where the next argument lies, and the part that shows it
 
 use units::{Bytes, Registers};
 
 // Where a walk stands: the attachment it was opened under, the next argument, gp_offset, fp_offset and the overflow offset.
 #[repr(C)]
-#[derive(Clone, Copy)]
+#[derive(Clone, Copy, Debug, PartialEq, Eq)]
 pub struct Walk {
     pub number: u32,
     pub position: usize,

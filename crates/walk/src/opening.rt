@@ -5,24 +5,20 @@ ghost use Rattle.station.specs.Paper.{kcb};
 ghost use Rattle.walk.specs.Orders.{standing, variadic_order};
 ghost use Rattle.walk.specs.Steps.{opened_if, open_answer};
 
-use crate::{Walk, fetching};
-use form::Refusal;
+use crate::Walk;
+use form::{Reason, Refusal};
 use station::Station;
 
 // 1..10, 16, and the walk before the first unnamed argument.
 fn open_on(number: u32, d: &[u8]) -> Result<Walk, Refusal>
     ensures { result ≡ opened_if kcb d.now (first (variadic_order kcb d.now)) (standing kcb d.now number (kcb.named d.now)) }
 {
-    let answer = layout::layout_of(d);
-    let Ok(layout) = answer else {
-        return Err(layout::refusal_in(answer));
-    };
+    let layout = layout::layout_of(d)?;
     if description::variadic_in(d) != 1 {
-        return Err(form::refusal_of(16));
+        return Err(Refusal::from(Reason::NotVariadic));
     }
     let named = description::byte_at(d, 7);
-    let used = layout.named;
-    Ok(fetching::walk_at(number, named, used))
+    Ok(Walk::standing(number, named, layout.named))
 }
 
 // Opens a walk over the unnamed arguments of the description in the seat.
@@ -30,13 +26,10 @@ pub fn open_walk(station: Station, seat: &[u8]) -> Result<Walk, Refusal>
     ensures { result ≡ open_answer kcb station seat.now }
 {
     if station::wrong_seat(station, seat) {
-        return Err(form::refusal_of(11));
+        return Err(Refusal::from(Reason::WrongBuffer));
     }
     if !station.attached {
-        return Err(form::refusal_of(13));
+        return Err(Refusal::from(Reason::NotAttached));
     }
-    let length = station.length;
-    let end = length.0;
-    let number = station.number;
-    open_on(number, &seat[..end])
+    open_on(station.number, &seat[..station.length.0])
 }

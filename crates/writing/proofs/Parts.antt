@@ -15,8 +15,9 @@ use Rattle.types.proofs.Large.{accepted-form, accepted-sized}
 use Rattle.uses.specs.Uses.{wrong_number, uses_refusal}
 use Rattle.uses.proofs.Uses.{accepted-types, accepted-typed, accepted-return}
 use Rattle.layout.specs.Arguments.{is_void}
-use Rattle.listing.specs.Written.{Wrote}
-use Rattle.listing.proofs.Written.{wrote_join, wrote_exact, wrote_same}
+use Rattle.listing.specs.declared.texts.Text.{Text}
+use Rattle.listing.specs.Puts.{Puts}
+use Rattle.listing.proofs.Puts.{puts_join, puts_exact, puts_same, puts_behind}
 use Rattle.listing.specs.Characters.{bytes}
 use Rattle.grammar.specs.Tokens.{spaced}
 use Rattle.declaring.specs.Writing.{type_tokens, result_tokens, further_tokens, parameter_tokens, declaration_tokens, declaration_text}
@@ -56,8 +57,8 @@ result-type d t e h = rw (ne_eqb (return_in d) 255 (λ q. h (e ∙ q)), e) refl
 pub as_room : (s t : List ℕ) (start : ℕ) → s ≡ t → start + length s ≤ 8192 → start + length t ≤ 8192
 as_room s t start e h = rw e at h
 
-pub as_wrote : {j : ℕ} {a : List ℕ} {start : ℕ} {b : List ℕ} {p : ℕ} (s t : List ℕ) → s ≡ t → Wrote j a start t b p → Wrote (length s) a start s b p
-as_wrote s t e w = wrote_exact (wrote_same w (sym e))
+pub as_put : {j : ℕ} {a b : Text} (s t : List ℕ) → s ≡ t → Puts j a b t → Puts (length s) a b s
+as_put s t e w = puts_exact (puts_same w (sym e))
 
 -- ---- arguments
 
@@ -100,31 +101,31 @@ parameters_some d n t e h et =
 
 -- ---- the loop over the arguments
 
-pub record Listing (d : List ℕ) (out₀ : List ℕ) (start : ℕ) (out : List ℕ) (i next : ℕ) : Type 0 where
+pub record Listing (d : List ℕ) (before text : Text) (i : ℕ) : Type 0 where
   pub low : i ≤ named_in d
-  pub room : next + length (further_text d i (named_in d - i)) ≤ 8192
-  pub done : (e : List ℕ) (r : ℕ) → Wrote (length (further_text d i (named_in d - i))) out next (further_text d i (named_in d - i)) e r
-      → Wrote (length (further_text d 1 (named_in d - 1))) out₀ start (further_text d 1 (named_in d - 1)) e r
+  pub room : text.at + length (further_text d i (named_in d - i)) ≤ 8192
+  pub done : (e : Text) → Puts (length (further_text d i (named_in d - i))) text e (further_text d i (named_in d - i))
+      → Puts (length (further_text d 1 (named_in d - 1))) before e (further_text d 1 (named_in d - 1))
 
-pub listing-first : (d : List ℕ) (out : List ℕ) (start : ℕ) → 1 ≤ named_in d → start + length (further_text d 1 (named_in d - 1)) ≤ 8192 → Listing d out start out 1 start
-listing-first d out start l h = record { low = l; room = h; done = λ e r w. w }
+pub listing-first : (d : List ℕ) (text : Text) → 1 ≤ named_in d → text.at + length (further_text d 1 (named_in d - 1)) ≤ 8192 → Listing d text text 1
+listing-first d text l h = record { low = l; room = h; done = λ e w. w }
 
 listing-more : (d : List ℕ) (i t : ℕ) → i < named_in d → t ≡ argument_at d i → further_text d i (named_in d - i) ≡ bytes ", " ++ (type_text d t ++ further_text d (i + 1) (named_in d - (i + 1)))
 listing-more d i t h e =
     let p : named_in d - i ≡ suc (named_in d - (i + 1)) = omega arith in
     ap (further_text d i) p ∙ further_more d i (named_in d - (i + 1)) ∙ ap (λ (x : ℕ). bytes ", " ++ (type_text d x ++ further_text d (i + 1) (named_in d - (i + 1)))) (sym e)
 
-pub argument-room : {d : List ℕ} {out₀ : List ℕ} {start : ℕ} {out : List ℕ} {i next : ℕ} (t : ℕ) → Listing d out₀ start out i next → i < named_in d → t ≡ argument_at d i
-    → next + 2 + length (type_text d t) ≤ 8192
+pub argument-room : {d : List ℕ} {before text : Text} {i : ℕ} (t : ℕ) → Listing d before text i → i < named_in d → t ≡ argument_at d i
+    → text.at + 2 + length (type_text d t) ≤ 8192
 argument-room {d} {i = i} t g h e =
     omega (arith, g.room, ap length (listing-more d i t h e), length-append (type_text d t) (further_text d (i + 1) (named_in d - (i + 1))))
 
-pub listing-next : {d : List ℕ} {out₀ : List ℕ} {start : ℕ} {out : List ℕ} {i next : ℕ} (t : ℕ) → Listing d out₀ start out i next → i < named_in d → t ≡ argument_at d i
-    → {j k : ℕ} {a b : List ℕ} {p q : ℕ} → Wrote j out next (bytes ", ") a p → Wrote k a p (type_text d t) b q → Listing d out₀ start b (i + 1) q
+pub listing-next : {d : List ℕ} {before text : Text} {i : ℕ} (t : ℕ) → Listing d before text i → i < named_in d → t ≡ argument_at d i
+    → {j k : ℕ} {a b : Text} → Puts j text a (bytes ", ") → Puts k a b (type_text d t) → Listing d before b (i + 1)
 listing-next {d} {i = i} t g h e u v = record {
   low = omega arith;
-  room = omega (arith, g.room, ap length (listing-more d i t h e), length-append (type_text d t) (further_text d (i + 1) (named_in d - (i + 1))), u.behind, v.behind);
-  done = λ z s y. g.done z s (wrote_exact (wrote_same (wrote_join u (wrote_join v y)) (sym (listing-more d i t h e))));
+  room = omega (arith, g.room, ap length (listing-more d i t h e), length-append (type_text d t) (further_text d (i + 1) (named_in d - (i + 1))), puts_behind u, puts_behind v);
+  done = λ z y. g.done z (puts_exact (puts_same (puts_join u (puts_join v y)) (sym (listing-more d i t h e))));
 }
 
 listing-all : (d : List ℕ) (i f : ℕ) → named_in d ≤ i → f ≡ variadic_in d → further_text d i (named_in d - i) ≡ end_text (eqb f 1)
@@ -132,12 +133,12 @@ listing-all d i f h ef =
     let p : named_in d - i ≡ 0 = omega arith in
     ap (further_text d i) p ∙ further_none d i ∙ ap (λ (x : ℕ). end_text (eqb x 1)) (sym ef)
 
-pub end_room : {d : List ℕ} {out₀ : List ℕ} {start : ℕ} {out : List ℕ} {i next : ℕ} (f : ℕ) → Listing d out₀ start out i next → named_in d ≤ i → f ≡ variadic_in d → next + length (end_text (eqb f 1)) ≤ 8192
-end_room {d} {i = i} {next = next} f g h ef = as_room (further_text d i (named_in d - i)) (end_text (eqb f 1)) next (listing-all d i f h ef) g.room
+pub end_room : {d : List ℕ} {before text : Text} {i : ℕ} (f : ℕ) → Listing d before text i → named_in d ≤ i → f ≡ variadic_in d → text.at + length (end_text (eqb f 1)) ≤ 8192
+end_room {d} {text = text} {i = i} f g h ef = as_room (further_text d i (named_in d - i)) (end_text (eqb f 1)) text.at (listing-all d i f h ef) g.room
 
-pub listing-end : {d : List ℕ} {out₀ : List ℕ} {start : ℕ} {out : List ℕ} {i next : ℕ} (f : ℕ) → Listing d out₀ start out i next → named_in d ≤ i → f ≡ variadic_in d
-    → {j : ℕ} {a : List ℕ} {p : ℕ} → Wrote j out next (end_text (eqb f 1)) a p → Wrote (length (further_text d 1 (named_in d - 1))) out₀ start (further_text d 1 (named_in d - 1)) a p
-listing-end {d} {i = i} f g h ef {a = a} {p = p} w = g.done a p (as_wrote (further_text d i (named_in d - i)) (end_text (eqb f 1)) (listing-all d i f h ef) w)
+pub listing-end : {d : List ℕ} {before text : Text} {i : ℕ} (f : ℕ) → Listing d before text i → named_in d ≤ i → f ≡ variadic_in d
+    → {j : ℕ} {a : Text} → Puts j text a (end_text (eqb f 1)) → Puts (length (further_text d 1 (named_in d - 1))) before a (further_text d 1 (named_in d - 1))
+listing-end {d} {i = i} f g h ef {a = a} w = g.done a (as_put (further_text d i (named_in d - i)) (end_text (eqb f 1)) (listing-all d i f h ef) w)
 
 -- ---- the flags of the small functions
 
@@ -155,20 +156,19 @@ whole-text d =
     spaced-append (result_tokens (result_of (returned_by d))) (bytes "f" ∷ bytes "(" ∷ (parameter_tokens (eqb (variadic_in d) 1) (trees_from d 0 (named_in d)) ++ (bytes ")" ∷ bytes ";" ∷ [])))
     ∙ ap (λ (l : List ℕ). spaced (result_tokens (result_of (returned_by d))) ++ (bytes "f ( " ++ l)) (spaced-append (parameter_tokens (eqb (variadic_in d) 1) (trees_from d 0 (named_in d))) (bytes ")" ∷ bytes ";" ∷ []))
 
-pub whole_room : (d : List ℕ) → length (written_text d) ≤ 8192 → length (result_text d) + 4 + length (parameters_text d) + 4 ≤ 8192
-whole_room d h =
+pub whole_room : (d : List ℕ) (start : ℕ) → start + length (written_text d) ≤ 8192 → start + length (result_text d) + 4 + length (parameters_text d) + 4 ≤ 8192
+whole_room d start h =
     omega (arith, h, ap length (whole-text d), length-append (result_text d) (bytes "f ( " ++ (parameters_text d ++ bytes ") ; ")), length-append (parameters_text d) (bytes ") ; "))
 
-pub whole-done : (d : List ℕ) {i j k l : ℕ} {x y z w v : List ℕ} {start p q r s : ℕ}
-    → Wrote i x start (result_text d) y p → Wrote j y p (bytes "f ( ") z q → Wrote k z q (parameters_text d) w r → Wrote l w r (bytes ") ; ") v s
-    → Wrote (length (written_text d)) x start (written_text d) v s
-whole-done d a b c e = wrote_exact (wrote_same (wrote_join a (wrote_join b (wrote_join c e))) (sym (whole-text d)))
+pub whole-done : (d : List ℕ) {i j k l : ℕ} {x y z w v : Text}
+    → Puts i x y (result_text d) → Puts j y z (bytes "f ( ") → Puts k z w (parameters_text d) → Puts l w v (bytes ") ; ") → Puts (length (written_text d)) x v (written_text d)
+whole-done d a b c e = puts_exact (puts_same (puts_join a (puts_join b (puts_join c e))) (sym (whole-text d)))
 
 pub parameters_room : (d : List ℕ) (n t start : ℕ) → n ≡ named_in d → (n ≡ 0 → ⊥) → t ≡ argument_at d 0 → start + length (parameters_text d) ≤ 8192
     → start + length (type_text d t) + length (further_text d 1 (named_in d - 1)) ≤ 8192
 parameters_room d n t start e h et r =
     omega (arith, r, ap length (parameters_some d n t e h et), length-append (type_text d t) (further_text d 1 (named_in d - 1)))
 
-pub parameters_done : (d : List ℕ) (n t : ℕ) → n ≡ named_in d → (n ≡ 0 → ⊥) → t ≡ argument_at d 0 → {i j : ℕ} {x y z : List ℕ} {start p q : ℕ}
-    → Wrote i x start (type_text d t) y p → Wrote j y p (further_text d 1 (named_in d - 1)) z q → Wrote (length (parameters_text d)) x start (parameters_text d) z q
-parameters_done d n t e h et v w = wrote_exact (wrote_same (wrote_join v w) (sym (parameters_some d n t e h et)))
+pub parameters_done : (d : List ℕ) (n t : ℕ) → n ≡ named_in d → (n ≡ 0 → ⊥) → t ≡ argument_at d 0 → {i j : ℕ} {x y z : Text}
+    → Puts i x y (type_text d t) → Puts j y z (further_text d 1 (named_in d - 1)) → Puts (length (parameters_text d)) x z (parameters_text d)
+parameters_done d n t e h et v w = puts_exact (puts_same (puts_join v w) (sym (parameters_some d n t e h et)))

@@ -13,8 +13,9 @@ use Rattle.types.specs.Asks.{Sized}
 use Rattle.types.proofs.Records.{View, v0, v1, v2, view}
 use Rattle.types.proofs.Trees.{sized-ruled, at-basic, at-array, at-group, sized-below}
 use Rattle.listing.specs.Decimal.{decimal}
-use Rattle.listing.specs.Written.{Wrote}
-use Rattle.listing.proofs.Written.{wrote_none, wrote_join, wrote_exact, wrote_same}
+use Rattle.listing.specs.declared.texts.Text.{Text}
+use Rattle.listing.specs.Puts.{Puts}
+use Rattle.listing.proofs.Puts.{puts_none, puts_join, puts_exact, puts_same, puts_behind}
 use Rattle.listing.specs.Characters.{bytes}
 use Rattle.grammar.specs.Tokens.{spaced}
 use Rattle.declaring.specs.Writing.{member_name, sizes_of, type_tokens, member_tokens}
@@ -25,14 +26,14 @@ use Rattle.writing.specs.Texts.{words_text, type_text, sizes_text, members_text,
 pub words-room : (code k at : ℕ) → code ≡ k → at + length (words_text code) ≤ 8192 → at + length (words_text k) ≤ 8192
 words-room code k at e h = rw e at h
 
-pub words-is : {j : ℕ} {a : List ℕ} {at : ℕ} {b : List ℕ} {p : ℕ} (code k : ℕ) → code ≡ k → Wrote j a at (words_text k) b p → Wrote (length (words_text code)) a at (words_text code) b p
-words-is code k e w = rw e (wrote_exact w)
+pub words-is : {j : ℕ} {a b : Text} (code k : ℕ) → code ≡ k → Puts j a b (words_text k) → Puts (length (words_text code)) a b (words_text code)
+words-is code k e w = rw e (puts_exact w)
 
 pub group-room : (u v : Bool) (at : ℕ) → u ≡ v → at + length (group_text u) ≤ 8192 → at + length (group_text v) ≤ 8192
 group-room u v at e h = rw e at h
 
-pub group-is : {j : ℕ} {a : List ℕ} {at : ℕ} {b : List ℕ} {p : ℕ} (u v : Bool) → u ≡ v → Wrote j a at (group_text v) b p → Wrote (length (group_text u)) a at (group_text u) b p
-group-is u v e w = rw e (wrote_exact w)
+pub group-is : {j : ℕ} {a b : Text} (u v : Bool) → u ≡ v → Puts j a b (group_text v) → Puts (length (group_text u)) a b (group_text u)
+group-is u v e w = rw e (puts_exact w)
 
 -- ---- texts one behind the other
 
@@ -118,17 +119,17 @@ members-more d i j n =
 abbrev rest : List ℕ → ℕ → ℕ → ℕ → List ℕ
 rest d first count i = members_text d i (first + i) (count - i)
 
-pub record Going (d : List ℕ) (first count : ℕ) (out₀ : List ℕ) (start : ℕ) (out : List ℕ) (i next : ℕ) : Type 0 where
+pub record Going (d : List ℕ) (first count : ℕ) (before text : Text) (i : ℕ) : Type 0 where
   pub low : i ≤ count
-  pub room : next + length (members_text d i (first + i) (count - i)) ≤ 8192
-  pub done : (e : List ℕ) (r : ℕ) → Wrote (length (members_text d i (first + i) (count - i))) out next (members_text d i (first + i) (count - i)) e r
-      → Wrote (length (members_text d 0 first count)) out₀ start (members_text d 0 first count) e r
+  pub room : text.at + length (members_text d i (first + i) (count - i)) ≤ 8192
+  pub done : (e : Text) → Puts (length (members_text d i (first + i) (count - i))) text e (members_text d i (first + i) (count - i))
+      → Puts (length (members_text d 0 first count)) before e (members_text d 0 first count)
 
-pub going_first : (d : List ℕ) (first count : ℕ) (out : List ℕ) (start : ℕ) → start + length (members_text d 0 first count) ≤ 8192 → Going d first count out start out 0 start
-going_first d first count out start h =
+pub going_first : (d : List ℕ) (first count : ℕ) (text : Text) → text.at + length (members_text d 0 first count) ≤ 8192 → Going d first count text text 0
+going_first d first count text h =
     let p : first + 0 ≡ first = omega arith in
     let q : count - 0 ≡ count = omega arith in
-    record { low = omega arith; room = rw (p, q) h; done = rw (p, q) (λ e r w. w) }
+    record { low = omega arith; room = rw (p, q) h; done = rw (p, q) (λ e w. w) }
 
 rest_more : (d : List ℕ) (first count i m : ℕ) → i < count → m ≡ member_at d (first + i)
     → members_text d i (first + i) (count - i) ≡ type_text d m ++ (name_text i ++ (sizes_text d m ++ (bytes "; " ++ members_text d (i + 1) (first + (i + 1)) (count - (i + 1)))))
@@ -147,15 +148,15 @@ four-length : (a : List ℕ) (i : ℕ) (s l : List ℕ) → length (a ++ (name_t
 four-length a i s l = omega (arith, length-append a (name_text i ++ (s ++ (bytes "; " ++ l))), name_length_lem i (s ++ (bytes "; " ++ l)), length-append s (bytes "; " ++ l))
 
 -- the room for the member's parts, all of them together
-pub member-room : {d : List ℕ} {first count : ℕ} {out₀ : List ℕ} {start : ℕ} {out : List ℕ} {i next : ℕ} (m : ℕ) → Going d first count out₀ start out i next → i < count → m ≡ member_at d (first + i)
-    → next + (length (type_text d m) + (2 + length (decimal i)) + length (sizes_text d m) + 2) ≤ 8192
+pub member-room : {d : List ℕ} {first count : ℕ} {before text : Text} {i : ℕ} (m : ℕ) → Going d first count before text i → i < count → m ≡ member_at d (first + i)
+    → text.at + (length (type_text d m) + (2 + length (decimal i)) + length (sizes_text d m) + 2) ≤ 8192
 member-room {d} {first} {count} {i = i} m g h e =
     omega (arith, g.room, ap length (rest_more d first count i m h e), four-length (type_text d m) i (sizes_text d m) (members_text d (i + 1) (first + (i + 1)) (count - (i + 1))))
 
-pub going_next : {d : List ℕ} {first count : ℕ} {out₀ : List ℕ} {start : ℕ} {out : List ℕ} {i next : ℕ} (m : ℕ) → Going d first count out₀ start out i next → i < count → m ≡ member_at d (first + i)
-    → {j k l n : ℕ} {a b c e : List ℕ} {p q r s : ℕ}
-    → Wrote j out next (type_text d m) a p → Wrote k a p (name_text i) b q → Wrote l b q (sizes_text d m) c r → Wrote n c r (bytes "; ") e s
-    → Going d first count out₀ start e (i + 1) s
+pub going_next : {d : List ℕ} {first count : ℕ} {before text : Text} {i : ℕ} (m : ℕ) → Going d first count before text i → i < count → m ≡ member_at d (first + i)
+    → {j k l n : ℕ} {a b c e : Text}
+    → Puts j text a (type_text d m) → Puts k a b (name_text i) → Puts l b c (sizes_text d m) → Puts n c e (bytes "; ")
+    → Going d first count before e (i + 1)
 going_next {d} {first} {count} {i = i} m g h em u v w x = record {
   low = omega arith;
   room =
@@ -164,21 +165,21 @@ going_next {d} {first} {count} {i = i} m g h em u v w x = record {
         g.room,
         ap length (rest_more d first count i m h em),
         four-length (type_text d m) i (sizes_text d m) (members_text d (i + 1) (first + (i + 1)) (count - (i + 1))),
-        u.behind,
-        v.behind,
-        w.behind,
-        x.behind,
+        puts_behind u,
+        puts_behind v,
+        puts_behind w,
+        puts_behind x,
         length-append (decimal i) (32 ∷ []),
       );
-  done = λ z t y. g.done z t (wrote_exact (wrote_same (wrote_join u (wrote_join v (wrote_join w (wrote_join x y)))) (sym (rest_more d first count i m h em))));
+  done = λ z y. g.done z (puts_exact (puts_same (puts_join u (puts_join v (puts_join w (puts_join x y)))) (sym (rest_more d first count i m h em))));
 }
 
-pub going_end : {d : List ℕ} {first count : ℕ} {out₀ : List ℕ} {start : ℕ} {out : List ℕ} {i next : ℕ} → Going d first count out₀ start out i next → count ≤ i
-    → Wrote (length (members_text d 0 first count)) out₀ start (members_text d 0 first count) out next
-going_end {d} {first} {count} {out = out} {i = i} {next = next} g h =
+pub going_end : {d : List ℕ} {first count : ℕ} {before text : Text} {i : ℕ} → Going d first count before text i → count ≤ i
+    → Puts (length (members_text d 0 first count)) before text (members_text d 0 first count)
+going_end {d} {first} {count} {text = text} {i = i} g h =
     let p : count - i ≡ 0 = omega arith in
     let none : members_text d i (first + i) (count - i) ≡ [] = ap (members_text d i (first + i)) p ∙ members-none d i (first + i) in
-    g.done out next (wrote_exact (wrote_same (wrote_none out next) (sym none)))
+    g.done text (puts_exact (puts_same (puts_none text) (sym none)))
 
 -- ---- what is asked and what is written, by the kind
 
@@ -189,19 +190,19 @@ module _ (d : List ℕ) (k : ℕ) (s : Sized (model_in d) d k) where
       rw (en, ee)
       (omega (arith, h, ap length (array-sizes d k s one), length-append (size_text (count_at d k)) (sizes_text d (a_at d k)), length-append (decimal (count_at d k)) (bytes " ] ")))
 
-  pub sizes-done : {i j : ℕ} {x y z : List ℕ} {start p q : ℕ} (n e : ℕ) → kind_at d k ≡ 1 → n ≡ count_at d k → e ≡ a_at d k
-      → Wrote i x start (size_text n) y p → Wrote j y p (sizes_text d e) z q → Wrote (length (sizes_text d k)) x start (sizes_text d k) z q
+  pub sizes-done : {i j : ℕ} {x y z : Text} (n e : ℕ) → kind_at d k ≡ 1 → n ≡ count_at d k → e ≡ a_at d k
+      → Puts i x y (size_text n) → Puts j y z (sizes_text d e) → Puts (length (sizes_text d k)) x z (sizes_text d k)
   sizes-done n e one en ee v w =
-      wrote_exact (wrote_same (wrote_join v w) (ap₂ (λ (m f : ℕ). size_text m ++ sizes_text d f) en ee ∙ sym (array-sizes d k s one)))
+      puts_exact (puts_same (puts_join v w) (ap₂ (λ (m f : ℕ). size_text m ++ sizes_text d f) en ee ∙ sym (array-sizes d k s one)))
 
-  pub sizes-none : (x : List ℕ) (start : ℕ) → (kind_at d k ≡ 1 → ⊥) → Wrote (length (sizes_text d k)) x start (sizes_text d k) x start
-  sizes-none x start h = wrote_exact (wrote_same (wrote_none x start) (sym (no_sizes d k s h)))
+  pub sizes-none : (x : Text) → (kind_at d k ≡ 1 → ⊥) → Puts (length (sizes_text d k)) x x (sizes_text d k)
+  sizes-none x h = puts_exact (puts_same (puts_none x) (sym (no_sizes d k s h)))
 
   pub basic-room : (a start : ℕ) → kind_at d k ≡ 0 → a ≡ a_at d k → start + length (type_text d k) ≤ 8192 → (a < 17) × (start + length (words_text a) ≤ 8192)
   basic-room a start e ea h = (omega (arith, (sized-ruled d k s).code e), rw (ea, ← basic-text d k s e) h)
 
-  pub basic-done : {i : ℕ} {x y : List ℕ} {start p : ℕ} (a : ℕ) → kind_at d k ≡ 0 → a ≡ a_at d k → Wrote i x start (words_text a) y p → Wrote (length (type_text d k)) x start (type_text d k) y p
-  basic-done a e ea w = wrote_exact (wrote_same w (ap words_text ea ∙ sym (basic-text d k s e)))
+  pub basic-done : {i : ℕ} {x y : Text} (a : ℕ) → kind_at d k ≡ 0 → a ≡ a_at d k → Puts i x y (words_text a) → Puts (length (type_text d k)) x y (type_text d k)
+  basic-done a e ea w = puts_exact (puts_same w (ap words_text ea ∙ sym (basic-text d k s e)))
 
   pub element-below : (a : ℕ) → kind_at d k ≡ 1 → a ≡ a_at d k → a < k
   element-below a e ea = omega (arith, (sized-ruled d k s).element e)
@@ -209,8 +210,8 @@ module _ (d : List ℕ) (k : ℕ) (s : Sized (model_in d) d k) where
   pub array-room : (a start : ℕ) → kind_at d k ≡ 1 → a ≡ a_at d k → start + length (type_text d k) ≤ 8192 → start + length (type_text d a) ≤ 8192
   array-room a start e ea h = rw (ea, ← array-text d k s e) h
 
-  pub array-done : {i : ℕ} {x y : List ℕ} {start p : ℕ} (a : ℕ) → kind_at d k ≡ 1 → a ≡ a_at d k → Wrote i x start (type_text d a) y p → Wrote (length (type_text d k)) x start (type_text d k) y p
-  array-done a e ea w = wrote_exact (wrote_same w (ap (type_text d) ea ∙ sym (array-text d k s e)))
+  pub array-done : {i : ℕ} {x y : Text} (a : ℕ) → kind_at d k ≡ 1 → a ≡ a_at d k → Puts i x y (type_text d a) → Puts (length (type_text d k)) x y (type_text d k)
+  array-done a e ea w = puts_exact (puts_same w (ap (type_text d) ea ∙ sym (array-text d k s e)))
 
   module _ (kd a n : ℕ) (ek : kd ≡ kind_at d k) (ea : a ≡ a_at d k) (en : n ≡ count_at d k) (two : 2 ≤ kind_at d k) where
     group-whole : type_text d k ≡ group_text (eqb kd 3) ++ (members_text d 0 a n ++ bytes "} ")
@@ -223,9 +224,9 @@ module _ (d : List ℕ) (k : ℕ) (s : Sized (model_in d) d k) where
     group-all start h =
         omega (arith, h, ap length group-whole, length-append (group_text (eqb kd 3)) (members_text d 0 a n ++ bytes "} "), length-append (members_text d 0 a n) (bytes "} "))
 
-    pub group-done : {i j l : ℕ} {x y z w : List ℕ} {start p q r : ℕ} → Wrote i x start (group_text (eqb kd 3)) y p → Wrote j y p (members_text d 0 a n) z q → Wrote l z q (bytes "} ") w r
-        → Wrote (length (type_text d k)) x start (type_text d k) w r
-    group-done u v w = wrote_exact (wrote_same (wrote_join u (wrote_join v w)) (sym group-whole))
+    pub group-done : {i j l : ℕ} {x y z w : Text} → Puts i x y (group_text (eqb kd 3)) → Puts j y z (members_text d 0 a n) → Puts l z w (bytes "} ")
+        → Puts (length (type_text d k)) x w (type_text d k)
+    group-done u v w = puts_exact (puts_same (puts_join u (puts_join v w)) (sym group-whole))
 
 pub member-sized : {d : List ℕ} {k first count : ℕ} (i m : ℕ) → AskMembers d k first count → i < count → m ≡ member_at d (first + i) → (m < k) × Sized (model_in d) d m
 member-sized {d} {k} {first} {count} i m h l e =

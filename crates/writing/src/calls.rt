@@ -6,25 +6,20 @@ ghost use Rattle.declaring.specs.Named.{written_text};
 ghost use Rattle.writing.specs.After.{text_after};
 
 use crate::{declaration_text, text_lengths};
+use listing::Text;
 
-// The length first, then the text; the table may hold anything.
-fn write_with(d: &[u8], table: &mut [u32; 64], out: &mut [u8; 8192]) -> usize
-    requires { uses_refusal d.now ≡ 0 }
-    ensures { (result ≡ capped (length (written_text d.now))) × (out.new ≡ text_after d.now out.old) }
-{
-    text_lengths::fill_lengths(d, table);
-    let many = text_lengths::text_length(d, table);
-    if 4096 < many {
-        return many;
-    }
-    declaration_text::put_declaration(d, out)
-}
-
-// Writes the declaration of the named part, where it has at most 4,096 bytes; answers its length, or 4,097.
+// Writes the declaration of the named part, where it has at most 4,096 bytes; answers its length, or 4,097. The length comes first, then the text.
 pub fn write_declaration(d: &[u8], out: &mut [u8; 8192]) -> usize
     requires { uses_refusal d.now ≡ 0 }
     ensures { (result ≡ capped (length (written_text d.now))) × (out.new ≡ text_after d.now out.old) }
 {
     let mut table = [0u32; 64];
-    write_with(d, &mut table, out)
+    text_lengths::fill_lengths(d, &mut table);
+    let many = text_lengths::text_length(d, &table);
+    if 4096 < many {
+        return many;
+    }
+    let mut text = Text::new(out);
+    declaration_text::put_declaration(d, &mut text);
+    text.at
 }

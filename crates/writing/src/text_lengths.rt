@@ -11,20 +11,14 @@ ghost use Rattle.declaring.specs.Lengths.{length_at, members_from, arguments_fro
 ghost use Rattle.writing.specs.Texts.{AskMembers};
 ghost use Rattle.writing.specs.Asks.{Lengths};
 
-const WORDS: [u8; 17] = [6, 5, 6, 4, 10, 9, 6, 7, 12, 11, 6, 7, 15, 16, 21, 7, 7];
-
-fn number(byte: u8) -> usize
-    ensures { result ≡ byte }
-{
-    byte as usize
-}
+const WORDS: [usize; 17] = [6, 5, 6, 4, 10, 9, 6, 7, 12, 11, 6, 7, 15, 16, 21, 7, 7];
 
 // An entry of the table.
 fn entry_at(table: &[u32; 64], k: usize) -> usize
     requires { k < 64 }
     ensures { result ≡ get_or table.now k 0 }
 {
-    types::wide(table[k])
+    table[k] as usize
 }
 
 // The words of a basic type.
@@ -32,16 +26,13 @@ fn words_length(code: usize) -> usize
     requires { code < 17 }
     ensures { result ≡ words_length code }
 {
-    number(WORDS[code])
+    WORDS[code]
 }
 
 fn cap(n: usize) -> usize
     ensures { result ≡ capped n }
 {
-    if n < 4097 {
-        return n;
-    }
-    4097
+    n.min(4097)
 }
 
 // How many digits a number has.
@@ -49,29 +40,20 @@ fn digits(n: usize) -> usize
     requires { n < 100000 }
     ensures { (result ≡ length (decimal n)) × (result ≤ 5) }
 {
-    if n < 10 {
-        return 1;
+    match n {
+        0..=9 => 1,
+        10..=99 => 2,
+        100..=999 => 3,
+        1000..=9999 => 4,
+        _ => 5,
     }
-    if n < 100 {
-        return 2;
-    }
-    if n < 1000 {
-        return 3;
-    }
-    if n < 10000 {
-        return 4;
-    }
-    5
 }
 
 // "struct { } " or "union { } "
 fn braces(union: bool) -> usize
     ensures { (result ≡ braces_length union) × (result ≤ 11) }
 {
-    if union {
-        return 10;
-    }
-    11
+    if union { 10 } else { 11 }
 }
 
 // `count` members of type k, from place `first` of the member list on, with what stands around them.
@@ -87,13 +69,11 @@ fn members_length(
     ensures { result ≡ members_from (length_at d.now) d.now (braces_length union) 0 first count }
 {
     let mut x = braces(union);
-    let mut i = 0;
-    while i < count {
+    for i in 0..count {
         let member = description::member_at(d, first + i);
         let entry = entry_at(table, member);
         let many = digits(i);
         x = cap(x + (entry + (4 + many)));
-        i += 1;
     }
     x
 }
@@ -122,13 +102,10 @@ pub fn fill_lengths(d: &[u8], table: &mut [u32; 64])
     requires { uses_refusal d.now ≡ 0 }
     ensures { Lengths d.now (types_in d.now) table.new }
 {
-    types::entries(table);
     let types = description::byte_at(d, 5);
-    let mut k = 0;
-    while k < types {
+    for k in 0..types {
         let many = length_of(d, k, table);
         table[k] = many as u32;
-        k += 1;
     }
 }
 
@@ -136,19 +113,13 @@ pub fn fill_lengths(d: &[u8], table: &mut [u32; 64])
 fn empty_length(variadic: bool) -> usize
     ensures { (result ≡ cond variadic 4 5) × (result ≤ 5) }
 {
-    if variadic {
-        return 4;
-    }
-    5
+    if variadic { 4 } else { 5 }
 }
 
 fn end_length(variadic: bool) -> usize
     ensures { (result ≡ cond variadic 6 0) × (result ≤ 6) }
 {
-    if variadic {
-        return 6;
-    }
-    0
+    if variadic { 6 } else { 0 }
 }
 
 // The result's type, or void.
@@ -169,12 +140,10 @@ fn arguments_length(d: &[u8], before: usize, named: usize, table: &[u32; 64]) ->
     ensures { result ≡ arguments_from (length_at d.now) d.now before 0 named }
 {
     let mut x = before;
-    let mut i = 0;
-    while i < named {
+    for i in 0..named {
         let argument = description::argument_at(d, i);
         let entry = entry_at(table, argument);
         x = cap(x + (2 + entry));
-        i += 1;
     }
     x
 }

@@ -1,128 +1,120 @@
-// A type of a description written as C text into a lent buffer (request 2026-08): each function stores from index `at` on and answers the index behind.
+// A type of a description written as C text into a lent buffer (request 2026-08).
 ghost use Rattle.std.specs.Prelude.{◌≡◌, [], ◌∷◌, ◌++◌, ◌+◌, ◌≤◌, ◌<◌, eqb, length};
 ghost use Rattle.description.specs.Description.{model_in};
 ghost use Rattle.listing.specs.Decimal.{decimal};
-ghost use Rattle.listing.specs.Written.{Wrote};
+ghost use Rattle.listing.specs.Puts.{Puts};
 ghost use Rattle.types.specs.Asks.{Sized};
 ghost use Rattle.listing.specs.Characters.{bytes};
 ghost use Rattle.declaring.specs.Length.{words_length};
 ghost use Rattle.writing.specs.Texts.{words_text, type_text, sizes_text, members_text, group_text, AskMembers};
 
-// The words of a basic type.
-fn put_words(out: &mut [u8; 8192], at: usize, code: usize) -> usize
-    requires { (code < 17) × (at + length (words_text code) ≤ 8192) }
-    ensures { Wrote (length (words_text code)) out.old at (words_text code) out.new result }
+use listing::Text;
+
+// The words of a basic type. By number: a code is a byte of the description, and `words_text` is by it.
+fn put_words(text: &mut Text, code: usize)
+    requires { (code < 17) × (text.old.at + length (words_text code) ≤ 8192) }
+    ensures { Puts (length (words_text code)) text.old text.new (words_text code) }
 {
     match code {
-        0 => listing::put(out, at, b"_Bool "),
-        1 => listing::put(out, at, b"char "),
-        2 => listing::put(out, at, b"short "),
-        3 => listing::put(out, at, b"int "),
-        4 => listing::put(out, at, b"long long "),
-        5 => listing::put(out, at, b"__int128 "),
-        6 => listing::put(out, at, b"float "),
-        7 => listing::put(out, at, b"double "),
-        8 => listing::put(out, at, b"long double "),
-        9 => listing::put(out, at, b"__float128 "),
-        10 => listing::put(out, at, b"__m64 "),
-        11 => listing::put(out, at, b"__m128 "),
-        12 => listing::put(out, at, b"float _Complex "),
-        13 => listing::put(out, at, b"double _Complex "),
-        14 => listing::put(out, at, b"long double _Complex "),
-        15 => listing::put(out, at, b"void * "),
-        16 => listing::put(out, at, b"__m256 "),
-        _ => at,
+        0 => text.put(b"_Bool "),
+        1 => text.put(b"char "),
+        2 => text.put(b"short "),
+        3 => text.put(b"int "),
+        4 => text.put(b"long long "),
+        5 => text.put(b"__int128 "),
+        6 => text.put(b"float "),
+        7 => text.put(b"double "),
+        8 => text.put(b"long double "),
+        9 => text.put(b"__float128 "),
+        10 => text.put(b"__m64 "),
+        11 => text.put(b"__m128 "),
+        12 => text.put(b"float _Complex "),
+        13 => text.put(b"double _Complex "),
+        14 => text.put(b"long double _Complex "),
+        15 => text.put(b"void * "),
+        16 => text.put(b"__m256 "),
+        _ => {}
     }
 }
 
 // "m12 "
-fn put_name(out: &mut [u8; 8192], at: usize, i: usize) -> usize
-    requires { at + (2 + length (decimal i)) ≤ 8192 }
-    ensures { Wrote (2 + length (decimal i)) out.old at ((109 ∷ []) ++ (decimal i ++ (32 ∷ []))) out.new result }
+fn put_name(text: &mut Text, i: usize)
+    requires { text.old.at + (2 + length (decimal i)) ≤ 8192 }
+    ensures { Puts (2 + length (decimal i)) text.old text.new ((109 ∷ []) ++ (decimal i ++ (32 ∷ []))) }
 {
-    let behind_letter = listing::put(out, at, b"m");
-    let behind = listing::put_decimal(out, behind_letter, i);
-    listing::put(out, behind, b" ")
+    text.put(b"m");
+    text.put_decimal(i);
+    text.put(b" ");
 }
 
 // "[ 12 ] "
-fn put_size(out: &mut [u8; 8192], at: usize, n: usize) -> usize
-    requires { at + (5 + length (decimal n)) ≤ 8192 }
-    ensures { Wrote (5 + length (decimal n)) out.old at (bytes "[ " ++ (decimal n ++ bytes " ] ")) out.new result }
+fn put_size(text: &mut Text, n: usize)
+    requires { text.old.at + (5 + length (decimal n)) ≤ 8192 }
+    ensures { Puts (5 + length (decimal n)) text.old text.new (bytes "[ " ++ (decimal n ++ bytes " ] ")) }
 {
-    let behind_bracket = listing::put(out, at, b"[ ");
-    let behind = listing::put_decimal(out, behind_bracket, n);
-    listing::put(out, behind, b" ] ")
+    text.put(b"[ ");
+    text.put_decimal(n);
+    text.put(b" ] ");
 }
 
 // The sizes of type k, the outermost first.
-fn put_sizes(d: &[u8], k: usize, out: &mut [u8; 8192], at: usize) -> usize
-    requires { Sized (model_in d.now) d.now k × (at + length (sizes_text d.now k) ≤ 8192) }
-    ensures { Wrote (length (sizes_text d.now k)) out.old at (sizes_text d.now k) out.new result }
+fn put_sizes(d: &[u8], k: usize, text: &mut Text)
+    requires { Sized (model_in d.now) d.now k × (text.old.at + length (sizes_text d.now k) ≤ 8192) }
+    ensures { Puts (length (sizes_text d.now k)) text.old text.new (sizes_text d.now k) }
 {
-    let kind = description::kind_at(d, k);
-    if kind == 1 {
+    if description::kind_at(d, k) == 1 {
         let count = description::count_at(d, k);
         let element = description::a_at(d, k);
-        let next = put_size(out, at, count);
-        return put_sizes(d, element, out, next);
+        put_size(text, count);
+        put_sizes(d, element, text);
     }
-    at
 }
 
 // What stands before the members.
-fn put_group(out: &mut [u8; 8192], at: usize, union: bool) -> usize
-    requires { at + length (group_text union) ≤ 8192 }
-    ensures { Wrote (length (group_text union)) out.old at (group_text union) out.new result }
+fn put_group(text: &mut Text, union: bool)
+    requires { text.old.at + length (group_text union) ≤ 8192 }
+    ensures { Puts (length (group_text union)) text.old text.new (group_text union) }
 {
     if union {
-        return listing::put(out, at, b"union { ");
+        text.put(b"union { ");
+    } else {
+        text.put(b"struct { ");
     }
-    listing::put(out, at, b"struct { ")
 }
 
 // Type k without its sizes.
 #[cycle(put_types)]
-pub fn put_type(d: &[u8], k: usize, out: &mut [u8; 8192], at: usize) -> usize
-    requires { Sized (model_in d.now) d.now k × (at + length (type_text d.now k) ≤ 8192) }
-    ensures { Wrote (length (type_text d.now k)) out.old at (type_text d.now k) out.new result }
+pub fn put_type(d: &[u8], k: usize, text: &mut Text)
+    requires { Sized (model_in d.now) d.now k × (text.old.at + length (type_text d.now k) ≤ 8192) }
+    ensures { Puts (length (type_text d.now k)) text.old text.new (type_text d.now k) }
 {
     let kind = description::kind_at(d, k);
     let a = description::a_at(d, k);
     if kind == 0 {
-        return put_words(out, at, a);
+        put_words(text, a);
+        return;
     }
     if kind == 1 {
-        return put_type(d, a, out, at);
+        put_type(d, a, text);
+        return;
     }
     let count = description::count_at(d, k);
-    let opened = put_group(out, at, kind == 3);
-    let behind = put_members(d, k, a, count, out, opened);
-    listing::put(out, behind, b"} ")
+    put_group(text, kind == 3);
+    put_members(d, k, a, count, text);
+    text.put(b"} ");
 }
 
 // `count` members of type k, from place `first` of the member list on.
 #[cycle(put_types)]
-fn put_members(
-    d: &[u8],
-    k: usize,
-    first: usize,
-    count: usize,
-    out: &mut [u8; 8192],
-    at: usize,
-) -> usize
-    requires { AskMembers d.now k first count × (at + length (members_text d.now 0 first count) ≤ 8192) }
-    ensures { Wrote (length (members_text d.now 0 first count)) out.old at (members_text d.now 0 first count) out.new result }
+fn put_members(d: &[u8], k: usize, first: usize, count: usize, text: &mut Text)
+    requires { AskMembers d.now k first count × (text.old.at + length (members_text d.now 0 first count) ≤ 8192) }
+    ensures { Puts (length (members_text d.now 0 first count)) text.old text.new (members_text d.now 0 first count) }
 {
-    let mut i = 0;
-    let mut next = at;
-    while i < count {
+    for i in 0..count {
         let member = description::member_at(d, first + i);
-        let typed = put_type(d, member, out, next);
-        let called = put_name(out, typed, i);
-        let sized = put_sizes(d, member, out, called);
-        next = listing::put(out, sized, b"; ");
-        i += 1;
+        put_type(d, member, text);
+        put_name(text, i);
+        put_sizes(d, member, text);
+        text.put(b"; ");
     }
-    next
 }

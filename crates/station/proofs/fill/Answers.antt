@@ -1,8 +1,9 @@
--- A cleared seat with the description copied into it.
+-- Zeros, and the description over the first of them.
 -- Assumes nothing.
-use mathlib.Core.Path.{◌∙◌}
-use Rattle.station.proofs.Attachments.{filled-seat}
+use Rattle.std.proofs.lemmas.List.{drop-replicate}
+use Rattle.station.specs.Attachment.{seat_of}
 use Rattle.station.proofs.fill.Goals as goal
 
 pub returns : goal.returns
-returns c = c.copy.ensures ∙ filled-seat c.args.seat.now _ c.args.d.now c.requires.0 c.requires.1 c.clear.ensures
+unfolding seat_of
+returns c = rw (c.copy_from_slice.ensures.after, c.fill.ensures.after (λ y e. e), c.requires.0, drop-replicate)

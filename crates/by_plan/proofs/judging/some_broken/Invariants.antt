@@ -1,15 +1,8 @@
 -- What is left to judge comes to what was to be judged at first.
 -- Assumes nothing.
-use mathlib.Core.Path.{◌≡◌}
-use mathlib.Core.Bool.{true}
-use Prim.Native.Nat.{◌+◌, ◌≤◌}
-use lib.ListN.{length}
-use Rattle.addresses.specs.Addresses.{run, gather}
+use Rattle.std.proofs.Common.{◌≡◌, length, drop, true}
 use Rattle.plans.specs.Plans.{all_below, some_broken}
 use Rattle.by_plan.proofs.judging.some_broken.Given as goal
 
-abbrev pub invariant-loop-left : goal.invariant-loop-left
-invariant-loop-left l = (some_broken l.values (gather l.plan (run l.i l.left)) ≡ some_broken l.values (gather l.plan (run l.first l.count))) × ((all_below (length l.values) (gather l.plan (run l.i l.left)) ≡ true) × (l.i + l.left ≤ length l.plan))
-
-abbrev pub decreases-loop-left : goal.decreases-loop-left
-decreases-loop-left l = l.left
+abbrev pub invariant-loop-at : goal.invariant-loop-at
+invariant-loop-at l = (all_below (length l.values) (drop l.at-index l.bools) ≡ true) × (some_broken l.values (drop l.at-index l.bools) ≡ some_broken l.values l.bools)

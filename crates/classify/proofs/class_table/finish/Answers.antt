@@ -1,45 +1,31 @@
+-- `finish` meets its contract.
+-- Assumes nothing.
 use native.Mathlib.Omega.{arith}
 use Rattle.description.specs.Description.{model_in}
 use Rattle.types.specs.Decode.{ty_at}
-use Rattle.types.proofs.Sizes.{align-low, align-high}
-use Rattle.types.proofs.Table.{known-low, known-extent}
+use Rattle.types.proofs.Sizes.{align-low}
+use Rattle.types.proofs.Table.{known-extent}
+use Rattle.classify.proofs.Table.{right-set}
+use Rattle.classify.proofs.class_table.finish.Goals.{then-at-size-gt8+then-at-size-le16, else-at-size-gt8}
 use Rattle.classify.proofs.class_table.finish.Goals as goal
 
-pub extent_in-extent-requires : goal.extent_in-extent-requires
-extent_in-extent-requires c = known-low c.args.d.now c.args.table.now c.requires.2.sizes c.args.k c.requires.0
+pub nonzero_div-at-step : goal.nonzero_div-at-step
+nonzero_div-at-step c = omega (arith, (known-extent c.args.d.now c.args.table.now c.requires.2.sizes c.args.k c.requires.0 c.extent_in-extent.result c.extent_in-extent.ensures).align, align-low (model_in c.args.d.now) (ty_at c.args.d.now c.args.k))
 
-pub loop-at-init : goal.loop-at-init
-loop-at-init c = (c.requires.2.right, omega (arith, (known-extent c.args.d.now c.args.table.now c.requires.2.sizes c.args.k c.requires.0 c.extent_in-extent.result c.extent_in-extent.ensures).align, align-high (model_in c.args.d.now) (ty_at c.args.d.now c.args.k)))
-
-pub overflow_add-at : goal.overflow_add-at
-overflow_add-at c = omega (arith, (known-extent c.args.d.now c.args.table.now c.requires.2.sizes c.args.k c.requires.0 c.extent_in-extent.result c.extent_in-extent.ensures).align, align-high (model_in c.args.d.now) (ty_at c.args.d.now c.args.k), c.loop-at-test.true)
-
-pub overflow_add-here : goal.overflow_add-here
-overflow_add-here c = omega (arith, (known-extent c.args.d.now c.args.table.now c.requires.2.sizes c.args.k c.requires.0 c.extent_in-extent.result c.extent_in-extent.ensures).size, c.requires.2.sizes.small c.args.k c.requires.0.known, c.loop-at-test.true)
-
-pub loop-at-smaller-then-here-size-le8 : goal.loop-at-smaller-then-here-size-le8
-loop-at-smaller-then-here-size-le8 c = omega (arith, (known-extent c.args.d.now c.args.table.now c.requires.2.sizes c.args.k c.requires.0 c.extent_in-extent.result c.extent_in-extent.ensures).align, align-low (model_in c.args.d.now) (ty_at c.args.d.now c.args.k), c.loop-at-test.true)
-
-pub loop-at-preserved-then-here-size-le8 : goal.loop-at-preserved-then-here-size-le8
-loop-at-preserved-then-here-size-le8 c = (c.loop-at.invariant.0, omega (arith, (known-extent c.args.d.now c.args.table.now c.requires.2.sizes c.args.k c.requires.0 c.extent_in-extent.result c.extent_in-extent.ensures).align, align-high (model_in c.args.d.now) (ty_at c.args.d.now c.args.k), c.loop-at-test.true))
-
-pub overflow_add-here-in-loop-at : goal.overflow_add-here-in-loop-at
-overflow_add-here-in-loop-at c = omega (arith, (known-extent c.args.d.now c.args.table.now c.requires.2.sizes c.args.k c.requires.0 c.extent_in-extent.result c.extent_in-extent.ensures).size, c.requires.2.sizes.small c.args.k c.requires.0.known, c.loop-at-test.true)
-
-pub loop-at-smaller-then-here-size-gt16 : goal.loop-at-smaller-then-here-size-gt16
-loop-at-smaller-then-here-size-gt16 c = omega (arith, (known-extent c.args.d.now c.args.table.now c.requires.2.sizes c.args.k c.requires.0 c.extent_in-extent.result c.extent_in-extent.ensures).align, align-low (model_in c.args.d.now) (ty_at c.args.d.now c.args.k), c.loop-at-test.true)
-
-pub loop-at-preserved-then-here-size-gt16 : goal.loop-at-preserved-then-here-size-gt16
-loop-at-preserved-then-here-size-gt16 c = (c.loop-at.invariant.0, omega (arith, (known-extent c.args.d.now c.args.table.now c.requires.2.sizes c.args.k c.requires.0 c.extent_in-extent.result c.extent_in-extent.ensures).align, align-high (model_in c.args.d.now) (ty_at c.args.d.now c.args.k), c.loop-at-test.true))
-
-pub finish_at-requires : goal.finish_at-requires
-finish_at-requires c = (record { sized = c.requires.0; fits = omega (arith, (known-extent c.args.d.now c.args.table.now c.requires.2.sizes c.args.k c.requires.0 c.extent_in-extent.result c.extent_in-extent.ensures).size, c.if-here-size-gt16.false) }, c.loop-at-test.true, c.requires.1, record { sizes = c.requires.2.sizes; right = c.loop-at.invariant.0; classes = c.requires.2.classes })
+pub of_aggregate-requires : goal.of_aggregate-requires
+of_aggregate-requires c = (c.requires.1, record { sized = c.requires.0; fits = omega (arith, (known-extent c.args.d.now c.args.table.now c.requires.2.sizes c.args.k c.requires.0 c.extent_in-extent.result c.extent_in-extent.ensures).size, c.if-at-size-le16.true) }, omega arith)
 
 pub loop-at-smaller : goal.loop-at-smaller
 loop-at-smaller c = omega (arith, (known-extent c.args.d.now c.args.table.now c.requires.2.sizes c.args.k c.requires.0 c.extent_in-extent.result c.extent_in-extent.ensures).align, align-low (model_in c.args.d.now) (ty_at c.args.d.now c.args.k), c.loop-at-test.true)
 
 pub loop-at-preserved : goal.loop-at-preserved
-loop-at-preserved c = (c.finish_at.ensures, omega (arith, (known-extent c.args.d.now c.args.table.now c.requires.2.sizes c.args.k c.requires.0 c.extent_in-extent.result c.extent_in-extent.ensures).align, align-high (model_in c.args.d.now) (ty_at c.args.d.now c.args.k), c.loop-at-test.true))
+loop-at-preserved c = elim c.if-at-size-gt8.branch [
+  | then-at-size-gt8+then-at-size-le16 w ↦ rw w.finished-is (right-set c.args.d.now c.loop-at.finished c.args.k c.loop-at.at w.of_aggregate.result.0 c.loop-at.invariant c.loop-at-test.true w.of_aggregate.ensures)
+  | else-at-size-gt8 w ↦ rw w.finished-is c.loop-at.invariant
+]
 
-pub returns : goal.returns
-returns c = c.loop-at.invariant.0
+pub returns-after-at-size-gt8 : goal.returns-after-at-size-gt8
+returns-after-at-size-gt8 c = elim c.if-at-size-gt8.branch [
+  | then-at-size-gt8+then-at-size-le16 w ↦ rw w.finished-is (right-set c.args.d.now c.loop-at.finished c.args.k c.loop-at.at w.of_aggregate.result.0 c.loop-at.invariant c.loop-at-test.true w.of_aggregate.ensures)
+  | else-at-size-gt8 w ↦ rw w.finished-is c.loop-at.invariant
+]

@@ -1,8 +1,7 @@
--- `address_in` meets its contract: two halves of 32 bits.
+-- The eight bytes of rdi, read.
 -- Assumes nothing.
-use native.Mathlib.Omega.{arith}
-use Rattle.images.proofs.Words.{address-words}
+use Rattle.images.proofs.Words.{read-address}
 use Rattle.images.proofs.hidden_address.address_in.Goals as goal
 
 pub returns : goal.returns
-returns c = omega (arith, c.half_at.ensures.0, c.half_at-2.ensures.0, address-words c.args.registers.now)
+returns c = read-address c.args.registers.now _ c.copy_from_slice.ensures.after _ c.from_le_bytes.ensures

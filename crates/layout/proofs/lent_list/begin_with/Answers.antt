@@ -1,21 +1,32 @@
--- `begin_with` meets its contract.
--- Assumes nothing.
-use mathlib.Core.Path.{refl, sym, ◌∙◌}
+use mathlib.Core.Path.{sym, ◌∙◌}
 use native.Mathlib.Omega.{arith}
-use Rattle.layout.proofs.Layouts.{laid-accepted}
-use Rattle.layout.proofs.Lists.{begin-refused, begin-short, begin-laid}
-use Rattle.layout.proofs.Verdict.{accepted-uses}
-use Rattle.uses.proofs.Uses.{accepted-typed}
+use Rattle.std.proofs.lemmas.Result.{IfOk-from_err}
+use Rattle.layout.proofs.Layouts.{passed-on}
+use Rattle.layout.proofs.Lists.{list-refused, list-short, list-laid}
 use Rattle.layout.proofs.lent_list.begin_with.Goals as goal
 
-pub returns-in_default : goal.returns-in_default
-returns-in_default c = (begin-refused c.args.d.now c.args.room _ _ (sym c.layout_with-answer.ensures.0 ∙ c.in_default.is) c.in_default.is refl c.laying_fresh.ensures, omega arith, c.layout_with-answer.ensures.1, c.layout_with-answer.ensures.2)
-
-pub byte_at-arguments-requires : goal.byte_at-arguments-requires
-byte_at-arguments-requires c = omega (arith, (accepted-typed c.args.d.now (accepted-uses c.args.d.now (laid-accepted c.args.d.now _ (sym c.layout_with-answer.ensures.0 ∙ c.in-Ok.is)).0)).whole.headed)
+pub returns-in_err-layout : goal.returns-in_err-layout
+returns-in_err-layout c = (
+  passed-on _ c.from_residual.ensures.1 ∙ list-refused c.args.d.now c.args.room _ (sym c.layout_with.ensures.0 ∙ c.in_err-layout.was),
+  c.layout_with.ensures.1,
+  c.layout_with.ensures.2,
+  IfOk-from_err _ _ c.from_residual.ensures.0,
+)
 
 pub returns-then-room-arguments : goal.returns-then-room-arguments
-returns-then-room-arguments c = (begin-short c.args.d.now c.args.room _ c.refusal_of.result _ (sym c.layout_with-answer.ensures.0 ∙ c.in-Ok.is) (omega (arith, c.byte_at-arguments.ensures.0, c.if-room-arguments.true)) c.refusal_of.ensures refl refl c.laying_fresh-then-room-arguments.ensures, omega arith, c.layout_with-answer.ensures.1, c.layout_with-answer.ensures.2)
+returns-then-room-arguments c =
+    let laid = c.in_ok-layout.ensures.3 in (
+      list-short c.args.d.now c.args.room laid.1 (omega (arith, c.arguments.ensures)) _ c.from.ensures,
+      c.layout_with.ensures.1,
+      c.layout_with.ensures.2,
+      tt,
+    )
 
 pub returns : goal.returns
-returns c = (begin-laid c.args.d.now c.args.room _ _ (sym c.layout_with-answer.ensures.0 ∙ c.in-Ok.is) (omega (arith, c.byte_at-arguments.ensures.0, c.if-room-arguments.false)) refl c.byte_at-arguments.ensures.0 c.laying_fresh-2.ensures, omega arith, c.layout_with-answer.ensures.1, c.layout_with-answer.ensures.2)
+returns c =
+    let laid = c.in_ok-layout.ensures.3 in (
+      list-laid c.args.d.now c.args.room laid.1 (omega (arith, c.arguments.ensures)) _ laid.0,
+      c.layout_with.ensures.1,
+      c.layout_with.ensures.2,
+      (laid.0, omega (arith, c.arguments.ensures), laid.2, laid.3),
+    )

@@ -1,14 +1,8 @@
--- `lay_out` meets its contract: the list is filled below i, and `before` holds what is laid out before record i.
-use Rattle.std.proofs.Common.{◌≡◌, ◌-◌, ◌≤◌, length}
-use Rattle.layout.specs.Lists.{list_laying, filled}
-use Rattle.layout.specs.Placements.{placement_at}
+use mathlib.Core.Path.{◌≡◌}
+use Rattle.layout.specs.Lists.{filled}
+use Rattle.layout.specs.Placements.{laying_at, placement_at}
 use Rattle.layout.proofs.lent_list.lay_out.Given as goal
 
+-- the list is filled below i, and `laying` is what is laid out before record i
 abbrev pub invariant-loop-i : goal.invariant-loop-i
-invariant-loop-i l =
-    (l.i ≤ l.n)
-    × (l.list ≡ filled (placement_at l.d) l.i l.fn.list)
-    × (l.before ≡ list_laying l.d (length l.fn.list) l.i)
-
-abbrev pub decreases-loop-i : goal.decreases-loop-i
-decreases-loop-i l = l.n - l.i
+invariant-loop-i l = (l.list ≡ filled (placement_at l.d) l.i l.fn.list) × (l.laying ≡ laying_at l.d l.i)

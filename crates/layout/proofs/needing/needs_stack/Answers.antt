@@ -1,28 +1,17 @@
--- `needs_stack` meets its contract.
--- Assumes nothing.
-use mathlib.Core.Path.{sym, ◌∙◌}
+use mathlib.Core.Path.{refl, sym, ◌∙◌}
 use native.Mathlib.Omega.{arith}
-use Rattle.layout.proofs.Stacked.{need_refused, need_some, need_none}
-use Rattle.uses.proofs.Uses.{uses-judged, accepted-types, accepted-typed}
+use Rattle.layout.proofs.Layouts.{passed-on}
+use Rattle.layout.proofs.Stacked.{need_refused, need_some, need_none, found-low}
 use Rattle.layout.proofs.needing.needs_stack.Goals as goal
 
-pub refusal_for-requires : goal.refusal_for-requires
-refusal_for-requires c = uses-judged c.args.d.now _ c.uses_refusal_with-number.ensures.0
+pub returns-in_err-judge : goal.returns-in_err-judge
+returns-in_err-judge c = passed-on _ c.from_residual.ensures.1 ∙ need_refused c.args.d.now _ (sym c.in_err-judge.was ∙ c.judge.ensures.0)
 
-pub returns-then-number-ne0 : goal.returns-then-number-ne0
-returns-then-number-ne0 c = need_refused c.args.d.now _ _ c.uses_refusal_with-number.ensures.0 c.if-number-ne0.true c.refusal_for.ensures
+pub overflow_add-result : goal.overflow_add-result
+overflow_add-result c = omega (arith, found-low c.args.d.now c.in_ok-judge.ensures.3.0 c.in-Some.i (sym c.in-Some.is ∙ c.first_stacked.ensures))
 
-pub fill_classes-requires : goal.fill_classes-requires
-fill_classes-requires c = (accepted-types c.args.d.now (sym c.uses_refusal_with-number.ensures.0 ∙ c.if-number-ne0.false), c.uses_refusal_with-number.ensures.2 (sym c.uses_refusal_with-number.ensures.0 ∙ c.if-number-ne0.false))
+pub returns-in-Some : goal.returns-in-Some
+returns-in-Some c = need_some c.args.d.now c.in_ok-judge.ensures.3.0 c.in-Some.i (sym c.in-Some.is ∙ c.first_stacked.ensures) _ refl refl
 
-pub byte_at-arguments-requires : goal.byte_at-arguments-requires
-byte_at-arguments-requires c = omega (arith, (accepted-typed c.args.d.now (sym c.uses_refusal_with-number.ensures.0 ∙ c.if-number-ne0.false)).whole.headed)
-
-pub first_stacked-first-requires : goal.first_stacked-first-requires
-first_stacked-first-requires c = (sym c.uses_refusal_with-number.ensures.0 ∙ c.if-number-ne0.false, c.fill_classes.ensures.1)
-
-pub returns-then-first-arguments : goal.returns-then-first-arguments
-returns-then-first-arguments c = need_some c.args.d.now (sym c.uses_refusal_with-number.ensures.0 ∙ c.if-number-ne0.false) _ _ c.first_stacked-first.ensures c.byte_at-arguments.ensures.0 c.if-first-arguments.true
-
-pub returns : goal.returns
-returns c = need_none c.args.d.now (sym c.uses_refusal_with-number.ensures.0 ∙ c.if-number-ne0.false) _ _ c.first_stacked-first.ensures c.byte_at-arguments.ensures.0 c.if-first-arguments.false
+pub returns-in-None : goal.returns-in-None
+returns-in-None c = need_none c.args.d.now c.in_ok-judge.ensures.3.0 (sym c.in-None.is ∙ c.first_stacked.ensures) _ refl c.arguments.ensures

@@ -7,6 +7,6 @@ pub returns-then-number-eq6 : goal.returns-then-number-eq6
 unfolding names_type
 returns-then-number-eq6 c = rw (eq-eqb _ _ c.if-number-eq6.true)
 
-pub returns : goal.returns
+pub returns-else-number-eq6 : goal.returns-else-number-eq6
 unfolding names_type
-returns c = rw (ne_eqb _ _ c.if-number-eq6.false)
+returns-else-number-eq6 c = rw (ne_eqb _ _ c.if-number-eq6.false)

@@ -1,5 +1,4 @@
 -- A name for each number, and no word where there is none. Assumes nothing.
--- Assumes nothing.
 use native.Mathlib.Omega.{arith}
 use Rattle.listing.proofs.Words.{general-is, general-none}
 use Rattle.listing.proofs.place_writing.put_general.Goals as goal
@@ -38,8 +37,8 @@ returns-in-5 c =
 
 pub returns-in_default : goal.returns-in_default
 returns-in_default c =
-    general-none c.args.back c.args.n c.args.out.now c.args.at c.if-back.true (omega arith)
+    general-none c.args.back c.args.n c.args.text.now c.if-back.true (omega arith)
 
 pub returns-in_default-n : goal.returns-in_default-n
 returns-in_default-n c =
-    general-none c.args.back c.args.n c.args.out.now c.args.at c.if-back.false (omega arith)
+    general-none c.args.back c.args.n c.args.text.now c.if-back.false (omega arith)

@@ -1,27 +1,26 @@
--- `kinds_of` meets its contract.
--- Assumes nothing.
-use Rattle.places.specs.declared.Eightbyte.TheVariants.{Empty, OnStack}
-use mathlib.Core.Path.{sym, ◌∙◌}
-use Rattle.places.proofs.Records.{pair-kinds}
+use mathlib.Core.Path.{sym, ap, ◌∙◌}
+use Rattle.std.proofs.Common.{Some, None}
+use Rattle.classes.proofs.Laws.{or_left, or_right}
+use Rattle.places.specs.Recorded.{at_most_one}
+use Rattle.places.proofs.Records.{stack-kinds, pair-kinds}
 use Rattle.places.proofs.shapes.kinds_of.Goals as goal
+use Rattle.places.proofs.shapes.kinds_of.Goals.{then-goes_on_stack-via-then-goes_on_stack, then-goes_on_stack-via-else-goes_on_stack+then-goes_on_stack-2}
 
-pub returns-in-OnStack : goal.returns-in-OnStack
-returns-in-OnStack c = pair-kinds _ _ OnStack _ (sym c.eightbyte_of-low.ensures ∙ c.in-OnStack.is) (sym c.eightbyte_of-high.ensures)
+pub returns-then-goes_on_stack : goal.returns-then-goes_on_stack
+returns-then-goes_on_stack c =
+    elim c.then-goes_on_stack.branch [
+      | then-goes_on_stack-via-then-goes_on_stack w ↦ stack-kinds _ _ (or_left _ _ (sym c.goes_on_stack.ensures ∙ w.if-goes_on_stack.true))
+      | then-goes_on_stack-via-else-goes_on_stack+then-goes_on_stack-2 w ↦ stack-kinds _ _ (or_right _ _ (sym w.goes_on_stack-else-goes_on_stack.ensures ∙ w.if-goes_on_stack-2.true))
+    ]
 
-pub returns-in-OnStack-high : goal.returns-in-OnStack-high
-returns-in-OnStack-high c = pair-kinds _ _ Empty OnStack (sym c.eightbyte_of-low.ensures ∙ c.in-Empty.is) (sym c.eightbyte_of-high.ensures ∙ c.in-OnStack-high.is)
+pub returns-in-Some-Some : goal.returns-in-Some-Some
+returns-in-Some-Some c = pair-kinds _ _ (sym c.goes_on_stack.ensures ∙ c.if-goes_on_stack.false) (sym c.goes_on_stack-else-goes_on_stack.ensures ∙ c.if-goes_on_stack-2.false) (Some _) (Some _) (ap at_most_one (sym c.in-Some-Some.is-0) ∙ c.kind_of.ensures) (ap at_most_one (sym c.in-Some-Some.is-1) ∙ c.kind_of-2.ensures)
 
-pub returns-in-Empty-high : goal.returns-in-Empty-high
-returns-in-Empty-high c = pair-kinds _ _ Empty Empty (sym c.eightbyte_of-low.ensures ∙ c.in-Empty.is) (sym c.eightbyte_of-high.ensures ∙ c.in-Empty-high.is)
+pub returns-in-Some-None : goal.returns-in-Some-None
+returns-in-Some-None c = pair-kinds _ _ (sym c.goes_on_stack.ensures ∙ c.if-goes_on_stack.false) (sym c.goes_on_stack-else-goes_on_stack.ensures ∙ c.if-goes_on_stack-2.false) (Some _) None (ap at_most_one (sym c.in-Some-None.is-0) ∙ c.kind_of.ensures) (ap at_most_one (sym c.in-Some-None.is-1) ∙ c.kind_of-2.ensures)
 
-pub returns-in-Asks-high : goal.returns-in-Asks-high
-returns-in-Asks-high c = pair-kinds _ _ Empty _ (sym c.eightbyte_of-low.ensures ∙ c.in-Empty.is) (sym c.eightbyte_of-high.ensures ∙ c.in-Asks-high.is)
+pub returns-in-None-Some : goal.returns-in-None-Some
+returns-in-None-Some c = pair-kinds _ _ (sym c.goes_on_stack.ensures ∙ c.if-goes_on_stack.false) (sym c.goes_on_stack-else-goes_on_stack.ensures ∙ c.if-goes_on_stack-2.false) None (Some _) (ap at_most_one (sym c.in-None-Some.is-0) ∙ c.kind_of.ensures) (ap at_most_one (sym c.in-None-Some.is-1) ∙ c.kind_of-2.ensures)
 
-pub returns-in-OnStack-high-2 : goal.returns-in-OnStack-high-2
-returns-in-OnStack-high-2 c = pair-kinds _ _ _ OnStack (sym c.eightbyte_of-low.ensures ∙ c.in-Asks.is) (sym c.eightbyte_of-high.ensures ∙ c.in-OnStack-high-2.is)
-
-pub returns-in-Empty-high-2 : goal.returns-in-Empty-high-2
-returns-in-Empty-high-2 c = pair-kinds _ _ _ Empty (sym c.eightbyte_of-low.ensures ∙ c.in-Asks.is) (sym c.eightbyte_of-high.ensures ∙ c.in-Empty-high-2.is)
-
-pub returns-in-Asks-high-2 : goal.returns-in-Asks-high-2
-returns-in-Asks-high-2 c = pair-kinds _ _ _ _ (sym c.eightbyte_of-low.ensures ∙ c.in-Asks.is) (sym c.eightbyte_of-high.ensures ∙ c.in-Asks-high-2.is)
+pub returns-in-None-None : goal.returns-in-None-None
+returns-in-None-None c = pair-kinds _ _ (sym c.goes_on_stack.ensures ∙ c.if-goes_on_stack.false) (sym c.goes_on_stack-else-goes_on_stack.ensures ∙ c.if-goes_on_stack-2.false) None None (ap at_most_one (sym c.in-None-None.is-0) ∙ c.kind_of.ensures) (ap at_most_one (sym c.in-None-None.is-1) ∙ c.kind_of-2.ensures)

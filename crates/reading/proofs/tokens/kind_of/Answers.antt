@@ -20,5 +20,5 @@ loop-i-preserved c = (kind-next _ _ c.loop-i-test.true _ c.loop-i.invariant.0 c.
 pub returns-then-class_of-eq1 : goal.returns-then-class_of-eq1
 returns-then-class_of-eq1 c = (kind-name c.args.text.now c.args.start c.args.end c.loop-i.i _ (search rules) (search rules) c.loop-i.invariant.0 (omega arith) (sym c.is_number.ensures ∙ c.if-is_number.false) c.class_of.ensures c.if-class_of-eq1.true, omega arith)
 
-pub returns : goal.returns
-returns c = (kind-none c.args.text.now c.args.start c.args.end c.loop-i.i _ (search rules) (search rules) c.loop-i.invariant.0 (omega arith) (sym c.is_number.ensures ∙ c.if-is_number.false) c.class_of.ensures c.if-class_of-eq1.false, omega arith)
+pub returns-else-class_of-eq1 : goal.returns-else-class_of-eq1
+returns-else-class_of-eq1 c = (kind-none c.args.text.now c.args.start c.args.end c.loop-i.i _ (search rules) (search rules) c.loop-i.invariant.0 (omega arith) (sym c.is_number.ensures ∙ c.if-is_number.false) c.class_of.ensures c.if-class_of-eq1.false, omega arith)

@@ -10,17 +10,20 @@ use Rattle.walk.proofs.Checks.{refused_as, show-wrong, show-registers, show-idle
 use Rattle.station.specs.Paper.{kcb}
 use Rattle.station.proofs.Attachments.{right-seat}
 use Rattle.walk.proofs.checking.checked.Goals as goal
+use Rattle.walk.proofs.checking.checked.Goals.{then-wrong_seat-via-then-wrong_seat, then-wrong_seat-via-else-wrong_seat+then-registers-ne176}
 
 pub returns-then-wrong_seat : goal.returns-then-wrong_seat
-returns-then-wrong_seat c = refused_as kcb _ _ 11 c.refusal_of.result c.refusal_of.ensures (omega arith) (show-wrong kcb c.args.station c.args.seat.now c.args.walk (asking c.args.registers.now c.args.stack.now c.args.asked []) (sym c.wrong_seat.ensures ∙ c.if-wrong_seat.true))
-
-pub returns-then-registers-ne176 : goal.returns-then-registers-ne176
 unfolding kcb
-returns-then-registers-ne176 c = refused_as kcb _ _ 11 c.refusal_of-then-registers-ne176.result c.refusal_of-then-registers-ne176.ensures (omega arith) (show-registers kcb c.args.station c.args.seat.now c.args.walk (asking c.args.registers.now c.args.stack.now c.args.asked []) (sym c.wrong_seat.ensures ∙ c.if-wrong_seat.false) c.if-registers-ne176.true)
+returns-then-wrong_seat c =
+    elim c.then-wrong_seat.branch [
+      | then-wrong_seat-via-then-wrong_seat w ↦ refused_as kcb _ _ 11 c.args.walk.position _ c.from.ensures (omega arith) (show-wrong kcb c.args.station c.args.seat.now c.args.walk (asking c.args.registers.now c.args.stack.now c.args.asked []) (sym c.wrong_seat.ensures ∙ w.if-wrong_seat.true))
+      | then-wrong_seat-via-else-wrong_seat+then-registers-ne176 w ↦
+          refused_as kcb _ _ 11 c.args.walk.position _ c.from.ensures (omega arith) (show-registers kcb c.args.station c.args.seat.now c.args.walk (asking c.args.registers.now c.args.stack.now c.args.asked []) (sym c.wrong_seat.ensures ∙ w.if-wrong_seat.false) w.if-registers-ne176.true)
+    ]
 
 pub returns-then-not-station : goal.returns-then-not-station
 unfolding kcb
-returns-then-not-station c = refused_as kcb _ _ 13 c.refusal_of-then-not-station.result c.refusal_of-then-not-station.ensures (omega arith) (show-idle kcb c.args.station c.args.seat.now c.args.walk (asking c.args.registers.now c.args.stack.now c.args.asked []) (sym c.wrong_seat.ensures ∙ c.if-wrong_seat.false) c.if-registers-ne176.false (not-true _ c.if-not-station.true))
+returns-then-not-station c = refused_as kcb _ _ 13 c.args.walk.position _ c.from-then-not-station.ensures (omega arith) (show-idle kcb c.args.station c.args.seat.now c.args.walk (asking c.args.registers.now c.args.stack.now c.args.asked []) (sym c.wrong_seat.ensures ∙ c.if-wrong_seat.false) c.if-registers-ne176.false (not-true _ c.if-not-station.true))
 
 pub slice_bounds-stands-end : goal.slice_bounds-stands-end
 slice_bounds-stands-end c = let z = right-seat c.args.station c.args.seat.now (sym c.wrong_seat.ensures ∙ c.if-wrong_seat.false) in sym (length-take-le c.args.station.length.0 c.args.seat.now (omega (arith, z.full, z.within)))

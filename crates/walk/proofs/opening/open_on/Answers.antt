@@ -1,25 +1,37 @@
 -- 1..10 from the layout's answer, then 16.
 -- Assumes nothing.
+use mathlib.Core.Path.{sym, ◌∙◌}
 use native.Mathlib.Omega.{arith}
-use Rattle.station.specs.Paper.{verdict_of, kcb}
-use Rattle.walk.proofs.Checks.{laid-right, laid-uses, refused-right, headed, named-few}
-use Rattle.walk.proofs.Opens.{opened-not, opened-refused, opened-done, variadic-early, plain-16, variadic-right, standing-named}
+use Rattle.std.proofs.lemmas.Result.{err_from_is_err_and}
+use Rattle.station.specs.Paper.{kcb}
+use Rattle.station.proofs.Attachments.{under-not, under-refused, under-done}
+use Rattle.station.proofs.Kcb.{laid-right, laid-not}
+use Rattle.walk.proofs.Checks.{laid-uses, headed, named-few}
+use Rattle.walk.proofs.Opens.{opened-is, variadic-early, plain-16, variadic-right, standing-named}
 use Rattle.walk.proofs.opening.open_on.Goals as goal
 
-pub returns-in_default : goal.returns-in_default
-returns-in_default c = let z = refused-right c.args.d.now c.layout_of-answer.result c.in_default.field-0 c.refusal_in.result c.layout_of-answer.ensures c.in_default.is c.refusal_in.ensures in opened-not kcb _ _ (verdict_of kcb c.args.d.now) _ _ z.0 (omega (arith, z.1)) (variadic-early kcb c.args.d.now z.1)
+pub returns-in_err-layout : goal.returns-in_err-layout
+returns-in_err-layout c =
+    let p = err_from_is_err_and c.from_residual.result c.from_residual.ensures.1 in
+    let z = laid-not c.args.d.now _ (sym c.in_err-layout.ensures) in
+    rw (p.1, p.2) (under-not kcb _ _ _ _ _ z.0 (omega (arith, z.1)) (variadic-early kcb c.args.d.now z.1) ∙ opened-is kcb _ _ _)
 
 pub variadic_in-requires : goal.variadic_in-requires
-variadic_in-requires c = omega (arith, headed c.args.d.now (laid-uses c.args.d.now c.layout_of-answer.result c.in-Ok.layout c.layout_of-answer.ensures c.in-Ok.is))
+variadic_in-requires c = omega (arith, headed c.args.d.now (laid-uses c.args.d.now _ (sym c.in_ok-layout.ensures)))
 
 pub returns-then-variadic_in-ne1 : goal.returns-then-variadic_in-ne1
-returns-then-variadic_in-ne1 c = opened-refused kcb _ _ 16 c.refusal_of.result _ c.refusal_of.ensures (omega arith) (plain-16 c.args.d.now c.variadic_in.result (laid-right c.args.d.now c.layout_of-answer.result c.in-Ok.layout c.layout_of-answer.ensures c.in-Ok.is).0 c.variadic_in.ensures c.if-variadic_in-ne1.true)
+returns-then-variadic_in-ne1 c = under-refused kcb _ _ 16 _ _ c.from.ensures (omega arith) (plain-16 c.args.d.now c.variadic_in.result (laid-right c.args.d.now _ (sym c.in_ok-layout.ensures)).0 c.variadic_in.ensures c.if-variadic_in-ne1.true) ∙ opened-is kcb _ _ _
 
 pub byte_at-named-requires : goal.byte_at-named-requires
-byte_at-named-requires c = omega (arith, headed c.args.d.now (laid-uses c.args.d.now c.layout_of-answer.result c.in-Ok.layout c.layout_of-answer.ensures c.in-Ok.is))
+byte_at-named-requires c = omega (arith, headed c.args.d.now (laid-uses c.args.d.now _ (sym c.in_ok-layout.ensures)))
 
-pub walk_at-requires : goal.walk_at-requires
-walk_at-requires c = named-few c.args.d.now c.in-Ok.layout (laid-right c.args.d.now c.layout_of-answer.result c.in-Ok.layout c.layout_of-answer.ensures c.in-Ok.is).1
+pub standing-requires : goal.standing-requires
+standing-requires c = named-few c.args.d.now _ (laid-right c.args.d.now _ (sym c.in_ok-layout.ensures)).1
 
 pub returns : goal.returns
-returns c = let z = laid-right c.args.d.now c.layout_of-answer.result c.in-Ok.layout c.layout_of-answer.ensures c.in-Ok.is in opened-done kcb _ _ c.walk_at.result _ (variadic-right c.args.d.now c.variadic_in.result z.0 c.variadic_in.ensures c.if-variadic_in-ne1.false) (standing-named c.args.d.now c.args.number c.byte_at-named.result c.in-Ok.layout c.walk_at.result (laid-uses c.args.d.now c.layout_of-answer.result c.in-Ok.layout c.layout_of-answer.ensures c.in-Ok.is) z.1 c.byte_at-named.ensures.0 c.walk_at.ensures)
+returns c =
+    let e = sym c.in_ok-layout.ensures in
+    let z = laid-right c.args.d.now _ e in
+    under-done kcb _ _ _ _ (variadic-right c.args.d.now c.variadic_in.result z.0 c.variadic_in.ensures c.if-variadic_in-ne1.false)
+    (standing-named c.args.d.now c.args.number c.byte_at-named.result _ c.standing.result (laid-uses c.args.d.now _ e) z.1 c.byte_at-named.ensures.0 c.standing.ensures)
+    ∙ opened-is kcb _ _ _

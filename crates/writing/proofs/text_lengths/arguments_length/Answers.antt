@@ -18,9 +18,6 @@ overflow_add-entry c = omega (arith, (entry-is c.argument_at-argument.result c.e
 pub overflow_add-x : goal.overflow_add-x
 overflow_add-x c = omega (arith, c.loop-i.invariant.high, (entry-is c.argument_at-argument.result c.entry_at-entry.result c.requires.3 (argument-low c.args.d.now c.requires.0 c.loop-i.i c.argument_at-argument.result (omega (arith, c.loop-i-test.true, c.requires.2)) c.argument_at-argument.ensures) c.entry_at-entry.ensures).1)
 
-pub loop-i-smaller : goal.loop-i-smaller
-loop-i-smaller c = omega (arith, c.loop-i-test.true)
-
 pub loop-i-preserved : goal.loop-i-preserved
 loop-i-preserved c = summing_next c.argument_at-argument.result c.entry_at-entry.result c.cap-x.result c.loop-i.invariant c.loop-i-test.true c.argument_at-argument.ensures (entry-is c.argument_at-argument.result c.entry_at-entry.result c.requires.3 (argument-low c.args.d.now c.requires.0 c.loop-i.i c.argument_at-argument.result (omega (arith, c.loop-i-test.true, c.requires.2)) c.argument_at-argument.ensures) c.entry_at-entry.ensures).0 c.cap-x.ensures
 

@@ -28,9 +28,6 @@ overflow_add-entry c = omega (arith, c.digits-many.ensures.1, (entry-is c.member
 pub overflow_add-x : goal.overflow_add-x
 overflow_add-x c = omega (arith, c.loop-i.invariant.high, c.digits-many.ensures.1, (entry-is c.member_at-member.result c.entry_at-entry.result c.requires.2 (member-sized c.loop-i.i c.member_at-member.result c.requires.0 c.loop-i-test.true c.member_at-member.ensures).0 c.entry_at-entry.ensures).1)
 
-pub loop-i-smaller : goal.loop-i-smaller
-loop-i-smaller c = omega (arith, c.loop-i-test.true)
-
 pub loop-i-preserved : goal.loop-i-preserved
 loop-i-preserved c = adding_next c.member_at-member.result c.entry_at-entry.result c.digits-many.result c.cap-x.result c.loop-i.invariant c.loop-i-test.true c.member_at-member.ensures (entry-is c.member_at-member.result c.entry_at-entry.result c.requires.2 (member-sized c.loop-i.i c.member_at-member.result c.requires.0 c.loop-i-test.true c.member_at-member.ensures).0 c.entry_at-entry.ensures).0 c.digits-many.ensures.0 c.cap-x.ensures
 

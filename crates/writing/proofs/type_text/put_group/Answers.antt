@@ -6,16 +6,16 @@ use Rattle.writing.proofs.type_text.put_group.Goals as goal
 
 pub put-requires : goal.put-requires
 unfolding group_text
-put-requires c = group-room c.args.union true c.args.at c.if-union.true c.requires
+put-requires c = group-room c.args.union true c.args.text.now.at c.if-union.true c.requires
 
 pub returns-then-union : goal.returns-then-union
 unfolding group_text
 returns-then-union c = group-is c.args.union true c.if-union.true c.put.ensures
 
-pub put-requires-2 : goal.put-requires-2
+pub put-requires-else-union : goal.put-requires-else-union
 unfolding group_text
-put-requires-2 c = group-room c.args.union false c.args.at c.if-union.false c.requires
+put-requires-else-union c = group-room c.args.union false c.args.text.now.at c.if-union.false c.requires
 
-pub returns : goal.returns
+pub returns-else-union : goal.returns-else-union
 unfolding group_text
-returns c = group-is c.args.union false c.if-union.false c.put-2.ensures
+returns-else-union c = group-is c.args.union false c.if-union.false c.put-else-union.ensures

@@ -1,7 +1,7 @@
 -- The number stands between. Assumes nothing.
 use native.Mathlib.Omega.{arith}
-use Rattle.listing.proofs.Written.{wrote_join, wrote_more}
+use Rattle.listing.proofs.Puts.{puts_join, puts_more}
 use Rattle.writing.proofs.type_text.put_size.Goals as goal
 
 pub returns : goal.returns
-returns c = wrote_more (wrote_join c.put-behind_bracket.ensures (wrote_join c.put_decimal-behind.ensures c.put.ensures)) (omega arith)
+returns c = puts_more (puts_join c.put.ensures (puts_join c.put_decimal.ensures c.put-2.ensures)) (omega arith)

@@ -8,71 +8,71 @@ use Rattle.writing.proofs.type_text.put_words.Goals as goal
 
 pub put-requires : goal.put-requires
 unfolding words_text words_of words
-put-requires c = words-room c.args.code 0 c.args.at c.in-0.is c.requires.1
+put-requires c = words-room c.args.code 0 c.args.text.now.at c.in-0.is c.requires.1
 
 pub put-requires-in-1 : goal.put-requires-in-1
 unfolding words_text words_of words
-put-requires-in-1 c = words-room c.args.code 1 c.args.at c.in-1.is c.requires.1
+put-requires-in-1 c = words-room c.args.code 1 c.args.text.now.at c.in-1.is c.requires.1
 
 pub put-requires-in-2 : goal.put-requires-in-2
 unfolding words_text words_of words
-put-requires-in-2 c = words-room c.args.code 2 c.args.at c.in-2.is c.requires.1
+put-requires-in-2 c = words-room c.args.code 2 c.args.text.now.at c.in-2.is c.requires.1
 
 pub put-requires-in-3 : goal.put-requires-in-3
 unfolding words_text words_of words
-put-requires-in-3 c = words-room c.args.code 3 c.args.at c.in-3.is c.requires.1
+put-requires-in-3 c = words-room c.args.code 3 c.args.text.now.at c.in-3.is c.requires.1
 
 pub put-requires-in-4 : goal.put-requires-in-4
 unfolding words_text words_of words
-put-requires-in-4 c = words-room c.args.code 4 c.args.at c.in-4.is c.requires.1
+put-requires-in-4 c = words-room c.args.code 4 c.args.text.now.at c.in-4.is c.requires.1
 
 pub put-requires-in-5 : goal.put-requires-in-5
 unfolding words_text words_of words
-put-requires-in-5 c = words-room c.args.code 5 c.args.at c.in-5.is c.requires.1
+put-requires-in-5 c = words-room c.args.code 5 c.args.text.now.at c.in-5.is c.requires.1
 
 pub put-requires-in-6 : goal.put-requires-in-6
 unfolding words_text words_of words
-put-requires-in-6 c = words-room c.args.code 6 c.args.at c.in-6.is c.requires.1
+put-requires-in-6 c = words-room c.args.code 6 c.args.text.now.at c.in-6.is c.requires.1
 
 pub put-requires-in-7 : goal.put-requires-in-7
 unfolding words_text words_of words
-put-requires-in-7 c = words-room c.args.code 7 c.args.at c.in-7.is c.requires.1
+put-requires-in-7 c = words-room c.args.code 7 c.args.text.now.at c.in-7.is c.requires.1
 
 pub put-requires-in-8 : goal.put-requires-in-8
 unfolding words_text words_of words
-put-requires-in-8 c = words-room c.args.code 8 c.args.at c.in-8.is c.requires.1
+put-requires-in-8 c = words-room c.args.code 8 c.args.text.now.at c.in-8.is c.requires.1
 
 pub put-requires-in-9 : goal.put-requires-in-9
 unfolding words_text words_of words
-put-requires-in-9 c = words-room c.args.code 9 c.args.at c.in-9.is c.requires.1
+put-requires-in-9 c = words-room c.args.code 9 c.args.text.now.at c.in-9.is c.requires.1
 
 pub put-requires-in-10 : goal.put-requires-in-10
 unfolding words_text words_of words
-put-requires-in-10 c = words-room c.args.code 10 c.args.at c.in-10.is c.requires.1
+put-requires-in-10 c = words-room c.args.code 10 c.args.text.now.at c.in-10.is c.requires.1
 
 pub put-requires-in-11 : goal.put-requires-in-11
 unfolding words_text words_of words
-put-requires-in-11 c = words-room c.args.code 11 c.args.at c.in-11.is c.requires.1
+put-requires-in-11 c = words-room c.args.code 11 c.args.text.now.at c.in-11.is c.requires.1
 
 pub put-requires-in-12 : goal.put-requires-in-12
 unfolding words_text words_of words
-put-requires-in-12 c = words-room c.args.code 12 c.args.at c.in-12.is c.requires.1
+put-requires-in-12 c = words-room c.args.code 12 c.args.text.now.at c.in-12.is c.requires.1
 
 pub put-requires-in-13 : goal.put-requires-in-13
 unfolding words_text words_of words
-put-requires-in-13 c = words-room c.args.code 13 c.args.at c.in-13.is c.requires.1
+put-requires-in-13 c = words-room c.args.code 13 c.args.text.now.at c.in-13.is c.requires.1
 
 pub put-requires-in-14 : goal.put-requires-in-14
 unfolding words_text words_of words
-put-requires-in-14 c = words-room c.args.code 14 c.args.at c.in-14.is c.requires.1
+put-requires-in-14 c = words-room c.args.code 14 c.args.text.now.at c.in-14.is c.requires.1
 
 pub put-requires-in-15 : goal.put-requires-in-15
 unfolding words_text words_of words
-put-requires-in-15 c = words-room c.args.code 15 c.args.at c.in-15.is c.requires.1
+put-requires-in-15 c = words-room c.args.code 15 c.args.text.now.at c.in-15.is c.requires.1
 
 pub put-requires-in-16 : goal.put-requires-in-16
 unfolding words_text words_of words
-put-requires-in-16 c = words-room c.args.code 16 c.args.at c.in-16.is c.requires.1
+put-requires-in-16 c = words-room c.args.code 16 c.args.text.now.at c.in-16.is c.requires.1
 
 pub returns-in-0 : goal.returns-in-0
 unfolding words_text words_of words
