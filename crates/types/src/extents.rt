@@ -25,7 +25,7 @@ pub fn offset_after(union: bool, end: Bytes, align: Bytes) -> Bytes
 }
 
 // Where the members end after one more.
-fn end_after(union: bool, end: Bytes, member: Extent) -> Bytes
+pub fn end_after(union: bool, end: Bytes, member: Extent) -> Bytes
     requires { ((end.0 ≤ 2 ^ 32) × (member.size.0 ≤ 4096)) × ((0 < member.align.0) × (member.align.0 ≤ 32)) }
     ensures { result.0 ≡ end_after union end.0 member.align.0 member.size.0 }
 {
