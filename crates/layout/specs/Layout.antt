@@ -32,17 +32,9 @@ layout_of d = record {
   named = used_at d (named_in d);
 }
 
--- "1..9"
-unfoldable pub uses_answer : List ℕ → Result (Unit {0}) Refusal
-uses_answer d = cond (eqb (uses_refusal d) 0) (Ok tt) (Err (refusal_for d (uses_refusal d)))
-
 -- "1..10"
 unfoldable pub layout_answer : List ℕ → Result Layout Refusal
 layout_answer d = cond (eqb (verdict d) 0) (Ok (layout_of d)) (Err (refusal_for d (verdict d)))
-
--- the verdict alone
-unfoldable pub check_answer : List ℕ → Result (Unit {0}) Refusal
-check_answer d = cond (eqb (verdict d) 0) (Ok tt) (Err (refusal_for d (verdict d)))
 
 -- the refusal that an answer carries
 abbrev pub refusal_in : Result Layout Refusal → Refusal

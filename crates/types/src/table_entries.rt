@@ -28,14 +28,21 @@ pub fn wide(entry: u32) -> usize
     entry as usize
 }
 
-// Size and alignment of type k, by its entry. Nothing else takes them out of a table.
-pub fn extent_in(table: &[u32; 64], k: usize) -> Extent
-    requires { k < 64 }
-    ensures { IsEntry (get_or table.now k 0) result }
+// Size and alignment that an entry says. Nothing else takes them out of one.
+pub fn extent_by(entry: u32) -> Extent
+    ensures { IsEntry entry result }
 {
-    let entry = table[k] as usize;
+    let entry = entry as usize;
     Extent {
         size: Bytes(entry % 8192),
         align: Bytes(entry / 8192 % 64),
     }
+}
+
+// Size and alignment of type k, by its entry.
+pub fn extent_in(table: &[u32; 64], k: usize) -> Extent
+    requires { k < 64 }
+    ensures { IsEntry (get_or table.now k 0) result }
+{
+    extent_by(table[k])
 }

@@ -1,6 +1,6 @@
 -- `form_refusal` meets its contract.
 -- Assumes nothing.
-use mathlib.Core.Path.{ap, ◌∙◌}
+use mathlib.Core.Path.{ap}
 use Rattle.form.specs.declared.Refusal.{Refusal}
 use Rattle.form.specs.Reading.{refusal_at}
 use Rattle.form.proofs.Judgment.{refused}
