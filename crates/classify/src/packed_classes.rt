@@ -143,14 +143,3 @@ impl From<[Class; 2]> for Packed {
         Packed(64 + u8::from(classes[0]) + 8 * u8::from(classes[1]))
     }
 }
-
-impl From<Packed> for [Class; 2] {
-    ghost use Rattle.std.specs.Prelude.{◌≡◌};
-    ghost use Rattle.classify.specs.Table.{pair_in};
-
-    ghost from_gives = { λ packed r. r ≡ pair_in packed.0 };
-
-    fn from(packed: Packed) -> [Class; 2] {
-        packed.classes()
-    }
-}
