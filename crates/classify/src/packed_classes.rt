@@ -33,7 +33,7 @@ impl Packed {
         self.0 / 8 % 8
     }
 
-    // The class with a number below 8.
+    // The class with a number below 8. By a match, which the compiler turns into nothing: a table would be read at each merge by the rules.
     #[tactic(auto, unfolding(crate::specs::Table::class_by))]
     fn class_by(number: u8) -> Class
         requires { number < 8 }
