@@ -33,9 +33,11 @@ fn put_laid(described: Described, text: &mut Text, layout: Layout)
     requires { (text.old.at + 4540 ≤ 8192) × Accepted described.bytes.now layout }
     ensures { Puts 4540 text.old text.new (laid_text described.entry.bytes.now layout) }
 {
+    let all = described.arguments();
+    let first = described.named();
     let k = description::byte_at(described.bytes, 9);
     let variadic = description::variadic_in(described.bytes);
-    line_writing::put_head(text, described.arguments(), described.named(), layout);
+    line_writing::put_head(text, all, first, layout);
     put_records(described, text, layout);
     line_writing::put_return(text, k, layout.returns);
     line_writing::put_walk(text, variadic, layout.named);
