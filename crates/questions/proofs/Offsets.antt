@@ -101,7 +101,7 @@ module _ (d : List ℕ) (t : ℕ) (list : List ℕ) where
   unfolding offsets_after
   list_filled e = ap (λ (n : ℕ). filled (OffsetAt d t) n list) (count-all d t (length list) e)
 
-  -- the four ways in which `fill_offsets` ends
+  -- the four ways in which `member_offsets` ends
   abbrev answer : Result (Unit {0}) Refusal
   answer = judgment (offsets_refusal d t (length list)) (refusal_for d (offsets_refusal d t (length list)))
 

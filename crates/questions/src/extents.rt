@@ -1,21 +1,11 @@
 // Size and alignment of a type, both or one (document 01, "A question about one type").
 ghost use Rattle.std.specs.Prelude.{◌≡◌};
-ghost use Rattle.questions.specs.Questions.{size_answer, align_answer, refusal_in, extent_answer};
+ghost use Rattle.questions.specs.Questions.{size_answer, align_answer, extent_answer};
 
 use crate::refusals;
 use form::Refusal;
 use types::Extent;
 use units::Bytes;
-
-// The refusal that an answer carries, for a caller that passes it on.
-pub fn refusal_in(answer: Result<Extent, Refusal>) -> Refusal
-    ensures { result ≡ refusal_in answer }
-{
-    match answer {
-        Ok(_) => form::refusal_of(0),
-        Err(refusal) => refusal,
-    }
-}
 
 // ---- both
 

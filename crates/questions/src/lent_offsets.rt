@@ -34,8 +34,8 @@ fn write_offsets(
     }
 }
 
-// The same of type t, or its refusal. A basic type and an array have no members.
-fn fill_offsets(d: &[u8], t: u8, offsets: &mut [usize]) -> Result<(), Refusal>
+// The offsets of type t's members into the list, or its refusal; entries past them stay. A basic type and an array have no members.
+pub fn member_offsets(d: &[u8], t: u8, offsets: &mut [usize]) -> Result<(), Refusal>
     ensures { (result ≡ judgment (offsets_refusal d.now t (length offsets.old)) (refusal_for d.now (offsets_refusal d.now t (length offsets.old))))
         × (offsets.new ≡ offsets_after d.now t offsets.old) }
 {
@@ -55,12 +55,4 @@ fn fill_offsets(d: &[u8], t: u8, offsets: &mut [usize]) -> Result<(), Refusal>
     }
     write_offsets(d, k, union, first, count, &table, offsets);
     Ok(())
-}
-
-// The offsets of type t's members into the list; entries past them stay. As C gets it: number 0 where none refuses.
-pub fn member_offsets(d: &[u8], t: u8, offsets: &mut [usize]) -> Refusal
-    ensures { (result ≡ refusal_for d.now (offsets_refusal d.now t (length offsets.old)))
-        × (offsets.new ≡ offsets_after d.now t offsets.old) }
-{
-    form::refusal_in(fill_offsets(d, t, offsets))
 }

@@ -9,7 +9,7 @@ use borrow.Author.Tests.{ne_eqb, lt-ltb, le-ltb, eqb-true}
 use Rattle.std.specs.Prelude.{Ok, Err, Some, None}
 use Rattle.description.specs.Description.{types_in, model_in}
 use Rattle.form.specs.Order.{Rule, rule, first, Without, form_order, form_refusal}
-use Rattle.form.specs.Reading.{refusal_at, refusal_by, refusal_of, judgment, form_refused, refusal_in}
+use Rattle.form.specs.Reading.{refusal_at, refusal_by, refusal_of, judgment, form_refused}
 use Rattle.form.specs.Search.{first_within}
 use Rattle.form.specs.declared.Refusal.{Refusal}
 use Rattle.form.proofs.Judgment.{passed, refused}
@@ -19,34 +19,16 @@ use Rattle.form.proofs.Named.{names-none}
 use Rattle.form.proofs.Form.{six-whole, six-known}
 use Rattle.types.specs.Large.{large, first_large, too_large, types_order, types_refusal}
 use Rattle.types.proofs.Large.{types-form, types-seven, types-right}
-use Rattle.types.specs.Wrong.{refusal_for, Judged}
+use Rattle.types.specs.Wrong.{refusal_for}
 use native.Mathlib.Omega.{arith}
 
 without-seven : (d : List ℕ) → Without 7 (form_order d)
 without-seven d = ((λ z. omega arith), ((λ z. omega arith), ((λ z. omega arith), ((λ z. omega arith), ((λ z. omega arith), ((λ z. omega arith), tt))))))
 
--- the answer of any order that begins with 1 to 7 was judged in order
-pub judged : (d : List ℕ) (later : List Rule) (n : ℕ) → Without 6 later → n ≡ first (types_order d ++ later) → Judged d n
-unfolding form_refusal
-judged d later n other e =
-    record {
-      whole = λ six. six-whole d (rule 7 (too_large (model_in d) d) ∷ later) ((λ z. omega arith), other) (sym e ∙ six);
-      known = λ six. six-known d (rule 7 (too_large (model_in d) d) ∷ later) ((λ z. omega arith), other) (sym e ∙ six);
-      formed = λ seven. none-till (form_order d) (rule 7 (too_large (model_in d) d) ∷ later) 7 (without-seven d) (sym e ∙ seven);
-    }
-
 -- a number other than 6 and 7 names no type
 pub no_type : (d : List ℕ) (n : ℕ) → eqb n 6 ≡ false → eqb n 7 ≡ false → refusal_for d n ≡ refusal_of n
 unfolding refusal_for
 no_type d n six seven = names-none _ _ n six seven
-
--- a number judged, and the refusal that its answer carries
-pub refusal_in-judgment : (d : List ℕ) (n : ℕ) → refusal_in (judgment n (refusal_for d n)) ≡ refusal_for d n
-refusal_in-judgment d n = by (eqb n 0) refl
-  where
-    by : (b : Bool) → eqb n 0 ≡ b → refusal_in (cond b (Ok (tt {0})) (Err (refusal_for d n))) ≡ refusal_for d n
-    by true q = rw (eqb-true n 0 q) (sym (no_type d 0 refl refl))
-    by false q = refl
 
 -- what is answered for a description, by what its form and its first large type are
 module _ (d : List ℕ) where
