@@ -12,14 +12,42 @@ PROOFS = 'crates/tightness/proofs'
 class Function(typing.NamedTuple):
     crate: str
     module: str
-    name: str
+    name: str  # of a method `Type::method`, of a method of a trait `TypeTraitArguments::method`, as the prover names the impl
     parameters: list  # the name and the type of each
     result: str  # its type, or '' for none
     clauses: dict  # `requires` and `ensures` -> the texts of these clauses, in their order
+    home: str  # the way to it in the crate's contracts and proofs
+    parameter: str = ''  # what it is generic in: one `number`, or one type that is `Copy`
 
     @property
     def pair(self):
         return self.crate, self.name
+
+    @property
+    def alias(self):
+        """What a file of theorems calls the module of its contract."""
+        return self.name.replace('::', '_')
+
+    @property
+    def given(self):
+        """What its contract is given in a theorem, for what it is generic in."""
+        return GIVEN[self.parameter][0]
+
+    @property
+    def ended(self):
+        return '(%s.ended %s)' % (self.alias, self.given) if self.given else self.alias + '.ended'
+
+    @property
+    def clauses_of(self):
+        return 'λ M 𝓤 𝓛. %s.clauses %s𝓛' % (self.alias, self.given + ' ' * bool(self.given))
+
+
+# of what a function is generic in: what a theorem calls it, how it introduces it, and which of the forms of `Meets` the function has
+GIVEN = {
+    '': ('', '', 'Meets'),
+    'number': ('N', '(N : RattleType) → ', 'MeetsNumber'),
+    'Copy': ('A g d', '(A : RattleType) (g : Ghosts A.Denot) (d : Dict) → ', 'MeetsCopy'),
+}
 
 
 def read(path):
@@ -97,24 +125,119 @@ def library_crates():
 
 
 def public_functions(crates=None):
-    """(crate, function) -> Function, for each `pub fn` of a library's root and each that the root passes on by `pub use`."""
+    """(crate, function) -> Function, for each `pub fn` of a library's root and each that the root passes on by `pub use`; for each `pub fn` of an
+    impl of a public type; and for each function of an impl of a trait that says what it gives."""
     found = {}
     for crate in library_crates() if crates is None else crates:
-        seen = {'lib': None}  # module -> what the root passes on of it; of the root itself, all that is `pub`
+        passed = {'lib': None}  # module -> what the root passes on of it; of the root itself, all that is `pub`
         for module, items in re.findall(r'^pub use (\w+)::(\w+|\{[^}]*\});', read(source(crate, 'lib')), re.M):
-            seen.setdefault(module, set()).update(re.findall(r'\w+', items))
-        for module, items in seen.items():
+            passed.setdefault(module, set()).update(re.findall(r'\w+', items))
+        for module in modules(crate):
             text = code(crate, module)
-            for match in re.finditer(r'\bpub\s+(?:extern\s+"C"\s+)?fn\s+(\w+)\s*(?:<[^>]*>)?\s*\(', text):
-                if items is None or match.group(1) in items:
-                    found[crate, match.group(1)] = function(crate, module, match, text)
+            blocks = impls(text)
+            for match in re.finditer(r'\bpub\s+(?:extern\s+"C"\s+)?fn\s+(\w+)\s*(?:<([^>]*)>)?\s*\(', text):
+                inside = [block for block in blocks if block.start <= match.start() < block.end]
+                if not inside and module in passed and (passed[module] is None or match.group(1) in passed[module]):
+                    made = function(crate, module, match.group(1), match.group(1), match.end(), text)
+                    found[made.pair] = made._replace(parameter=generic_in(match.group(2) or ''))
+            for block in blocks:
+                for made in methods(crate, module, block, text, passed):
+                    found[made.pair] = made
     return found
 
 
-def function(crate, module, match, text):
-    """The function whose head matched, up to its parameters."""
-    end = closing(text, match.end(), '()')
-    return Function(crate, module, match.group(1), typed(text[match.end() : end - 1]), *signature(text, end))
+def generic_in(text):
+    """What a function with these parameters in angle brackets is generic in; lifetimes are none."""
+    parameters = [part for part in apart(text) if not part.startswith("'")]
+    kinds = ['number' if re.fullmatch(r'const \w+: usize', part) else part.partition(': ')[2] for part in parameters]
+    return ' '.join(kinds)
+
+
+def modules(crate):
+    """The modules of a crate, the root first; those of a program are none of a library."""
+    names = sorted(name[: -len('.rt')] for name in os.listdir(os.path.join(ROOT, 'crates', crate, 'src')) if name.endswith('.rt'))
+    return sorted(names, key=lambda name: name != 'lib')
+
+
+class Impl(typing.NamedTuple):
+    trait: str  # '' where it is an impl of a type alone
+    kind: str  # the type
+    start: int
+    end: int
+
+
+def impls(text):
+    found = []
+    for match in re.finditer(r'^impl\b\s*(?:<(?:[^<>]|<[^<>]*>)*>)?\s*([^{]*?)\s*\{', text, re.M):
+        trait, colon, kind = match.group(1).rpartition(' for ')
+        found.append(Impl(trait.strip(), kind.strip(), match.start(), closing(text, match.end(), '{}')))
+    return found
+
+
+def spelled(kind):
+    """How the prover spells a type, or a trait with its arguments, in the name of an impl: `From<layout::Placement>` is `FromLayoutPlacement`."""
+    kind = kind.strip()
+    if kind.startswith('('):
+        parts = apart(kind[1:-1])
+        return 'Tuple%d%s' % (len(parts), ''.join(map(spelled, parts)))
+    array = re.fullmatch(r'\[(.*); (\w+)\]', kind)
+    if array:
+        return 'Array%s%s' % (spelled(array.group(1)), spelled(array.group(2)))
+    path, _, arguments = re.sub(r"<(?:'\w+(?:, )?)+>", '', kind).partition('<')
+    words = ''.join(word[:1].upper() + word[1:] for word in re.findall(r'\w+', re.sub(r"&|'\w+", '', path)))
+    return words + ''.join(map(spelled, apart(arguments.removesuffix('>')))) if arguments else words
+
+
+def methods(crate, module, block, text, passed):
+    """The public functions of an impl."""
+    own = block.kind.partition('<')[0]
+    heads = re.finditer(r'\b(pub\s+)?fn\s+(\w+)\s*(?:<[^>]*>)?\s*\(', text[block.start : block.end])
+    for match in heads:
+        public, name = match.groups()
+        if block.trait:
+            way = spelled(block.kind) + spelled(block.trait)
+            made = function(crate, module, way + '::' + name, joined(module, way, name), block.start + match.end(), text, block.kind)
+            clauses = made.clauses or members(name, made, text[block.start : block.end])
+            if 'ensures' in clauses:
+                yield made._replace(clauses=clauses)
+        elif public:
+            home = declared(crate, module, own)
+            if home and (passed.get(home[1], ()) is None or own in passed.get(home[1], ())):
+                yield function(crate, module, own + '::' + name, joined(home[1], own, name), block.start + match.end(), text, block.kind)
+
+
+def joined(module, *names):
+    return '.'.join(([] if module == 'lib' else [module]) + list(names))
+
+
+def members(name, made, text):
+    """The clauses of a method of a trait: what the impl says by the ghost members `can_NAME` and `NAME_gives`."""
+    clauses = {}
+    for kind, member in (('requires', 'can_' + name), ('ensures', name + '_gives')):
+        match = re.search(r'\bghost %s = \{\s*λ ([^.]*)\.((?:[^{}]|\{[^{}]*\})*)\};' % member, text)
+        if match:
+            names = [parameter for parameter, _ in made.parameters] + ['result'] * (kind == 'ensures')
+            words = dict(zip(match.group(1).split(), names))
+            clauses[kind] = [re.sub(r'(?<![\w.])[^\W\d]\w*', lambda word: words.get(word.group(), word.group()), match.group(2))]
+    return clauses
+
+
+def function(crate, module, name, home, start, text, own=None):
+    """The function of this name whose parameters begin at `start`; `own` is the type of its impl."""
+    end = closing(text, start, '()')
+    parts = apart(text[start : end - 1])
+    parameters = []
+    for part in parts:
+        itself = re.fullmatch(r"(&(?:'\w+ )?(?:mut )?)?(?:mut )?self", ' '.join(part.split()))
+        pattern = re.fullmatch(r'\(.*?\)\s*:\s*(.*)', part, re.S)
+        if itself:
+            parameters.append(('self', (itself.group(1) or '') + own))
+        elif pattern:
+            parameters.append(('_', ' '.join(pattern.group(1).split())))
+        else:
+            parameters += typed(part)
+    result, clauses = signature(text, end)
+    return Function(crate, module, name, parameters, own if result == 'Self' else result, clauses, home)
 
 
 def typed(text):
@@ -184,10 +307,10 @@ def section(title):
 
 
 def named(cell, functions):
-    """The functions that a table's cell names: `crate::function(..)`, and then others; without a crate it is the one before, or the only one that has it."""
+    """The functions that a table's cell names: `crate::function(..)` or `crate::Type::method(..)`, and then others; without a crate it is the one before, or the only one that has it."""
     crate = None
     for text in re.findall(r'`([^`]*)`', cell):
-        match = re.match(r'(?:(\w+)::)?(\w+)', text)
+        match = re.match(r'(?:([a-z]\w*)::)?((?:[A-Z]\w*::)?\w+)', text)
         homes = [home for home, name in functions if name == match.group(2)]
         crate = match.group(1) or (crate if crate in homes or not homes else homes[0])
         yield crate, match.group(2)
@@ -226,24 +349,26 @@ def exceptions(functions):
 
 
 def label(kind, pair):
-    return '%s_%s_%s' % (kind, *pair)
+    return '%s_%s_%s' % (kind, pair[0], pair[1].replace('::', '_'))
 
 
 def symbol(pair):
     """What a file of theorems calls the module that names the function and its code."""
-    return pair[1] + '_symbol'
+    return pair[1].replace('::', '_') + '_symbol'
 
 
-def statement_of(kind, pair, result):
+def statement_of(kind, function):
     """What the theorem must say."""
-    about = '%s.ended (λ M 𝓤 𝓛. %s.clauses 𝓛)' % (pair[1], pair[1])
-    if kind == 'total':
-        return 'Total ' + about
+    _, introduced, meets = GIVEN[function.parameter]
     if kind == 'meets':
-        return 'Meets %s %s.name %s.code' % (about, symbol(pair), symbol(pair))
-    if result.startswith('&'):
-        return 'TightPart ' + about.replace('.ended ', '.ended (λ c r. r.now) ')
-    return 'Tight ' + about
+        code = '%s.name %s.code' % ((symbol(function.pair),) * 2)
+        return '%s %s.ended (%s) %s' % (meets, function.alias, function.clauses_of.replace('λ', 'λ %s' % function.given).replace('λ  ', 'λ '), code)
+    about = '%s (%s)' % (function.ended, function.clauses_of)
+    if kind == 'total':
+        return introduced + 'Total ' + about
+    if function.result.startswith('&'):
+        return introduced + 'TightPart ' + about.replace('.ended ', '.ended (λ c r. r.now) ', 1)
+    return introduced + 'Tight ' + about
 
 
 def theorems(path):

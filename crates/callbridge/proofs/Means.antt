@@ -14,7 +14,7 @@ use Rattle.station.specs.Outcome.{leaves}
 use Rattle.flat.specs.Records.{layout_of}
 use Rattle.flat.specs.Meanings.{placement_meant, layout_meant}
 use Rattle.flat.proofs.Kept.{placements_mean, layout-means}
-use Rattle.c_calls.specs.LayoutCalls.{flat_at}
+use Rattle.callbridge.specs.LayoutCalls.{flat_at}
 use Rattle.callbridge.specs.Interface.{ListMeans, SummaryMeans}
 use Rattle.callbridge.proofs.Told.{layout-told}
 

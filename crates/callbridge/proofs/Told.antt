@@ -1,5 +1,5 @@
 -- What each call of the C interface answers and leaves, by the paper's numbers. Assumes nothing.
-use Rattle.std.specs.Prelude.{None, Ok, Some}
+use Rattle.std.specs.Prelude.{Err, None, Ok, Result, Some}
 use mathlib.Core.Path.{◌≡◌, refl, sym, ap, ap₂, subst, ◌∙◌}
 use mathlib.Core.Bool.{Bool, true, false, cond}
 use mathlib.Core.List.{List}
@@ -10,7 +10,7 @@ use lib.Dec.{ltb, eqb}
 use lib.ListN.{length}
 use Rattle.description.specs.Description.{arguments_in, kind_at, a_at, count_at, member_start}
 use Rattle.form.specs.declared.Refusal.{Refusal}
-use Rattle.form.specs.Reading.{refusal_of}
+use Rattle.form.specs.Reading.{refusal_of, refusal_in}
 use Rattle.types.specs.Wrong.{refusal_for}
 use Rattle.types.proofs.Wrong.{no_type}
 use Rattle.questions.specs.Questions.{question_refusal, extent_answer}
@@ -33,6 +33,7 @@ use Rattle.station.specs.Attachment.{described, attach_refusal, attach_station, 
 use Rattle.station.proofs.Kcb.{kcb-refusal}
 use Rattle.walk.specs.Orders.{offsets_of, open_refusal, step_refusal, show_refusal}
 use Rattle.finishing.specs.Rest.{finish_refusal, finish_walk}
+use Rattle.walk.specs.declared.showing.Shown.TheVariants.{Registers}
 use Rattle.walk.specs.Steps.{opened_if, open_walk, open_answer, step_walk}
 use Rattle.places.specs.Shapes.{Shape}
 use Rattle.station.specs.Paper.{shape_at}
@@ -42,34 +43,34 @@ use Rattle.flat.specs.declared.Part.{Part}
 use Rattle.flat.specs.declared.Station.{Station}
 use Rattle.flat.specs.Parts.{nowhere}
 use Rattle.flat.specs.Stations.{station_meant, flat_station, walk_meant, flat_walk}
-use Rattle.c_calls.specs.Outcome.{Outcome, gives, refuses, refusal_in, left_in}
-use Rattle.c_calls.specs.TypeCalls.{extent_given, classes_given, run_part, run_refusal}
-use Rattle.c_calls.specs.LayoutCalls.{layout_given, list_given}
-use Rattle.c_calls.specs.StackCalls.{need_given}
-use Rattle.c_calls.specs.TidyingCalls.{tidied_given}
-use Rattle.c_calls.specs.MovingCalls.{placed_given, gathered_given}
-use Rattle.c_calls.specs.ReturningCalls.{put_given, taken_given}
-use Rattle.c_calls.specs.StationCalls.{attach_given, detach_given, freed_station, change_given}
-use Rattle.c_calls.proofs.Given.{freed-means}
-use Rattle.c_calls.specs.WalkCalls.{open_given, step_given, finish_given, shown_part, shown_refusal}
+use Rattle.callbridge.specs.Outcome.{left_in}
+use Rattle.callbridge.specs.TypeCalls.{extent_given, classes_given, run_part, run_refusal}
+use Rattle.callbridge.specs.LayoutCalls.{layout_given, list_given}
+use Rattle.callbridge.specs.StackCalls.{need_given}
+use Rattle.callbridge.specs.TidyingCalls.{tidied_given}
+use Rattle.callbridge.specs.MovingCalls.{placed_given, gathered_given}
+use Rattle.callbridge.specs.ReturningCalls.{put_given, taken_given}
+use Rattle.callbridge.specs.StationCalls.{attach_given, detach_given, freed_station, change_given}
+use Rattle.callbridge.proofs.Given.{freed-means}
+use Rattle.callbridge.specs.WalkCalls.{open_given, step_given, finish_given, shown_part, shown_refusal}
 use Rattle.callbridge.specs.Interface.{Tells, TellsPart, ExtentTold, ClassesTold, run_of, RunTold, LayoutTold, ListTold, PlacedTold, GatheredTold, PutTold, TakenTold, AttachTold, DetachTold, ChangeTold, OpenTold, StepTold, FinishTold, ShownTold, NeedTold, TidiedTold}
 
 -- an outcome that is told by a number
-abbrev by_number : {A : Type 0} → List ℕ → ℕ → A → Outcome A
-by_number d zero new = gives new
-by_number d (suc n) new = refuses (refusal_for d (suc n))
+abbrev by_number : {A : Type 0} → List ℕ → ℕ → A → Result A Refusal
+by_number d zero new = Ok new
+by_number d (suc n) new = Err (refusal_for d (suc n))
 
 tells : {A : Type 0} (d : List ℕ) (n : ℕ) (new : A) → Tells (by_number d n new) d n new
 tells d zero new = record { refusal = sym (no_type d 0 refl refl); left = λ old. refl }
 tells d (suc n) new = record { refusal = refl; left = λ old. refl }
 
 -- the same outcome, as the answers are defined
-chosen : {A : Type 0} (d : List ℕ) (n : ℕ) (new : A) (b : Bool) → eqb n 0 ≡ b → cond b (gives new) (refuses (refusal_for d n)) ≡ by_number d n new
+chosen : {A : Type 0} (d : List ℕ) (n : ℕ) (new : A) (b : Bool) → eqb n 0 ≡ b → cond b (Ok new) (Err (refusal_for d n)) ≡ by_number d n new
 chosen d n new true e = rw (eqb-true n 0 e)
 chosen d zero new false e = absurd (eqb-false zero 0 e refl)
 chosen d (suc n) new false e = refl
 
-pub told : {A : Type 0} (o : Outcome A) (d : List ℕ) (n : ℕ) (new : A) → o ≡ cond (eqb n 0) (gives new) (refuses (refusal_for d n)) → Tells o d n new
+pub told : {A : Type 0} (o : Result A Refusal) (d : List ℕ) (n : ℕ) (new : A) → o ≡ cond (eqb n 0) (Ok new) (Err (refusal_for d n)) → Tells o d n new
 told o d n new e = rw (e ∙ chosen d n new (eqb n 0) refl) (tells d n new)
 
 through : {A B : Type 0} (f : A → B) (b : Bool) (x y : A) → f (cond b x y) ≡ cond b (f x) (f y)
@@ -145,7 +146,7 @@ unfolding open_answer opened_if
 open_told s seat =
     told _ (described s seat) (open_refusal kcb s seat) _
     (through open_given (eqb (open_refusal kcb s seat) 0) _ _
-    ∙ ap (λ (r : Refusal). cond (eqb (open_refusal kcb s seat) 0) (gives (flat_walk (open_walk kcb s seat))) (refuses r)) (kcb-refusal (described s seat) (open_refusal kcb s seat)))
+    ∙ ap (λ (r : Refusal). cond (eqb (open_refusal kcb s seat) 0) (Ok (flat_walk (open_walk kcb s seat))) (Err r)) (kcb-refusal (described s seat) (open_refusal kcb s seat)))
 
 -- what is shown is a part, or none
 shown-none : (o : Source) (s : Shape) → shown_refusal (part_in o s) ≡ refusal_of 0
@@ -180,14 +181,14 @@ pub attach-told : AttachTold
 unfolding attach_given
 attach-told s seat d =
     let n = attach_refusal kcb (station_meant s) seat d in
-    told _ d n _ (ap (λ (r : Refusal). cond (eqb n 0) (gives (flat_station (attach_station kcb (station_meant s) seat d))) (refuses r)) (kcb-refusal d n))
+    told _ d n _ (ap (λ (r : Refusal). cond (eqb n 0) (Ok (flat_station (attach_station kcb (station_meant s) seat d))) (Err r)) (kcb-refusal d n))
 
 pub detach-told : DetachTold
 unfolding detach_given
 detach-told s seat =
     let n = detach_refusal (station_meant s) seat in (
       through refusal_in (eqb n 0) _ _ ∙ zero_of n,
-      λ old. through (λ (o : Outcome Station). left_in o old) (eqb n 0) _ _ ∙ by_zero n _ old,
+      λ old. through (λ (o : Result Station Refusal). left_in o old) (eqb n 0) _ _ ∙ by_zero n _ old,
     )
   where
     zero_of : (n : ℕ) → cond (eqb n 0) (refusal_of 0) (refusal_of n) ≡ refusal_of n
@@ -209,11 +210,11 @@ unfolding step_given
 step-told s seat w a =
     let d = described (station_meant s) seat in
     let n = step_refusal kcb (station_meant s) seat (walk_meant w) a in
-    told _ d n _ (ap (λ (r : Refusal). cond (eqb n 0) (gives (flat_walk (step_walk kcb (station_meant s) seat (walk_meant w) a))) (refuses r)) (kcb-refusal d n))
+    told _ d n _ (ap (λ (r : Refusal). cond (eqb n 0) (Ok (flat_walk (step_walk kcb (station_meant s) seat (walk_meant w) a))) (Err r)) (kcb-refusal d n))
 
 pub finish-told : FinishTold
 unfolding finish_given
 finish-told s seat w a =
     let d = described (station_meant s) seat in
     let n = finish_refusal kcb (station_meant s) seat (walk_meant w) a in
-    told _ d n _ (ap (λ (r : Refusal). cond (eqb n 0) (gives (flat_walk (finish_walk kcb (station_meant s) seat (walk_meant w) a))) (refuses r)) (kcb-refusal d n))
+    told _ d n _ (ap (λ (r : Refusal). cond (eqb n 0) (Ok (flat_walk (finish_walk kcb (station_meant s) seat (walk_meant w) a))) (Err r)) (kcb-refusal d n))

@@ -1,9 +1,9 @@
 -- What each call of the C interface (include/callbridge.h) answers and leaves in the lent record, by the paper's numbers; and that a
 -- list of flat records means the layout's placements. Assumes nothing: these are definitions.
-use Rattle.std.specs.Prelude.{◌≡◌, cond, List, ◌++◌, ℕ, ◌+◌, ◌<◌, ltb, length, get_or}
+use Rattle.std.specs.Prelude.{◌≡◌, cond, List, Result, ◌++◌, ℕ, ◌+◌, ◌<◌, ltb, length, get_or}
 use Rattle.description.specs.Description.{arguments_in, kind_at, a_at, count_at, member_start, model_in}
 use Rattle.form.specs.declared.Refusal.{Refusal}
-use Rattle.form.specs.Reading.{refusal_of}
+use Rattle.form.specs.Reading.{refusal_of, refusal_in}
 use Rattle.types.specs.Wrong.{refusal_for}
 use Rattle.types.specs.Decode.{ty_at}
 use Rattle.uses.specs.Uses.{uses_refusal}
@@ -45,18 +45,18 @@ use Rattle.flat.specs.Parts.{nowhere, of_description}
 use Rattle.flat.specs.Stations.{station_meant, flat_station, walk_meant, flat_walk}
 use Rattle.flat.specs.Meanings.{placement_meant, layout_meant, summary_of}
 use Rattle.flat.specs.StackNeeds.{flat_need}
-use Rattle.c_calls.specs.Outcome.{Outcome, refusal_in, left_in}
-use Rattle.c_calls.specs.TypeCalls.{extent_given, classes_given, run_part, run_refusal}
-use Rattle.c_calls.specs.LayoutCalls.{layout_given, flat_at, list_given}
-use Rattle.c_calls.specs.StackCalls.{need_given}
-use Rattle.c_calls.specs.TidyingCalls.{tidied_given}
-use Rattle.c_calls.specs.MovingCalls.{placed_given, gathered_given}
-use Rattle.c_calls.specs.ReturningCalls.{put_given, taken_given}
-use Rattle.c_calls.specs.StationCalls.{attach_given, detach_given, freed_station, change_given}
-use Rattle.c_calls.specs.WalkCalls.{open_given, step_given, finish_given, shown_part, shown_refusal}
+use Rattle.callbridge.specs.Outcome.{left_in}
+use Rattle.callbridge.specs.TypeCalls.{extent_given, classes_given, run_part, run_refusal}
+use Rattle.callbridge.specs.LayoutCalls.{layout_given, flat_at, list_given}
+use Rattle.callbridge.specs.StackCalls.{need_given}
+use Rattle.callbridge.specs.TidyingCalls.{tidied_given}
+use Rattle.callbridge.specs.MovingCalls.{placed_given, gathered_given}
+use Rattle.callbridge.specs.ReturningCalls.{put_given, taken_given}
+use Rattle.callbridge.specs.StationCalls.{attach_given, detach_given, freed_station, change_given}
+use Rattle.callbridge.specs.WalkCalls.{open_given, step_given, finish_given, shown_part, shown_refusal}
 
 -- a call about the description d answers the number n, with the type that it names; it leaves the new record where n is 0, and where it is not the record that was lent
-pub record Tells {A : Type 0} (o : Outcome A) (d : List ℕ) (n : ℕ) (new : A) : Type 0 where
+pub record Tells {A : Type 0} (o : Result A Refusal) (d : List ℕ) (n : ℕ) (new : A) : Type 0 where
   pub refusal : refusal_in o ≡ refusal_for d n
   pub left : (old : A) → left_in o old ≡ leaves n new old
 

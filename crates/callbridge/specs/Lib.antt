@@ -1,1 +1,10 @@
+pub mod Outcome
+pub mod TypeCalls
+pub mod LayoutCalls
+pub mod StackCalls
+pub mod TidyingCalls
+pub mod MovingCalls
+pub mod ReturningCalls
+pub mod StationCalls
+pub mod WalkCalls
 pub mod Interface

@@ -4,6 +4,7 @@
 
 ghost use Rattle.std.specs.Prelude.{◌≡◌, [], ◌++◌, ◌≤◌, length, drop};
 ghost use Rattle.description.specs.Description.{arguments_in};
+ghost use Rattle.form.specs.Reading.{refusal_in};
 ghost use Rattle.types.specs.Wrong.{refusal_for};
 ghost use Rattle.questions.specs.Questions.{extent_answer};
 ghost use Rattle.questions.specs.Runs.{classes_answer, run_answer};
@@ -24,15 +25,15 @@ ghost use Rattle.finishing.specs.Rest.{asking_rest, finish_out};
 ghost use Rattle.walk.specs.Show.{shown_answer};
 ghost use Rattle.listing.specs.Listing.{listing};
 ghost use Rattle.flat.specs.Stations.{station_meant, flat_station, walk_meant};
-ghost use Rattle.c_calls.specs.Outcome.{refusal_in, left_in};
-ghost use Rattle.c_calls.specs.TypeCalls.{extent_given, classes_given, run_part, run_refusal};
-ghost use Rattle.c_calls.specs.LayoutCalls.{layout_given, list_given, flat_at};
-ghost use Rattle.c_calls.specs.StackCalls.{need_given};
-ghost use Rattle.c_calls.specs.TidyingCalls.{tidied_given};
-ghost use Rattle.c_calls.specs.MovingCalls.{placed_given, gathered_given};
-ghost use Rattle.c_calls.specs.ReturningCalls.{put_given, taken_given};
-ghost use Rattle.c_calls.specs.StationCalls.{attach_given, detach_given, freed_station, change_given};
-ghost use Rattle.c_calls.specs.WalkCalls.{open_given, step_given, finish_given, shown_part, shown_refusal};
+ghost use Rattle.callbridge.specs.Outcome.{left_in};
+ghost use Rattle.callbridge.specs.TypeCalls.{extent_given, classes_given, run_part, run_refusal};
+ghost use Rattle.callbridge.specs.LayoutCalls.{layout_given, list_given, flat_at};
+ghost use Rattle.callbridge.specs.StackCalls.{need_given};
+ghost use Rattle.callbridge.specs.TidyingCalls.{tidied_given};
+ghost use Rattle.callbridge.specs.MovingCalls.{placed_given, gathered_given};
+ghost use Rattle.callbridge.specs.ReturningCalls.{put_given, taken_given};
+ghost use Rattle.callbridge.specs.StationCalls.{attach_given, detach_given, freed_station, change_given};
+ghost use Rattle.callbridge.specs.WalkCalls.{open_given, step_given, finish_given, shown_part, shown_refusal};
 
 use flat::{Classes, Gathered, Layout, Part, Placed, Placement, StackNeed, Station, Tidied, Walk};
 use form::Refusal;

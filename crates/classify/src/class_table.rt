@@ -30,7 +30,12 @@ fn finish(
     let size = extent.size.0;
     for at in (extent.align.0..8).step_by(extent.align.0) {
         if 8 < at + size && at + size <= 16 {
-            let known = Known { d, table, finished, types: k };
+            let known = Known {
+                d,
+                table,
+                finished,
+                types: k,
+            };
             finished[8 * k + at] = known.of_aggregate(k, different, Bytes(at)).0;
         }
     }
@@ -42,13 +47,23 @@ fn aggregate_word(d: &[u8], k: usize, table: &[u32; 64], finished: &mut [u8; 512
     ensures { (result.0 ≡ word_of (classes_of (model_in d.now) (ty_at d.now k))) × Right d.now finished.new }
 {
     let size = types::extent_in(table, k).size;
-    if units::over(size, Bytes(16)) {
-        let known = Known { d, table, finished, types: k };
+    if size > Bytes(16) {
+        let known = Known {
+            d,
+            table,
+            finished,
+            types: k,
+        };
         return wide_aggregates::wide_word(known, k, size);
     }
     let different = unions::different_members(d, k);
     finish(d, k, &different, table, finished);
-    let known = Known { d, table, finished, types: k };
+    let known = Known {
+        d,
+        table,
+        finished,
+        types: k,
+    };
     Word::from(known.of_aggregate(k, &different, Bytes(0)))
 }
 

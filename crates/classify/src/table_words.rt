@@ -23,13 +23,21 @@ impl Parts {
     fn one(first: Class) -> Parts
         ensures one { (result.first ≡ first) × (result.second ≡ Class.NoClass) × (result.gap.0 ≡ 0) }
     {
-        Parts { first, second: Class::NoClass, gap: Bytes(0) }
+        Parts {
+            first,
+            second: Class::NoClass,
+            gap: Bytes(0),
+        }
     }
 
     fn two(first: Class, second: Class, gap: usize) -> Parts
         ensures two { (result.first ≡ first) × (result.second ≡ second) × (result.gap.0 ≡ gap) }
     {
-        Parts { first, second, gap: Bytes(gap) }
+        Parts {
+            first,
+            second,
+            gap: Bytes(gap),
+        }
     }
 
     // Of each code below 16.
@@ -63,7 +71,7 @@ const WORDS: [u16; 17] = [
 fn put_class(at: Bytes, class: Class) -> [Class; 2]
     ensures { result ≡ one_class 2 at.0 class }
 {
-    let i = units::eightbyte_of(at).0;
+    let i = at.eightbyte().0;
     let mut classes = [Class::NoClass, Class::NoClass];
     if i < 2 {
         classes[i] = class;
@@ -78,7 +86,7 @@ pub fn basic_at(code: usize, at: Bytes) -> [Class; 2]
 {
     let parts = Parts::of(code);
     let first = put_class(at, parts.first);
-    classes::merge_both(first, put_class(units::plus(at, parts.gap), parts.second))
+    classes::merge_both(first, put_class(at + parts.gap, parts.second))
 }
 
 // What is asked for where a class sends the argument to the stack: one general register more than there are, so that it never fits.
@@ -155,7 +163,7 @@ impl Entry {
     ghost use Rattle.classify.specs.Table.{pair_in, wide_in, unpacked_of};
 
     // With a word in place of the one that is there.
-    pub fn with_word(self, word: Word) -> Entry
+    pub(crate) fn with_word(self, word: Word) -> Entry
         requires { word.0 < 8192 }
         ensures { result.0 ≡ self.0 % 524288 + 524288 * word.0 }
     {
@@ -164,7 +172,7 @@ impl Entry {
 
     // Its classes.
     #[tactic(auto, using(crate::proofs::Known::seven_unpacked))]
-    pub fn packed(self) -> Packed
+    pub(crate) fn packed(self) -> Packed
         ensures number { result.0 ≡ self.0 / 524288 % 128 }
         ensures classes { unpacked_of result.0 ≡ unpacked_of (self.0 / 524288) }
     {

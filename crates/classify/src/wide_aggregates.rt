@@ -50,7 +50,7 @@ pub fn wide_word(known: Known, k: usize, size: Bytes) -> Word
     requires { Sized (model_in known.d.now) known.d.now k × (kind_at known.d.now k ≡ 0 → ⊥) × (size.0 ≡ size_ty (model_in known.d.now) (ty_at known.d.now k)) × (16 < size.0) × (k ≤ known.types) }
     ensures { result.0 ≡ word_of (classes_of (model_in known.entry.d.now) (ty_at known.entry.d.now k)) }
 {
-    if size.0 == 32 && is_vector(known, k) {
+    if size == Bytes(32) && is_vector(known, k) {
         Word::VECTOR
     } else {
         Word::MEMORY

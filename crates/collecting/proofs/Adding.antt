@@ -1,6 +1,6 @@
 -- What adding a row cites. Assumes nothing.
 use mathlib.Core.Path.{◌≡◌, refl, sym, ap, ap₂, ◌∙◌}
-use mathlib.Core.Bool.{Bool, true, false, cond, ◌||◌, true≢false}
+use mathlib.Core.Bool.{Bool, true, false, ◌||◌, true≢false}
 use mathlib.Core.List.{List, [], ◌∷◌, ◌++◌, append_assoc}
 use mathlib.Core.Logic.{◌⊎◌, inl, inr}
 use Prim.Native.Nat.{ℕ, zero, suc, ◌+◌, ◌-◌, ◌≤◌, ◌<◌}
@@ -10,30 +10,20 @@ use native.Mathlib.Omega.{arith}
 use borrow.Author.Tests.{lt-ltb, le-ltb, ltb-false}
 use lib.Dec.{ltb}
 use lib.ListN.{length, get_or, take, drop, set, length-append, length-set, drop_of_length-le}
-use lib.Seq.{length-take-le, take-suc, take-suc-set, take-take, take-length, take-append_seam, drop-append_seam, get_or-set_same, get_or-set_other, get_or-take, drop-cons}
-use Rattle.collecting.specs.Rows.{Row, basic_row, array_row, group_row, run_of, same_row, find, members_in, beyond}
-use Rattle.collecting.specs.Bounded.{Kept, keep, find_if, add_if, raise}
+use lib.Seq.{length-take-le, take-take, take-append_seam, drop-append_seam, get_or-set_same, get_or-set_other, drop-cons}
+use Rattle.collecting.specs.Rows.{Row, basic_row, array_row, group_row, run_of, find, members_in, beyond}
+use Rattle.collecting.specs.Bounded.{Kept, keep, add_if, raise}
 use Rattle.collecting.proofs.Bounds.{members-append}
-use Rattle.collecting.specs.Arrays.{row_by, row_at, rows_at, Offered, Standing, Keeps, kept_by}
+use Rattle.collecting.specs.Arrays.{row_by, row_at, rows_at, Offered, Standing, kept_of}
+use Rattle.std.specs.Prelude.{None, Some}
 use Rattle.collecting.proofs.Rows.{part, part_length, rows-length}
 
 -- ---- a run is copied
 
-pub copy_on : (was run now : List ℕ) (m i : ℕ) → take (m + i) now ≡ take m was ++ take i run → m + length run ≤ length now → i < length run → take (m + (i + 1)) (set now (m + i) (get_or run i 0)) ≡ take m was ++ take (i + 1) run
-copy_on was run now m i e h l =
-    let z : m + (i + 1) ≡ suc (m + i) = omega arith in
-    let y : i + 1 ≡ suc i = omega arith in
-    rw (z, y) (take-suc-set now (m + i) (get_or run i 0) (omega (arith, h, l)) ∙ ap (λ (x : List ℕ). x ++ (get_or run i 0 ∷ [])) e ∙ append_assoc (take m was) (take i run) (get_or run i 0 ∷ []) ∙ ap (λ (x : List ℕ). take m was ++ x) (sym (take-suc run i 0 l)))
-
-pub copy_start : (was run : List ℕ) (m : ℕ) → take (m + 0) was ≡ take m was ++ take 0 run
-copy_start was run m = let z : m + 0 ≡ m = omega arith in rw z (sym (append-none (take m was)))
-  where
-    append-none : (x : List ℕ) → x ++ [] ≡ x
-    append-none [] = refl
-    append-none (a ∷ x) = ap (λ (y : List ℕ). a ∷ y) (append-none x)
-
-pub copy_end : (was run now : List ℕ) (m i : ℕ) → take (m + i) now ≡ take m was ++ take i run → i ≡ length run → take (m + length run) now ≡ take m was ++ run
-copy_end was run now m i e q = ap (λ (x : ℕ). take (m + x) now) (sym q) ∙ e ∙ ap (λ (x : List ℕ). take m was ++ x) (ap (λ (x : ℕ). take x run) q ∙ take-length run)
+pub copied-part : (xs ys z : List ℕ) (a : ℕ) → a ≤ length xs → take (a + length ys) (take a xs ++ (ys ++ z)) ≡ take a xs ++ ys
+copied-part xs ys z a h =
+    let e : a + length ys ≡ length (take a xs ++ ys) = omega (arith, length-append (take a xs) ys, length-take-le a xs h) in
+    ap (take (a + length ys)) (sym (append_assoc (take a xs) ys z)) ∙ ap (λ (n : ℕ). take n ((take a xs ++ ys) ++ z)) e ∙ take-append_seam (take a xs ++ ys) z
 
 -- ---- parts of members
 
@@ -214,33 +204,29 @@ module _ (K S C M : List ℕ) (n m kind second count : ℕ) (run : List ℕ) (s 
 
 -- ---- the number of a row
 
-module _ (K S C M : List ℕ) (n m : ℕ) (over : Bool) (kind second count : ℕ) (run : List ℕ) (s : Standing K S C M n m) (o : Offered kind count run) where
-  pub intern-over : over ≡ true → Keeps K S C M n m true 0 (keep over (rows_at K S C M n) (row_by kind second count run))
-  intern-over e = rw e (record { standing = s; rows = refl; says = refl; is = refl })
+module _ (K S C M : List ℕ) (n m : ℕ) (kind second count : ℕ) (run : List ℕ) (s : Standing K S C M n m) (o : Offered kind count run) where
+  pub intern-found : (k : ℕ) → k ≡ find (rows_at K S C M n) (row_by kind second count run) → k < n → kept_of (Some k) (rows_at K S C M n) ≡ keep false (rows_at K S C M n) (row_by kind second count run)
+  intern-found k found l = rw (← found, rows-length K S C M n, lt-ltb k n l) refl
 
-  module _ (e : over ≡ false) (k : ℕ) (found : k ≡ find (rows_at K S C M n) (row_by kind second count run)) where
-    pub intern-found : k < n → Keeps K S C M n m false k (keep over (rows_at K S C M n) (row_by kind second count run))
-    intern-found l =
-        rw (e, ← found, rows-length K S C M n, lt-ltb k n l) (record { standing = s; rows = refl; says = refl; is = refl })
+  beyond-is : beyond (rows_at K S C M n ++ row_by kind second count run ∷ []) ≡ (ltb 64 (n + 1) || ltb 255 (m + length run))
+  unfolding beyond members_in
+  beyond-is =
+      let a : length (rows_at K S C M n ++ row_by kind second count run ∷ []) ≡ n + 1 = length-append (rows_at K S C M n) (row_by kind second count run ∷ []) ∙ ap (λ (x : ℕ). x + 1) (rows-length K S C M n) in
+      let f = members-append (rows_at K S C M n) (row_by kind second count run ∷ []) in
+      let r = run-many kind second count run o.given.low o.none in
+      let b : members_in (rows_at K S C M n ++ row_by kind second count run ∷ []) ≡ m + length run = omega (arith, f, r, s.total) in
+      ap₂ (λ (x y : ℕ). ltb 64 x || ltb 255 y) a b
 
-    beyond-is : beyond (rows_at K S C M n ++ row_by kind second count run ∷ []) ≡ (ltb 64 (n + 1) || ltb 255 (m + length run))
-    unfolding beyond members_in
-    beyond-is =
-        let a : length (rows_at K S C M n ++ row_by kind second count run ∷ []) ≡ n + 1 = length-append (rows_at K S C M n) (row_by kind second count run ∷ []) ∙ ap (λ (x : ℕ). x + 1) (rows-length K S C M n) in
-        let f = members-append (rows_at K S C M n) (row_by kind second count run ∷ []) in
-        let r = run-many kind second count run o.given.low o.none in
-        let b : members_in (rows_at K S C M n ++ row_by kind second count run ∷ []) ≡ m + length run = omega (arith, f, r, s.total) in
-        ap₂ (λ (x y : ℕ). ltb 64 x || ltb 255 y) a b
+  module _ (found : n ≡ find (rows_at K S C M n) (row_by kind second count run)) where
+    keep-new : keep false (rows_at K S C M n) (row_by kind second count run) ≡ add_if (ltb 64 (n + 1) || ltb 255 (m + length run)) (rows_at K S C M n) (row_by kind second count run) n
+    keep-new = rw (← found, rows-length K S C M n, le-ltb n n (omega arith), beyond-is) refl
 
-    keep-new : n ≤ k → keep over (rows_at K S C M n) (row_by kind second count run) ≡ add_if (ltb 64 (n + 1) || ltb 255 (m + length run)) (rows_at K S C M n) (row_by kind second count run) k
-    keep-new l = rw (e, ← found, rows-length K S C M n, le-ltb k n l, beyond-is) refl
+    pub intern-crowded : (ltb 64 (n + 1) || ltb 255 (m + length run)) ≡ true → kept_of None (rows_at K S C M n) ≡ keep false (rows_at K S C M n) (row_by kind second count run)
+    intern-crowded h = rw (keep-new, h) refl
 
-    pub intern-crowded : n ≤ k → (ltb 64 (n + 1) || ltb 255 (m + length run)) ≡ true → Keeps K S C M n m true 0 (keep over (rows_at K S C M n) (row_by kind second count run))
-    intern-crowded l h = rw (keep-new l, h) (record { standing = s; rows = refl; says = refl; is = refl })
-
-    pub intern-added : n ≤ k → (ltb 64 (n + 1) || ltb 255 (m + length run)) ≡ false → (J R D L : List ℕ) → Standing J R D L (n + 1) (m + length run)
-        → rows_at J R D L (n + 1) ≡ rows_at K S C M n ++ row_by kind second count run ∷ [] → Keeps J R D L (n + 1) (m + length run) false k (keep over (rows_at K S C M n) (row_by kind second count run))
-    intern-added l h J R D L t q = rw (keep-new l, h) (record { standing = t; rows = q; says = refl; is = refl })
+    pub intern-added : (ltb 64 (n + 1) || ltb 255 (m + length run)) ≡ false → (new : List Row) → new ≡ rows_at K S C M n ++ row_by kind second count run ∷ []
+        → kept_of (Some n) new ≡ keep false (rows_at K S C M n) (row_by kind second count run)
+    intern-added h new q = rw (keep-new, h, q) refl
 
 -- what is not too much
 pub crowded_room : (n m x : ℕ) → (ltb 64 (n + 1) || ltb 255 (m + x)) ≡ false → (n < 64) × (m + x ≤ 255)
@@ -258,55 +244,34 @@ crowded_fits n m x h = (crowded_room n m x h).1
 
 -- ---- arrays
 
-find-bound : (rows : List Row) (r : Row) → find rows r ≤ length rows
-unfolding find
-find-bound [] r = omega arith
-find-bound (q ∷ rows) r = by (same_row q r) (find-bound rows r)
-  where
-    by : (b : Bool) → find rows r ≤ length rows → cond b 0 (suc (find rows r)) ≤ suc (length rows)
-    by true h = omega arith
-    by false h = omega arith
-
-keep_low : (over : Bool) (rows : List Row) (r : Row) → length rows ≤ 64 → (keep over rows r).number ≤ 64
-keep_low true rows r h = omega arith
-keep_low false rows r h = by (ltb (find rows r) (length rows)) (beyond (rows ++ r ∷ []))
-  where
-    add : (c : Bool) → (add_if c rows r (find rows r)).number ≤ 64
-    add true = omega arith
-    add false = let z = find-bound rows r in omega (arith, z, h)
-
-    by : (b c : Bool) → (find_if b rows r (find rows r)).number ≤ 64
-    by true c = let z = find-bound rows r in omega (arith, z, h)
-    by false c = add (beyond (rows ++ r ∷ []))
-
-pub keeps_low : (K S C M : List ℕ) (n m : ℕ) → Standing K S C M n m → (J R D L : List ℕ) (x y : ℕ) (over now : Bool) (k : ℕ) (r : Row) → Keeps J R D L x y now k (keep over (rows_at K S C M n) r) → k ≤ 64
-keeps_low K S C M n m s J R D L x y over now k r p = let z = keep_low over (rows_at K S C M n) r (omega (arith, s.few, rows-length K S C M n)) in omega (arith, z, p.is)
-
-pub array-offered : (count : ℕ) (run : List ℕ) → run ≡ [] → Offered 1 count run
-array-offered count run e = record { given = record { low = omega arith; many = λ h. absurd (omega arith) }; none = λ h. e; short = rw e (omega arith) }
+pub array-offered : (count : ℕ) → Offered 1 count []
+array-offered count = record { given = record { low = omega arith; many = λ h. absurd (omega arith) }; none = λ h. refl; short = omega arith }
 
 raise-step : (ns : List ℕ) (i : ℕ) (k : Kept) → i < length ns → raise (drop i ns) k ≡ keep (raise (drop (i + 1) ns) k).over (raise (drop (i + 1) ns) k).rows (array_row (raise (drop (i + 1) ns) k).number (get_or ns i 0))
 unfolding raise
 raise-step ns i k h = let z : i + 1 ≡ suc i = omega arith in rw z (ap (λ (l : List ℕ). raise l k) (drop-cons ns i 0 h))
 
-array-row : (a c : ℕ) (run : List ℕ) → row_by 1 a c run ≡ array_row a c
+array-row : (a c : ℕ) → row_by 1 a c [] ≡ array_row a c
 unfolding row_by
-array-row a c run = refl
+array-row a c = refl
 
 -- one array more
-pub raise-on : (sizes : List ℕ) (count i : ℕ) → count ≤ length sizes → 0 < i → i ≤ count → (k₀ : Kept) (K S C M : List ℕ) (n m : ℕ) (over : Bool) (k a : ℕ) → a ≡ k → Keeps K S C M n m over k (raise (drop i (take count sizes)) k₀)
-    → (run J R D L : List ℕ) (x y : ℕ) (now : Bool) (j : ℕ) → Keeps J R D L x y now j (keep over (rows_at K S C M n) (row_by 1 a (get_or sizes (i - 1) 0) run)) → Keeps J R D L x y now j (raise (drop (i - 1) (take count sizes)) k₀)
-raise-on sizes count i h p q k₀ K S C M n m over k a e s run J R D L x y now j t =
-    let l : i - 1 < length (take count sizes) = omega (arith, p, q, length-take-le count sizes h) in
-    let z : i - 1 + 1 ≡ i = omega (arith, p) in
-    let g : get_or (take count sizes) (i - 1) 0 ≡ get_or sizes (i - 1) 0 = get_or-take count sizes (i - 1) 0 (omega (arith, p, q)) in
-    let w : raise (drop (i - 1) (take count sizes)) k₀ ≡ keep over (rows_at K S C M n) (row_by 1 a (get_or sizes (i - 1) 0) run) = raise-step (take count sizes) (i - 1) k₀ l ∙ rw (z, g, ← s.says, ← s.rows, ← s.is, array-row a (get_or sizes (i - 1) 0) run, e) refl in
-    rw w t
+pub raise-on : (sizes : List ℕ) (i : ℕ) → 0 < i → i ≤ length sizes → (k₀ : Kept) (rows : List Row) (k : ℕ) → kept_of (Some k) rows ≡ raise (drop i sizes) k₀
+    → (now : Kept) → now ≡ keep false rows (row_by 1 k (get_or sizes (i - 1) 0) []) → now ≡ raise (drop (i - 1) sizes) k₀
+raise-on sizes i p q k₀ rows k s now t =
+    let z : i - 1 + 1 ≡ i = omega arith in
+    t ∙ ap (keep false rows) (array-row k (get_or sizes (i - 1) 0)) ∙ sym (raise-step sizes (i - 1) k₀ (omega arith) ∙ rw (z, ← s) refl)
 
-pub raise-start : (K S C M : List ℕ) (n m : ℕ) (over : Bool) (k : ℕ) (sizes : List ℕ) (count : ℕ) → Standing K S C M n m → count ≤ length sizes → Keeps K S C M n m over k (raise (drop count (take count sizes)) (kept_by K S C M n over k))
+pub raise-start : (rows : List Row) (k : ℕ) (sizes : List ℕ) → kept_of (Some k) rows ≡ raise (drop (length sizes) sizes) (kept_of (Some k) rows)
 unfolding raise
-raise-start K S C M n m over k sizes count s h =
-    rw (drop_of_length-le (take count sizes) {i = count} (omega (arith, length-take-le count sizes h))) (record { standing = s; rows = refl; says = refl; is = refl })
+raise-start rows k sizes = rw (drop_of_length-le sizes {i = length sizes} (omega arith)) refl
 
-pub raise-end : (K S C M : List ℕ) (n m : ℕ) (over : Bool) (k : ℕ) (sizes : List ℕ) (count i : ℕ) (k₀ : Kept) → i ≡ 0 → Keeps K S C M n m over k (raise (drop i (take count sizes)) k₀) → Keeps K S C M n m over k (raise (take count sizes) k₀)
-raise-end K S C M n m over k sizes count i k₀ e s = rw e at s
+pub raise-end : (sizes : List ℕ) (i : ℕ) (k₀ now : Kept) → i ≡ 0 → now ≡ raise (drop i sizes) k₀ → now ≡ raise sizes k₀
+raise-end sizes i k₀ now e s = rw e at s
+
+-- once there is no room the rest adds nothing
+pub raise-stays : (sizes : List ℕ) (i : ℕ) (k₀ : Kept) (rows : List Row) → kept_of None rows ≡ raise (drop i sizes) k₀ → kept_of None rows ≡ raise sizes k₀
+unfolding raise
+raise-stays sizes zero k₀ rows h = h
+raise-stays [] (suc i) k₀ rows h = h
+raise-stays (n ∷ ns) (suc i) k₀ rows h = rw (← raise-stays ns i k₀ rows h) refl

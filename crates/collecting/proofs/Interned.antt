@@ -12,7 +12,7 @@ use Rattle.tidying.specs.Same.{same_ty, same_tys}
 use Rattle.tidying.specs.Numbering.{index_of, completed, reached}
 use Rattle.tidying.specs.Ordered.{at, AllBelow, Below, Ordered}
 use Rattle.tidying.specs.Tidy.{numbers_of}
-use Rattle.tidying.proofs.Same.{same_true, same_self}
+use Rattle.tidying.specs.Equal.{same_true, same_self}
 use Rattle.tidying.proofs.Tables.{at-index, index_bound, index_snoc, There, there, absent, look, completed-old, completed-new, grows_snoc}
 use Rattle.tidying.proofs.Reached.{reach}
 use Rattle.grammar.specs.Meaning.{arrays}

@@ -1,6 +1,6 @@
 -- Rows as code holds them: their kinds, second bytes and counts, and the members of all of them, one run behind the other. Assumes nothing:
 -- these are definitions.
-use Rattle.std.specs.Prelude.{◌≡◌, Bool, cond, List, [], ◌∷◌, ◌++◌, ℕ, zero, suc, ◌+◌, ◌≤◌, ◌<◌, eqb, length, get_or, take, drop}
+use Rattle.std.specs.Prelude.{◌≡◌, true, false, Option, None, Some, cond, List, [], ◌∷◌, ◌++◌, ℕ, zero, suc, ◌+◌, ◌≤◌, ◌<◌, eqb, length, get_or, take, drop}
 use Rattle.collecting.specs.Rows.{Row, basic_row, array_row, group_row, members_in}
 use Rattle.collecting.specs.Bounded.{Kept}
 
@@ -47,13 +47,7 @@ pub record Standing (kinds seconds counts members : List ℕ) (n m : ℕ) : Type
   pub total : m ≡ members_in (rows_at kinds seconds counts members n)
   pub place : (k : ℕ) → k < n → 2 ≤ get_or kinds k 0 → get_or seconds k 0 ≡ members_in (rows_at kinds seconds counts members k)
 
--- n rows with m members are what was kept
-pub record Keeps (kinds seconds counts members : List ℕ) (n m : ℕ) (over : Bool) (number : ℕ) (k : Kept) : Type 0 where
-  pub standing : Standing kinds seconds counts members n m
-  pub rows : rows_at kinds seconds counts members n ≡ k.rows
-  pub says : over ≡ k.over
-  pub is : number ≡ k.number
-
--- what n rows keep
-abbrev pub kept_by : List ℕ → List ℕ → List ℕ → List ℕ → ℕ → Bool → ℕ → Kept
-kept_by kinds seconds counts members n over number = record { rows = rows_at kinds seconds counts members n; over = over; number = number }
+-- what rows keep with the number of the type that was looked for, or none, where they are too many
+abbrev pub kept_of : Option ℕ → List Row → Kept
+kept_of None rows = record { rows = rows; over = true; number = 0 }
+kept_of (Some number) rows = record { rows = rows; over = false; number = number }

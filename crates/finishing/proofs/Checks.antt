@@ -1,12 +1,11 @@
 -- The checks as code makes them: the types one by one, and the sum of the sizes. Assumes nothing.
-use Rattle.std.specs.Prelude.{Ok, Result}
-use mathlib.Core.Path.{◌≡◌, sym, ap, ap₂, ◌∙◌}
+use Rattle.std.specs.Prelude.{Ok, Err, Result}
+use mathlib.Core.Path.{◌≡◌, refl, sym, ap, ap₂, ◌∙◌}
 use mathlib.Core.Logic.{◌≢◌}
-use mathlib.Core.Bool.{Bool, true, false, not}
+use mathlib.Core.Bool.{true, false}
 use mathlib.Core.List.{List, [], ◌∷◌}
 use Prim.Native.Nat.{ℕ, suc, ◌+◌, ◌*◌, ◌-◌, ◌≤◌, ◌<◌}
 use native.Mathlib.Omega.{arith}
-use lib.Dec.{eqb}
 use lib.ListN.{length, get_or, drop}
 use lib.Seq.{drop-cons, drop-length}
 use borrow.Author.Tests.{eq-eqb, ne_eqb}
@@ -24,18 +23,17 @@ use Rattle.layout.proofs.Bounds.{argument-known, argument-small, types-few}
 use Rattle.form.specs.Reading.{refusal_of}
 use Rattle.form.specs.declared.Refusal.{Refusal}
 use Rattle.layout.specs.declared.Layout.{Layout}
-use Rattle.layout.specs.Verdict.{verdict}
 use Rattle.layout.specs.Layout.{layout_of, layout_answer}
-use Rattle.layout.proofs.Layouts.{laid-accepted}
 use Rattle.station.specs.declared.Station.{Station}
-use Rattle.station.specs.Paper.{kcb, verdict_of, refusal_under, shape_at, area_of}
-use Rattle.station.proofs.Kcb.{kcb-arguments, kcb-type, kcb-shape, kcb-area}
+use Rattle.station.specs.Paper.{kcb, answer_under, shape_at, area_of}
+use Rattle.station.proofs.Attachments.{under-refused, under-done}
+use Rattle.station.proofs.Kcb.{laid-right, kcb-arguments, kcb-type, kcb-shape, kcb-area}
 use Rattle.walk.specs.declared.Walk.{Walk}
-use Rattle.walk.specs.Orders.{asking, astray, wrong_stack}
-use Rattle.walk.proofs.Checks.{astray-not, laid-right}
-use Rattle.finishing.specs.Rest.{AskRest, remaining, wrong_count, differs, other_types, sizes_from, wrong_room, later_refusal, seated_refusal, walk_left, out_left}
+use Rattle.walk.specs.Orders.{asking, other_number, astray, wrong_stack}
+use Rattle.walk.proofs.Checks.{astray-not}
+use Rattle.finishing.specs.Rest.{AskRest, remaining, wrong_count, differs, other_types, sizes_from, wrong_room, later_refusal}
 use Rattle.finishing.specs.Asks.{Judged}
-use Rattle.finishing.proofs.Orders.{later-high, later-passes, seated-late, left-own}
+use Rattle.finishing.proofs.Orders.{later-17, later-18, later-24, later-20, later-stack, later-room, later-none, later-passes}
 use Rattle.finishing.proofs.Moves.{sizes-next}
 
 -- ---- 20, type by type
@@ -112,59 +110,89 @@ extent_size d t u w p k l q r e =
 pub type-low : (d : List ℕ) → uses_refusal d ≡ 0 → (p k : ℕ) → p < arguments_in d → k ≡ argument_at d p → k < 64
 type-low d u p k l e = let x = argument-known d u p l in omega (arith, types-few d u)
 
--- ---- the tests of 24 and of the late 11
+-- ---- what comes behind 1 to 10, check after check
 
-module _ (d : List ℕ) (w : Walk) (b : ℕ) (e : b ≡ arguments_in d) where
-  pub count-wrong : (asked : List ℕ) → length asked ≢ b - w.position → wrong_count kcb d w asked ≡ true
-  unfolding wrong_count remaining
-  count-wrong asked h = rw (kcb-arguments d, ← e, ne_eqb (length asked) (b - w.position) h)
+module _ (s : Station) (d : List ℕ) (w : Walk) (stack asked : List ℕ) (n : ℕ) where
+  abbrev Later : Result (Unit {0}) Refusal → Type 0
+  Later r = r ≡ answer_under kcb d (later_refusal kcb s d w stack asked n) (tt {0})
 
-  pub count-right : (asked : List ℕ) → length asked ≡ b - w.position → wrong_count kcb d w asked ≡ false
-  unfolding wrong_count remaining
-  count-right asked h = rw (kcb-arguments d, ← e, eq-eqb (length asked) (b - w.position) h)
+  own : (m : ℕ) (r : Refusal) → r ≡ refusal_of m → 7 < m → m ≡ later_refusal kcb s d w stack asked n → Later (Err r)
+  own m r e l q = under-refused kcb d _ m r tt e l (sym q)
 
--- the types asked end where the arguments do
-pub count-whole : (d : List ℕ) (w : Walk) (b : ℕ) → b ≡ arguments_in d → (asked : List ℕ) → length asked ≡ b - w.position → astray kcb d w ≡ false
-    → w.position + length asked ≡ arguments_in d
-count-whole d w b e asked h n = omega (arith, (astray-not kcb d w n).to, kcb-arguments d)
+  pub later-other : (r : Refusal) → r ≡ refusal_of 17 → w.number ≢ s.number → Later (Err r)
+  unfolding other_number
+  later-other r e h = own 17 r e (omega arith) (later-17 kcb s d w stack asked n (rw (ne_eqb w.number s.number h)))
 
-pub types-test : (d : List ℕ) (w : Walk) (asked : List ℕ) (b : Bool) → b ≡ differs kcb d w.position asked → other_types kcb d w asked ≡ b
-unfolding other_types
-types-test d w asked b e = sym e
+  module _ (same : w.number ≡ s.number) where
+    same_number : other_number s w ≡ false
+    unfolding other_number
+    same_number = rw (eq-eqb w.number s.number same)
 
-pub stack-test : (d stack : List ℕ) (area : ℕ) (b : Bool) → area ≡ area_of kcb d → b ≡ eqb (length stack) area → wrong_stack kcb d (asking [] stack 0 []) ≡ not b
-unfolding wrong_stack
-stack-test d stack area b e q = ap (λ (n : ℕ). not (eqb (length stack) n)) (sym e) ∙ ap not (sym q)
+    pub later-astray : (r : Refusal) → r ≡ refusal_of 18 → astray kcb d w ≡ true → Later (Err r)
+    later-astray r e h = own 18 r e (omega arith) (later-18 kcb s d w stack asked n same_number h)
 
-pub room-test : (d : List ℕ) (w : Walk) (n sum : ℕ) (b : Bool) → sum ≡ sizes_from kcb d w.position (arguments_in d - w.position) → b ≡ eqb n sum → wrong_room kcb d w n ≡ not b
-unfolding wrong_room remaining
-room-test d w n sum b e q = rw (kcb-arguments d, ← e, ← q)
+    module _ (on : astray kcb d w ≡ false) where
+      -- where the record is not astray it stands at A at most
+      pub at_most : w.position ≤ arguments_in d
+      at_most = omega (arith, (astray-not kcb d w on).to, kcb-arguments d)
 
--- where the record is not astray it stands at A at most
-pub at_most : (d : List ℕ) (w : Walk) (b : ℕ) → b ≡ arguments_in d → astray kcb d w ≡ false → w.position ≤ b
-at_most d w b e h = omega (arith, (astray-not kcb d w h).to, kcb-arguments d)
+      pub later-count : (r : Refusal) → r ≡ refusal_of 24 → length asked ≢ arguments_in d - w.position → Later (Err r)
+      unfolding wrong_count remaining
+      later-count r e h = own 24 r e (omega arith) (later-24 kcb s d w stack asked n same_number on (rw (kcb-arguments d, ne_eqb (length asked) (arguments_in d - w.position) h)))
+
+      module _ (count : length asked ≡ arguments_in d - w.position) where
+        right_count : wrong_count kcb d w asked ≡ false
+        unfolding wrong_count remaining
+        right_count = rw (kcb-arguments d, eq-eqb (length asked) (arguments_in d - w.position) count)
+
+        -- the types asked end where the arguments do
+        pub count-whole : w.position + length asked ≡ arguments_in d
+        count-whole = omega (arith, at_most)
+
+        pub later-type : (r : Refusal) → r ≡ refusal_of 20 → differs kcb d w.position asked ≡ true → Later (Err r)
+        unfolding other_types
+        later-type r e h = own 20 r e (omega arith) (later-20 kcb s d w stack asked n same_number on right_count h)
+
+        module _ (types : differs kcb d w.position asked ≡ false) where
+          right_types : other_types kcb d w asked ≡ false
+          unfolding other_types
+          right_types = types
+
+          pub later-image : (r : Refusal) → r ≡ refusal_of 11 → length stack ≢ area_of kcb d → Later (Err r)
+          unfolding wrong_stack
+          later-image r e h =
+              own 11 r e (omega arith) (later-stack kcb s d w stack asked n same_number on right_count right_types (rw (ne_eqb (length stack) (area_of kcb d) h)))
+
+          module _ (image : length stack ≡ area_of kcb d) where
+            right_stack : wrong_stack kcb d (asking [] stack 0 []) ≡ false
+            unfolding wrong_stack
+            right_stack = rw (eq-eqb (length stack) (area_of kcb d) image)
+
+            module _ (sum : ℕ) (sized : sum ≡ sizes_from kcb d w.position (arguments_in d - w.position)) where
+              sum_is : sizes_from kcb d w.position (remaining kcb d w) ≡ sum
+              unfolding remaining
+              sum_is = rw (kcb-arguments d) (sym sized)
+
+              pub later-short : (r : Refusal) → r ≡ refusal_of 11 → n ≢ sum → Later (Err r)
+              unfolding wrong_room
+              later-short r e h =
+                  own 11 r e (omega arith) (later-room kcb s d w stack asked n same_number on right_count right_types right_stack (rw (sum_is, ne_eqb n sum h)))
+
+              pub later-right : n ≡ sum → Later (Ok tt)
+              unfolding wrong_room
+              later-right h =
+                  under-done kcb d _ tt tt (sym (later-none kcb s d w stack asked n same_number on right_count right_types right_stack (rw (sum_is, eq-eqb n sum h)))) refl
 
 -- ---- where the layout is known
 
-pub laid-tabled : (d t : List ℕ) (r : Result Layout Refusal) (l : Layout) → r ≡ layout_answer d → r ≡ Ok l → (verdict d ≡ 0 → Tabled d t) → Tabled d t
-laid-tabled d t r l e p h = h (laid-accepted d l (sym e ∙ p)).0
-
-pub laid-area : (d : List ℕ) (r : Result Layout Refusal) (l : Layout) → r ≡ layout_answer d → r ≡ Ok l → l.area.0 ≡ area_of kcb d
+pub laid-area : (d : List ℕ) (l : Layout) → layout_answer d ≡ Ok l → l.area.0 ≡ area_of kcb d
 unfolding layout_of
-laid-area d r l e p = ap (λ (m : Layout). m.area.0) (laid-right d r l e p).1 ∙ sym (kcb-area d)
+laid-area d l e = ap (λ (m : Layout). m.area.0) (laid-right d l e).1 ∙ sym (kcb-area d)
 
--- one of 17, 18, 24, 20 and the late 11 leaves the record and the buffer
-pub left-later : (s : Station) (d : List ℕ) (w : Walk) (a : AskRest) → verdict_of kcb d ≡ 0 → (n : ℕ) (r : Refusal)
-    → n ≡ later_refusal kcb s d w a.stack a.asked (length a.out) → n ≢ 0 → r ≡ refusal_of n
-    → (r ≡ refusal_under kcb d (seated_refusal kcb s d w a)) × (w ≡ walk_left kcb (seated_refusal kcb s d w a) d w) × (a.out ≡ out_left kcb (seated_refusal kcb s d w a) d w a)
-left-later s d w a ok n r e h q =
-    left-own kcb s d w a (seated_refusal kcb s d w a) n r (seated-late kcb s d w a ok ∙ sym e)
-    (rw e (later-high kcb s d w a.stack a.asked (length a.out) (λ z. h (e ∙ z)))) q
-
--- and without one nothing is left to refuse
-pub later-judged : (s : Station) (d : List ℕ) (w : Walk) (a : AskRest) → uses_refusal d ≡ 0 → (n : ℕ)
-    → n ≡ later_refusal kcb s d w a.stack a.asked (length a.out) → n ≡ 0 → length a.registers ≡ 176
+-- where none of 17, 18, 24, 20 and the late 11 refuses, nothing is left to refuse
+pub later-judged : (s : Station) (d : List ℕ) (w : Walk) (a : AskRest) → uses_refusal d ≡ 0
+    → later_refusal kcb s d w a.stack a.asked (length a.out) ≡ 0 → length a.registers ≡ 176
     → Judged d w (length a.registers) (length a.stack) (length a.out)
-later-judged s d w a u n e z r =
-    let g = later-passes kcb s d w a.stack a.asked (length a.out) (sym e ∙ z) in
+later-judged s d w a u z r =
+    let g = later-passes kcb s d w a.stack a.asked (length a.out) z in
     record { uses = u; on = g.on; registers = r; stack = g.image; out = g.room }

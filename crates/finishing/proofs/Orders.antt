@@ -1,21 +1,22 @@
 -- The order of the call: which number, exactly; and what is known where it refuses nothing. Assumes nothing.
-use mathlib.Core.Path.{◌≡◌, refl, sym, ap, ◌∙◌}
+use Rattle.std.specs.Prelude.{Ok, Err, Result}
+use mathlib.Core.Path.{◌≡◌, refl, sym, ◌∙◌}
 use mathlib.Core.Logic.{◌↔◌, ◌≢◌}
-use mathlib.Core.Bool.{Bool, true, false, not, ◌||◌}
-use mathlib.Core.List.{List, [], ◌∷◌}
+use mathlib.Core.Bool.{true, false, not, ◌||◌}
+use mathlib.Core.List.{List, []}
 use Prim.Native.Nat.{ℕ, ◌<◌}
 use native.Mathlib.Omega.{arith}
 use lib.ListN.{length}
 use borrow.Author.Tests.{eq-eqb, ne_eqb, eqb-true, not-false}
-use Rattle.form.specs.Order.{rule, first, NoneHolds, Answers, Positive}
+use Rattle.form.specs.Order.{NoneHolds, Answers, Positive}
 use Rattle.form.specs.Reading.{refusal_of}
 use Rattle.form.specs.declared.Refusal.{Refusal}
 use Rattle.form.proofs.Order.{first-behind, first-before, first-both, positive-append, accepts-exactly, refuses-exactly}
 use Rattle.station.specs.declared.Station.{Station}
-use Rattle.station.specs.Paper.{Paper, verdict_of, refusal_under, area_of}
+use Rattle.station.specs.Paper.{Paper, verdict_of, answer_under, area_of}
 use Rattle.station.specs.Attachment.{wrong_seat, described}
 use Rattle.station.proofs.Orders.{first_rest, or-false, kept, left}
-use Rattle.station.proofs.Attachments.{under_none, under-high}
+use Rattle.station.proofs.Attachments.{under-refused, under-done, under-err}
 use Rattle.walk.specs.declared.Walk.{Walk}
 use Rattle.walk.specs.Orders.{asking, wrong_registers, other_number, astray, wrong_stack}
 use Rattle.finishing.specs.Rest.{AskRest, step_ask, remaining, wrong_count, other_types, sizes_from, wrong_room, later_order, later_refusal, seated_refusal, finish_order, finish_refusal, bytes_over, moved_over, walk_left, out_left, finish_walk, finish_out}
@@ -54,20 +55,6 @@ module _ (P : Paper) (s : Station) (d : List ℕ) (w : Walk) (stack asked : List
       → wrong_stack P d (asking [] stack 0 []) ≡ false → wrong_room P d w n ≡ false → 0 ≡ later_refusal P s d w stack asked n
   unfolding later_refusal
   later-none e f g h k l = rw (e, f, g, h, k, l)
-
-  -- none of its numbers names a type
-  pub later-high : later_refusal P s d w stack asked n ≢ 0 → 7 < later_refusal P s d w stack asked n
-  unfolding later_refusal
-  later-high h = by (other_number s w) (astray P d w) (wrong_count P d w asked) (other_types P d w asked) (wrong_stack P d (asking [] stack 0 []) || wrong_room P d w n) h
-    where
-      by : (a b c e f : Bool) → first (rule 17 a ∷ rule 18 b ∷ rule 24 c ∷ rule 20 e ∷ rule 11 f ∷ []) ≢ 0
-          → 7 < first (rule 17 a ∷ rule 18 b ∷ rule 24 c ∷ rule 20 e ∷ rule 11 f ∷ [])
-      by true b c e f h = omega arith
-      by false true c e f h = omega arith
-      by false false true e f h = omega arith
-      by false false false true f h = omega arith
-      by false false false false true h = omega arith
-      by false false false false false h = absurd (h refl)
 
   -- ---- read back
 
@@ -110,21 +97,16 @@ module _ (P : Paper) (s : Station) (d : List ℕ) (w : Walk) (a : AskRest) where
 
   -- ---- what is left
 
-  -- a refusal that is passed on leaves the record and the buffer
-  pub left-refused : (n m : ℕ) (r : Refusal) → n ≡ m → m ≢ 0 → r ≡ refusal_under P d m
-      → (r ≡ refusal_under P d n) × (w ≡ walk_left P n d w) × (a.out ≡ out_left P n d w a)
+  -- a refusal leaves the record and the buffer
+  pub left-at : (n : ℕ) (r : Refusal) → Err r ≡ answer_under P d n (tt {0}) → (Err r ≡ answer_under P d n (tt {0})) × (w ≡ walk_left P n d w) × (a.out ≡ out_left P n d w a)
   unfolding walk_left out_left
-  left-refused n m r e h q = (q ∙ ap (refusal_under P d) (sym e), sym (left n _ _ (λ z. h (sym e ∙ z))), sym (left n _ _ (λ z. h (sym e ∙ z))))
-
-  -- so does one of the walk's own
-  pub left-own : (n m : ℕ) (r : Refusal) → n ≡ m → 7 < m → r ≡ refusal_of m → (r ≡ refusal_under P d n) × (w ≡ walk_left P n d w) × (a.out ≡ out_left P n d w a)
-  left-own n m r e h q = left-refused n m r e (λ z. omega arith) (q ∙ sym (under-high P d m h))
+  left-at n r e = let h = under-err P d n tt r (sym e) in (e, sym (left n _ _ h), sym (left n _ _ h))
 
   -- and without one the record goes to the end, and the bytes are there
-  pub left-done : (n : ℕ) (r : Refusal) (v : Walk) (last : List ℕ) → n ≡ 0 → r ≡ refusal_of 0 → v ≡ moved_over P d (remaining P d w) w
-      → last ≡ bytes_over P d (remaining P d w) w (step_ask a 0 []) → (r ≡ refusal_under P d n) × (v ≡ walk_left P n d w) × (last ≡ out_left P n d w a)
+  pub left-done : (n : ℕ) (v : Walk) (last : List ℕ) → n ≡ 0 → v ≡ moved_over P d (remaining P d w) w
+      → last ≡ bytes_over P d (remaining P d w) w (step_ask a 0 []) → (Ok tt ≡ answer_under P d n (tt {0})) × (v ≡ walk_left P n d w) × (last ≡ out_left P n d w a)
   unfolding walk_left out_left
-  left-done n r v last e q x y = (q ∙ ap refusal_of (sym e) ∙ sym (under_none P d n e), x ∙ sym (kept n _ _ e), y ∙ sym (kept n _ _ e))
+  left-done n v last e x y = (under-done P d n tt tt e refl, x ∙ sym (kept n _ _ e), y ∙ sym (kept n _ _ e))
 
 -- ---- seat, station and register image before that
 
@@ -148,14 +130,14 @@ module _ (P : Paper) (s : Station) (seat : List ℕ) (w : Walk) (a : AskRest) wh
 
   -- as the call leaves it
   pub finish-own : (m : ℕ) (r : Refusal) → finish_refusal P s seat w a ≡ m → 7 < m → r ≡ refusal_of m
-      → (r ≡ refusal_under P (described s seat) (finish_refusal P s seat w a)) × (w ≡ finish_walk P s seat w a) × (a.out ≡ finish_out P s seat w a)
+      → (Err r ≡ answer_under P (described s seat) (finish_refusal P s seat w a) (tt {0})) × (w ≡ finish_walk P s seat w a) × (a.out ≡ finish_out P s seat w a)
   unfolding finish_walk finish_out
-  finish-own m r e h q = left-own P s (described s seat) w a (finish_refusal P s seat w a) m r e h q
+  finish-own m r e h q = left-at P s (described s seat) w a (finish_refusal P s seat w a) r (under-refused P (described s seat) (finish_refusal P s seat w a) m r tt q h e)
 
-  pub finish-on : (r : Refusal) (v : Walk) (last : List ℕ) → finish_refusal P s seat w a ≡ seated_refusal P s (described s seat) w a
-      → (r ≡ refusal_under P (described s seat) (seated_refusal P s (described s seat) w a)) × (v ≡ walk_left P (seated_refusal P s (described s seat) w a) (described s seat) w)
+  pub finish-on : (r : Result (Unit {0}) Refusal) (v : Walk) (last : List ℕ) → finish_refusal P s seat w a ≡ seated_refusal P s (described s seat) w a
+      → (r ≡ answer_under P (described s seat) (seated_refusal P s (described s seat) w a) tt) × (v ≡ walk_left P (seated_refusal P s (described s seat) w a) (described s seat) w)
       × (last ≡ out_left P (seated_refusal P s (described s seat) w a) (described s seat) w a)
-      → (r ≡ refusal_under P (described s seat) (finish_refusal P s seat w a)) × (v ≡ finish_walk P s seat w a) × (last ≡ finish_out P s seat w a)
+      → (r ≡ answer_under P (described s seat) (finish_refusal P s seat w a) tt) × (v ≡ finish_walk P s seat w a) × (last ≡ finish_out P s seat w a)
   unfolding finish_walk finish_out
   finish-on r v last e h = rw e h
 

@@ -1,3 +1,4 @@
 pub mod Meant
 pub mod Kept
 pub mod Needed
+pub mod Registers

@@ -1,5 +1,5 @@
 -- Registers and classes as numbers: include/callbridge.h, enum cb_register and enum cb_class. 255, CB_NONE, is no register. Assumes nothing: these are definitions.
-use Rattle.std.specs.Prelude.{cond, [], ◌∷◌, ℕ, ◌+◌, ◌-◌, ltb, eqb, get_or}
+use Rattle.std.specs.Prelude.{cond, List, [], ◌∷◌, ℕ, ◌+◌, ◌-◌, ltb, eqb, get_or}
 use Rattle.classes.specs.declared.Class.{Class}
 use Rattle.classes.specs.declared.Class.TheVariants.{NoClass, Integer, Sse, SseUp, X87, X87Up, ComplexX87, Memory}
 use Rattle.places.specs.declared.Register.{Register}
@@ -30,6 +30,13 @@ return_number (General n) = back_number n.0
 return_number (Vector n) = vector_number 16 n.0
 return_number (Upper n) = vector_number 32 n.0
 return_number (Wide n) = vector_number 48 n.0
+
+-- a register, where the general registers have these numbers in order
+abbrev pub number_in : List ℕ → Register → ℕ
+number_in general (General n) = get_or general n.0 255
+number_in general (Vector n) = vector_number 16 n.0
+number_in general (Upper n) = vector_number 32 n.0
+number_in general (Wide n) = vector_number 48 n.0
 
 -- ---- what a number means
 

@@ -1,6 +1,8 @@
 -- The flat records of the C interface (include/callbridge.h), as functions of what the library answers. Assumes nothing: these are
 -- definitions.
 use Rattle.std.specs.Prelude.{cond, ℕ}
+use Rattle.classes.specs.declared.Class.{Class}
+use Rattle.classes.specs.Classes.{code_of}
 use Rattle.places.specs.declared.Place.{Place}
 use Rattle.places.specs.declared.Place.TheVariants.{One, Two, Stack}
 use Rattle.places.specs.declared.Used.{Used}
@@ -8,12 +10,17 @@ use Rattle.places.specs.declared.ReturnPlace.{ReturnPlace}
 use Rattle.places.specs.declared.ReturnPlace.TheVariants.{Void, Memory, One as InOne, Two as InTwo, St0, St0St1}
 use Rattle.layout.specs.declared.placements.Placement.{Placement as Record}
 use Rattle.layout.specs.declared.Layout.{Layout as Whole}
+use Rattle.flat.specs.declared.Classes.{Classes}
 use Rattle.flat.specs.declared.Slot.{Slot}
 use Rattle.flat.specs.declared.Pair.{Pair}
 use Rattle.flat.specs.declared.Reached.{Reached}
 use Rattle.flat.specs.declared.Placement.{Placement}
 use Rattle.flat.specs.declared.Layout.{Layout}
 use Rattle.flat.specs.Numbers.{register_number, return_number}
+
+-- cb_classes: the numbers of enum cb_class
+abbrev pub classes_of : Class × Class × Class × Class → Classes
+classes_of (a, b, c, e) = record { first = code_of a; second = code_of b; third = code_of c; fourth = code_of e }
 
 -- "In registers: .. second is CB_NONE where one register holds the value, offset is 0. On the stack: first and second are CB_NONE"
 abbrev pub slot_of : Place → Slot

@@ -2,10 +2,6 @@
 // (specs/Numbers, specs/Meanings). No record has a byte that is no field: the reserved ones are written as zero and never looked at.
 #![tactic(auto)]
 
-pub use records::{layout_of, placement_of};
-pub use stack_needs::flat_need;
-pub use stations::{flat_station, flat_walk, station_of, walk_of};
-
 mod records; // the flat record of one argument, and of a call as a whole
 mod stack_needs; // whether a call needs the stack
 mod stations; // the station and the walk as flat records, and back
@@ -23,6 +19,15 @@ pub struct Classes {
     pub second: u8,
     pub third: u8,
     pub fourth: u8,
+}
+
+// enum cb_image: what a part is a part of.
+#[derive(Clone, Copy, Debug, PartialEq, Eq)]
+pub enum Image {
+    Nowhere = 0,
+    Description = 1,
+    Registers = 2,
+    Stack = 3,
 }
 
 // cb_part: so many bytes of the description or of an image, by enum cb_image.
@@ -149,14 +154,15 @@ pub struct Pair {
     pub second: u8,
 }
 
-// So many bytes from an offset on, of the description or of the image with this number.
+// So many bytes from an offset on, of the description or of the image with this number: any number that a cb_part can hold, also one that is
+// none of enum cb_image.
 pub fn part_of(image: u8, offset: Bytes, length: Bytes) -> Part
     ensures { result ≡ part_of image offset length }
 {
     Part {
-        offset: offset,
-        length: length,
-        image: image,
+        offset,
+        length,
+        image,
         reserved_1: 0,
         reserved_2: 0,
         reserved_4: 0,
@@ -167,7 +173,7 @@ pub fn part_of(image: u8, offset: Bytes, length: Bytes) -> Part
 pub fn nowhere() -> Part
     ensures { result ≡ nowhere }
 {
-    part_of(0, Bytes(0), Bytes(0))
+    part_of(Image::Nowhere as u8, Bytes(0), Bytes(0))
 }
 
 // CB_VERSION: the version of the header that has these records.

@@ -4,15 +4,16 @@ ghost use Rattle.flat.specs.StackNeeds.{flat_need};
 
 use crate::StackNeed;
 
-pub fn flat_need(need: layout::StackNeed) -> StackNeed
-    ensures { result ≡ flat_need need }
-{
-    let needed = if need.needed { 1 } else { 0 };
-    StackNeed {
-        looked: need.looked,
-        needed: needed,
-        reserved_1: 0,
-        reserved_2: 0,
-        reserved_4: 0,
+impl From<layout::StackNeed> for StackNeed {
+    ghost from_gives = { λ need flat. flat ≡ flat_need need };
+
+    fn from(need: layout::StackNeed) -> Self {
+        StackNeed {
+            looked: need.looked,
+            needed: u8::from(need.needed),
+            reserved_1: 0,
+            reserved_2: 0,
+            reserved_4: 0,
+        }
     }
 }

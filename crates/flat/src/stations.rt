@@ -5,58 +5,57 @@ ghost use Rattle.flat.specs.Stations.{station_meant, flat_station, walk_meant, f
 use crate::{Station, Walk};
 
 // What a record means: 0 is not attached, any other number is attached.
-pub fn station_of(flat: Station) -> station::Station
-    ensures { result ≡ station_meant flat }
-{
-    let length = flat.length;
-    station::Station {
-        attached: flat.attached != 0,
-        length: length,
-        number: flat.number,
+impl From<Station> for station::Station {
+    ghost from_gives = { λ flat meant. meant ≡ station_meant flat };
+
+    fn from(flat: Station) -> Self {
+        station::Station {
+            attached: flat.attached != 0,
+            length: flat.length,
+            number: flat.number,
+        }
     }
 }
 
-pub fn flat_station(station: station::Station) -> Station
-    ensures { result ≡ flat_station station }
-{
-    let length = station.length;
-    let attached = if station.attached { 1 } else { 0 };
-    Station {
-        length: length,
-        number: station.number,
-        attached: attached,
-        reserved_1: 0,
-        reserved_2: 0,
+impl From<station::Station> for Station {
+    ghost from_gives = { λ station flat. flat ≡ flat_station station };
+
+    fn from(station: station::Station) -> Self {
+        Station {
+            length: station.length,
+            number: station.number,
+            attached: u8::from(station.attached),
+            reserved_1: 0,
+            reserved_2: 0,
+        }
     }
 }
 
-pub fn walk_of(flat: Walk) -> walk::Walk
-    ensures { result ≡ walk_meant flat }
-{
-    let general = flat.general;
-    let vector = flat.vector;
-    let overflow = flat.overflow;
-    walk::Walk {
-        number: flat.number,
-        position: flat.position,
-        general: general,
-        vector: vector,
-        overflow: overflow,
+impl From<Walk> for walk::Walk {
+    ghost from_gives = { λ flat meant. meant ≡ walk_meant flat };
+
+    fn from(flat: Walk) -> Self {
+        walk::Walk {
+            number: flat.number,
+            position: flat.position,
+            general: flat.general,
+            vector: flat.vector,
+            overflow: flat.overflow,
+        }
     }
 }
 
-pub fn flat_walk(walk: walk::Walk) -> Walk
-    ensures { result ≡ flat_walk walk }
-{
-    let general = walk.general;
-    let vector = walk.vector;
-    let overflow = walk.overflow;
-    Walk {
-        position: walk.position,
-        general: general,
-        vector: vector,
-        overflow: overflow,
-        number: walk.number,
-        reserved_4: 0,
+impl From<walk::Walk> for Walk {
+    ghost from_gives = { λ walk flat. flat ≡ flat_walk walk };
+
+    fn from(walk: walk::Walk) -> Self {
+        Walk {
+            position: walk.position,
+            general: walk.general,
+            vector: walk.vector,
+            overflow: walk.overflow,
+            number: walk.number,
+            reserved_4: 0,
+        }
     }
 }

@@ -2,35 +2,34 @@
 use Rattle.std.specs.Prelude.{Err, Ok, Result}
 use Rattle.std.specs.Result.{IsErrAnd}
 use Rattle.std.proofs.lemmas.Result.{err_from_is_err_and}
-use mathlib.Core.Path.{◌≡◌, refl, sym, ap, ◌∙◌}
+use mathlib.Core.Path.{◌≡◌, refl, sym, ap, subst, ◌∙◌}
 use mathlib.Core.Bool.{Bool, true, false, cond}
 use mathlib.Core.List.{List}
 use Prim.Native.Nat.{ℕ, zero, suc, ◌+◌, ◌*◌, ◌^◌, ◌≤◌, ◌<◌}
 use native.Mathlib.Numerals.{add-one}
 use native.Mathlib.Omega.{arith}
-use borrow.Author.Tests.{eq-eqb, ne_eqb, eqb-true, eqb-false, lt-ltb, le-ltb, ltb-true, ltb-false}
-use lib.Dec.{ltb, eqb}
+use borrow.Author.Tests.{eq-eqb, ne_eqb, eqb-true, lt-ltb, le-ltb}
+use lib.Dec.{eqb}
 use Rattle.units.specs.Raise.{raise}
 use Rattle.description.specs.Description.{types_in, named_in, arguments_in}
 use Rattle.form.specs.declared.Refusal.{Refusal}
-use Rattle.form.specs.Reading.{refusal_of}
+use Rattle.form.specs.Reading.{refusal_of, judgment}
+use Rattle.form.proofs.Judgment.{refused, judgment-none, judgment-some}
 use Rattle.types.specs.Wrong.{refusal_for}
 use Rattle.types.proofs.Wrong.{no_type}
 use Rattle.types.specs.Table.{filled, sizes_after}
 use Rattle.classify.specs.Table.{full_entry}
 use Rattle.uses.specs.Uses.{uses_refusal}
-use Rattle.places.specs.declared.Used.{Used}
-use Rattle.places.specs.Places.{eights, fresh, after, area_align, area}
-use Rattle.places.specs.Images.{total}
-use Rattle.places.proofs.Prefix.{total-append}
-use Rattle.layout.specs.Arguments.{is_named, shapes_from, return_place, returned_size, hidden, used_at, value_start, area_of}
+use Rattle.places.specs.Places.{fresh, area_align, area}
+use Rattle.layout.specs.Arguments.{is_named, return_place, returned_size, hidden, used_at, value_start, area_of}
 use Rattle.layout.specs.Asks.{Before, AskRecord, Alike}
-use Rattle.layout.specs.Placements.{laying_fresh, laying_at, step_at}
+use Rattle.layout.specs.Placements.{laying_fresh, laying_at, step_at, placement_at}
 use Rattle.layout.specs.Verdict.{verdict}
-use Rattle.layout.specs.Layout.{values_of, layout_of, uses_answer, layout_answer, check_answer, refusal_in, table_after}
+use Rattle.layout.specs.Layout.{values_of, layout_of, layout_answer, check_answer, refusal_in, table_after}
 use Rattle.layout.specs.declared.Layout.{Layout}
 use Rattle.layout.specs.declared.placements.Laying.{Laying}
-use Rattle.layout.proofs.Arguments.{shapes-split, used-none, used-next, used-split, start_none, start-next}
+use Rattle.layout.specs.declared.placements.Placement.{Placement}
+use Rattle.layout.proofs.Arguments.{used-none, used-next, start_none, start-next}
 use Rattle.layout.proofs.Verdict.{ten, no_ten, verdict-uses}
 use Rattle.layout.proofs.Bounds.{arguments-few, argument-small, before-next}
 
@@ -121,31 +120,6 @@ module _ (d : List ℕ) where
 pub passed-on : {T : Type 0} {e : Refusal} (r : Result T Refusal) → IsErrAnd r (λ x. x ≡ e) → r ≡ Err e
 passed-on r h = let y = err_from_is_err_and r h in y.1 ∙ ap Err y.2
 
--- the answer of 1 to 9
-uses_answered : (d : List ℕ) (b : Bool) → eqb (uses_refusal d) 0 ≡ b → uses_answer d ≡ cond b (Ok tt) (Err (refusal_for d (uses_refusal d)))
-unfolding uses_answer
-uses_answered d b e = rw e
-
-pub uses-judged_right : (d : List ℕ) → uses_refusal d ≡ 0 → Ok tt ≡ uses_answer d
-uses-judged_right d e = sym (uses_answered d true (eq-eqb (uses_refusal d) 0 e))
-
-pub uses-judged_wrong : (d : List ℕ) (n : ℕ) (r : Refusal) → n ≡ uses_refusal d → (n ≡ 0 → ⊥) → r ≡ refusal_for d n → Err r ≡ uses_answer d
-uses-judged_wrong d n r e z q = ap Err (q ∙ ap (refusal_for d) e) ∙ sym (uses_answered d false (ne_eqb (uses_refusal d) 0 (λ h. z (e ∙ h))))
-
-pub uses-right : (d : List ℕ) → uses_answer d ≡ Ok tt → uses_refusal d ≡ 0
-uses-right d e = by (eqb (uses_refusal d) 0) refl
-  where
-    by : (b : Bool) → eqb (uses_refusal d) 0 ≡ b → uses_refusal d ≡ 0
-    by true q = eqb-true (uses_refusal d) 0 q
-    by false q = absurd (let z : ◌≡◌ {A = Result (Unit {0}) Refusal} (Ok tt) (Err (refusal_for d (uses_refusal d))) = sym e ∙ uses_answered d false q in let f : ◌≡◌ {A = ℕ} 0 1 = cc in omega arith)
-
-pub uses-wrong : (d : List ℕ) (r : Refusal) → uses_answer d ≡ Err r → (r ≡ refusal_for d (uses_refusal d)) × (uses_refusal d ≡ 0 → ⊥)
-uses-wrong d r e = by (eqb (uses_refusal d) 0) refl
-  where
-    by : (b : Bool) → eqb (uses_refusal d) 0 ≡ b → (r ≡ refusal_for d (uses_refusal d)) × (uses_refusal d ≡ 0 → ⊥)
-    by true q = absurd (let z : ◌≡◌ {A = Result (Unit {0}) Refusal} (Err r) (Ok tt) = sym e ∙ uses_answered d true q in let f : ◌≡◌ {A = ℕ} 0 1 = cc in omega arith)
-    by false q = (let z : ◌≡◌ {A = Result (Unit {0}) Refusal} (Err r) (Err (refusal_for d (uses_refusal d))) = sym e ∙ uses_answered d false q in cc, eqb-false (uses_refusal d) 0 q)
-
 -- the answer
 answered : (d : List ℕ) (b : Bool) → eqb (verdict d) 0 ≡ b → layout_answer d ≡ cond b (Ok (layout_of d)) (Err (refusal_for d (verdict d)))
 unfolding layout_answer
@@ -170,10 +144,10 @@ module _ (d : List ℕ) (right : uses_refusal d ≡ 0) (l : Layout) (is : l ≡ 
   answer-small h = answer-laid d l is (no_ten d right (omega (arith, area-is)))
 
 -- by 1 to 9
-pub answer-judged : (d : List ℕ) (r : Refusal) → uses_answer d ≡ Err r → Err r ≡ layout_answer d
+pub answer-judged : (d : List ℕ) (r : Refusal) → Err r ≡ judgment (uses_refusal d) (refusal_for d (uses_refusal d)) → Err r ≡ layout_answer d
 answer-judged d r e =
-    let wrong = uses-wrong d r e in
-    answer-refused d (uses_refusal d) r wrong.0 (verdict-uses d wrong.1) wrong.1
+    let wrong = refused _ _ _ e in
+    answer-refused d (uses_refusal d) r wrong.1 (verdict-uses d wrong.0) wrong.0
 
 -- an answer that is known says which verdict there is
 pub laid-accepted : (d : List ℕ) (l : Layout) → layout_answer d ≡ Ok l → (verdict d ≡ 0) × (l ≡ layout_of d)
@@ -211,11 +185,11 @@ refused-nonzero d r e v =
 -- the verdict alone
 pub checked-laid : (d : List ℕ) (l : Layout) → layout_answer d ≡ Ok l → Ok tt ≡ check_answer d
 unfolding check_answer
-checked-laid d l e = rw (eq-eqb (verdict d) 0 (laid-accepted d l e).0)
+checked-laid d l e = judgment-none _ _ (laid-accepted d l e).0
 
 pub checked-refused : (d : List ℕ) (r : Refusal) → layout_answer d ≡ Err r → Err r ≡ check_answer d
 unfolding check_answer
-checked-refused d r e = rw (ne_eqb (verdict d) 0 (refused-nonzero d r e)) (ap Err (refused-verdict d r e))
+checked-refused d r e = ap Err (refused-verdict d r e) ∙ judgment-some _ _ (refused-nonzero d r e)
 
 -- the table once it is worked out
 module _ (d t u : List ℕ) (e : u ≡ sizes_after d t) where
@@ -226,3 +200,19 @@ module _ (d t u : List ℕ) (e : u ≡ sizes_after d t) where
   pub table-worked : uses_refusal d ≡ 0 → (v : List ℕ) → v ≡ filled (full_entry d) (types_in d) u → v ≡ table_after d t
   unfolding table_after
   table-worked h v ev = ev ∙ ap (filled (full_entry d) (types_in d)) e ∙ rw (eq-eqb (uses_refusal d) 0 h)
+
+-- ---- one argument after the other, as a loop goes that begins at `laying_first`
+
+module _ (d : List ℕ) (i : ℕ) (l : Laying) (here : l ≡ laying_at d i) where
+  -- what its record asks
+  pub turn_asked : uses_refusal d ≡ 0 → i < arguments_in d → AskRecord d i l
+  turn_asked right h = subst (λ (m : Laying). AskRecord d i m) (sym here) (record_asks d right i h)
+
+  -- it is the record of argument i
+  pub turn_placed : (p : Placement) → p ≡ (step_at d l i).placement → p ≡ placement_at d i
+  unfolding step_at placement_at
+  turn_placed p e = e ∙ ap (λ (m : Laying). (step_at d m i).placement) here
+
+  -- and what is laid out after it
+  pub turn_laid : (m : Laying) → m ≡ (step_at d l i).after → m ≡ laying_at d (i + 1)
+  turn_laid m e = e ∙ ap (λ (x : Laying). (step_at d x i).after) here ∙ laying_next d i

@@ -15,7 +15,6 @@ use Rattle.types.specs.Wrong.{refusal_for}
 use Rattle.types.proofs.Wrong.{no_type}
 use Rattle.form.specs.declared.Refusal.{Refusal}
 use Rattle.form.proofs.Order.{refuses-exactly, accepts-exactly, first-before, first-behind, first-both, positive-append}
-use Rattle.layout.specs.Arguments.{hidden}
 use Rattle.layout.specs.Verdict.{check_order, verdict}
 use Rattle.layout.specs.Layout.{layout_of, layout_answer}
 use Rattle.layout.specs.Asks.{AskRecord}
@@ -24,7 +23,7 @@ use Rattle.layout.specs.Lists.{short_list, list_refusal, list_answer, list_count
 use Rattle.layout.specs.declared.Layout.{Layout}
 use Rattle.layout.specs.declared.placements.Laying.{Laying}
 use Rattle.layout.proofs.Verdict.{accepted-uses, check-positive}
-use Rattle.layout.proofs.Layouts.{record_asks, laying_none, laying_next, laid-accepted, refused-verdict, refused-nonzero}
+use Rattle.layout.proofs.Layouts.{record_asks, laying_next, refused-verdict, refused-nonzero}
 
 -- the answer is n exactly where condition n holds and none before it; 11 comes last
 pub list_exactly : (d : List ℕ) (room n : ℕ) → n ≢ 0 → (list_refusal d room ≡ n) ↔ Answers (layout_order d room) n

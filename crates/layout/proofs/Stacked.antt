@@ -11,6 +11,8 @@ use Rattle.description.specs.Description.{arguments_in, argument_at, model_in}
 use Rattle.form.specs.Search.{first_from}
 use Rattle.form.proofs.Search.{search_stop, search_on, search_end}
 use Rattle.form.specs.declared.Refusal.{Refusal}
+use Rattle.form.specs.Reading.{judgment}
+use Rattle.form.proofs.Judgment.{refused}
 use Rattle.types.specs.Decode.{ty_at}
 use Rattle.types.specs.Wrong.{refusal_for}
 use Rattle.types.proofs.Large.{accepted-sized}
@@ -19,18 +21,17 @@ use Rattle.uses.specs.Uses.{uses_refusal}
 use Rattle.uses.proofs.Uses.{accepted-types}
 use Rattle.places.specs.declared.Used.{Used}
 use Rattle.places.specs.Shapes.{Shape, Shaped, shape_of}
-use Rattle.places.specs.Places.{eights, fits, start, next, fresh}
+use Rattle.places.specs.Places.{eights, fits, start, next}
 use Rattle.places.proofs.Fits.{place-not, next_fits}
 use Rattle.places.proofs.Offsets.{stack-lowest, stack-rounded}
 use Rattle.layout.specs.Arguments.{shape_at, used_at, hidden}
 use Rattle.layout.specs.Placements.{laying_fresh, laying_at, step_at}
-use Rattle.layout.specs.Layout.{uses_answer}
 use Rattle.layout.specs.StackNeeds.{stacked, first_stacked, first_found, stack_need, stack_answer}
 use Rattle.layout.specs.declared.placements.Laying.{Laying}
 use Rattle.layout.specs.declared.needing.StackNeed.{StackNeed}
-use Rattle.layout.proofs.Arguments.{used-none, used-next}
+use Rattle.layout.proofs.Arguments.{used-next}
 use Rattle.layout.proofs.Bounds.{arguments-few, argument-known, argument-shaped}
-use Rattle.layout.proofs.Layouts.{laying_first, laying_next, uses-wrong}
+use Rattle.layout.proofs.Layouts.{laying_first, turn_laid}
 
 -- one argument: in registers the end of the stack arguments stays, on the stack it moves on, since no type is empty
 kept : (u : Used) (s : Shape) → fits u s.kinds ≡ true → (next eights u s).stack.0 ≡ u.stack.0
@@ -88,7 +89,7 @@ looking_first d b is l e = record {
 module _ (d : List ℕ) (right : uses_refusal d ≡ 0) (i : ℕ) (l : Laying) (g : Looking d i l) where
   module _ (h : i < arguments_in d) (m : Laying) (e : m ≡ (step_at d l i).after) where
     turned : m ≡ laying_at d (i + 1)
-    turned = e ∙ ap (λ (x : Laying). (step_at d x i).after) g.laying ∙ laying_next d i
+    turned = turn_laid d i l g.laying m e
 
     tells : ltb 0 m.used.stack.0 ≡ stacked d i
     unfolding laying_at
@@ -130,10 +131,10 @@ answered : (d : List ℕ) (b : Bool) → eqb (uses_refusal d) 0 ≡ b → stack_
 unfolding stack_answer
 answered d b e = rw e
 
-pub need_refused : (d : List ℕ) (r : Refusal) → uses_answer d ≡ Err r → Err r ≡ stack_answer d
+pub need_refused : (d : List ℕ) (r : Refusal) → Err r ≡ judgment (uses_refusal d) (refusal_for d (uses_refusal d)) → Err r ≡ stack_answer d
 need_refused d r e =
-    let wrong = uses-wrong d r e in
-    ap Err wrong.0 ∙ sym (answered d false (ne_eqb (uses_refusal d) 0 wrong.1))
+    let wrong = refused _ _ _ e in
+    ap Err wrong.1 ∙ sym (answered d false (ne_eqb (uses_refusal d) 0 wrong.0))
 
 module _ (d : List ℕ) (right : uses_refusal d ≡ 0) where
   known : (n : StackNeed) → n ≡ stack_need d → Ok n ≡ stack_answer d

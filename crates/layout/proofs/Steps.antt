@@ -34,7 +34,7 @@ use Rattle.classify.specs.Table.{pair_in, wide_in, unpacked_of, Tabled}
 use Rattle.classify.proofs.Table.{pair-taken}
 use Rattle.layout.specs.Arguments.{is_named, shape_at, is_void, return_classes, return_place, returned_size, hidden}
 use Rattle.layout.specs.Asks.{AskArgument, AskRecord}
-use Rattle.layout.specs.Placements.{Step, step_of, step_at}
+use Rattle.layout.specs.Placements.{step_of, step_at}
 use Rattle.units.specs.declared.Bytes.{Bytes}
 use Rattle.layout.specs.declared.placements.Laying.{Laying}
 use Rattle.layout.proofs.Bounds.{arguments-few, types-few, argument-known, argument-small, argument-some, argument-shaped, before-room}

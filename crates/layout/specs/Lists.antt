@@ -1,6 +1,6 @@
 -- The list of placement records that the caller lends: document 01, "One placement record for each argument goes into the list the
 -- caller lends .. Entries past A stay". Assumes nothing: these are definitions.
-use Rattle.std.specs.Prelude.{Bool, false, cond, List, [], ◌∷◌, ◌++◌, ℕ, ltb, eqb, replicate, Err, Ok, Result}
+use Rattle.std.specs.Prelude.{Bool, false, cond, List, [], ◌∷◌, ◌++◌, ℕ, ltb, eqb, Err, Ok, Result}
 use Rattle.description.specs.Description.{arguments_in}
 use Rattle.form.specs.Order.{Rule, rule, first}
 use Rattle.types.specs.Wrong.{refusal_for}
@@ -8,7 +8,7 @@ unfoldable pub use Rattle.types.specs.Table.{filled}
 use Rattle.layout.specs.Placements.{laying_fresh, laying_at}
 use Rattle.layout.specs.declared.placements.Laying.{Laying}
 use Rattle.layout.specs.Verdict.{check_order}
-use Rattle.layout.specs.Layout.{layout_of, table_after}
+use Rattle.layout.specs.Layout.{layout_of}
 use Rattle.layout.specs.declared.Layout.{Layout}
 use Rattle.form.specs.declared.Refusal.{Refusal}
 

@@ -1,10 +1,12 @@
 // The verdict on any bytes, 1 to 10, and the layout of those that get none (document 01, "Places", "Refusal numbers").
 ghost use Rattle.std.specs.Prelude.{◌≡◌, ◌≤◌, IfOk};
 ghost use Rattle.description.specs.Description.{arguments_in};
+ghost use Rattle.form.specs.Reading.{judgment};
+ghost use Rattle.types.specs.Wrong.{refusal_for};
 ghost use Rattle.classify.specs.Table.{Tabled};
 ghost use Rattle.uses.specs.Uses.{uses_refusal};
 ghost use Rattle.layout.specs.Arguments.{used_at};
-ghost use Rattle.layout.specs.Layout.{layout_of, refusal_in, uses_answer, layout_answer, check_answer, table_after};
+ghost use Rattle.layout.specs.Layout.{layout_of, refusal_in, layout_answer, check_answer, table_after};
 ghost use Rattle.layout.specs.Verdict.{verdict};
 
 use crate::{Described, Laying, Layout};
@@ -63,16 +65,13 @@ pub fn refusal_in(answer: Result<Layout, Refusal>) -> Refusal
 // ---- any bytes
 
 // Which of 1 to 9 refuses any bytes. Where none does, the table holds what is known of each type.
-pub fn judge(d: &[u8], table: &mut [u32; 64]) -> Result<(), Refusal>
-    ensures { (result ≡ uses_answer d.now)
+pub(crate) fn judge(d: &[u8], table: &mut [u32; 64]) -> Result<(), Refusal>
+    ensures { (result ≡ judgment (uses_refusal d.now) (refusal_for d.now (uses_refusal d.now)))
         × (table.new ≡ table_after d.now table.old)
         × (uses_refusal d.now ≡ 0 → Tabled d.now table.new)
         × IfOk result (λ _. (uses_refusal d.now ≡ 0) × Tabled d.now table.new) }
 {
-    let number = uses::uses_refusal_with(d, table);
-    if number != 0 {
-        return Err(types::refusal_for(d, number));
-    }
+    uses::judge(d, table)?;
     classify::fill_classes(d, table);
     Ok(())
 }

@@ -6,6 +6,7 @@ ghost use Rattle.layout.specs.Placements.{laying_fresh, laying_at, step_of, step
 ghost use Rattle.layout.specs.Asks.{AskRecord, Alike};
 
 use crate::Described;
+use classify::Entry;
 use places::{Argument, Place, ReturnPlace, Used};
 use types::Extent;
 use units::Bytes;
@@ -40,7 +41,14 @@ impl Laying {
     }
 
     // The record of an argument of type k at this place; `used` is used after it.
-    pub fn step(&mut self, k: usize, extent: Extent, place: Place, named: bool, used: Used) -> Placement
+    pub fn step(
+        &mut self,
+        k: usize,
+        extent: Extent,
+        place: Place,
+        named: bool,
+        used: Used,
+    ) -> Placement
         requires { (k < 64) × (self.old.values.0 + extent.size.0 ≤ 2 ^ 63) }
         ensures { (result ≡ (step_of self.old k extent place named used).placement) × (self.new ≡ (step_of self.old k extent place named used).after) }
     {
@@ -86,7 +94,7 @@ impl<'a> Described<'a> {
     }
 
     // Where the value is returned.
-    pub fn returns(self) -> ReturnPlace
+    pub(crate) fn returns(self) -> ReturnPlace
         ensures { result ≡ return_place self.entry.bytes.now }
     {
         match self.returned() {
@@ -99,7 +107,7 @@ impl<'a> Described<'a> {
     }
 
     // The size of the returned type. Void has none.
-    pub fn returned_size(self) -> Bytes
+    pub(crate) fn returned_size(self) -> Bytes
         ensures { result.0 ≡ returned_size self.entry.bytes.now }
     {
         match self.returned() {
@@ -109,7 +117,7 @@ impl<'a> Described<'a> {
     }
 
     // Whether a hidden address is passed for it.
-    pub fn hidden(self) -> bool
+    pub(crate) fn hidden(self) -> bool
         ensures { result ≡ hidden self.entry.bytes.now }
     {
         match self.returned() {
@@ -125,8 +133,7 @@ impl<'a> Described<'a> {
     {
         let ty = description::argument_at(self.bytes, i);
         let argument = Argument {
-            table: self.table,
-            ty,
+            entry: Entry(self.table[ty]),
             named,
         };
         let mut used = laying.used;
@@ -145,14 +152,13 @@ impl<'a> Described<'a> {
     }
 
     // What is laid out after argument i, as its record says, without the record; the caller knows whether it is named.
-    pub fn pass_argument(self, i: usize, named: bool, laying: &mut Laying)
+    pub(crate) fn pass_argument(self, i: usize, named: bool, laying: &mut Laying)
         requires { AskRecord self.bytes.now i laying.old × (is_named self.bytes.now i ≡ named) }
         ensures { laying.new ≡ (step_at self.entry.bytes.now laying.old i).after }
     {
         let ty = description::argument_at(self.bytes, i);
         let argument = Argument {
-            table: self.table,
-            ty,
+            entry: Entry(self.table[ty]),
             named,
         };
         laying.values = laying.values + argument.extent().size;
@@ -160,7 +166,7 @@ impl<'a> Described<'a> {
     }
 
     // What is laid out after the arguments `from` to `to` as well, all of which are named or none.
-    pub fn lay_more(self, from: usize, to: usize, named: bool, laying: &mut Laying)
+    pub(crate) fn lay_more(self, from: usize, to: usize, named: bool, laying: &mut Laying)
         requires { (from ≤ to) × (to ≤ arguments_in self.bytes.now) × (laying.old ≡ laying_at self.bytes.now from) × Alike self.bytes.now from to named }
         ensures { laying.new ≡ laying_at self.entry.bytes.now to }
     {

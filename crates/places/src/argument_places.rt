@@ -1,6 +1,6 @@
 // The place of the next argument (document 01, "Places"): registers for each of its eightbytes, or the stack. `place` places one argument, and
 // `use_argument` says what is used after it.
-ghost use Rattle.std.specs.Prelude.{◌≡◌, not, ◌&&◌, ◌||◌, leb, ◌^◌, ◌≤◌, max, ◌/◌, ◌%◌, [], ◌∷◌, get_or};
+ghost use Rattle.std.specs.Prelude.{◌≡◌, not, ◌&&◌, ◌||◌, leb, ◌^◌, ◌≤◌, max, ◌/◌, ◌%◌, [], ◌∷◌};
 ghost use Rattle.units.specs.Raise.{raise};
 ghost use Rattle.places.specs.Steps.{stacked_at, IsFound};
 ghost use Rattle.places.specs.Places.{eights, area_align, register_for, taking, enough, stacking, place, next};
@@ -88,7 +88,7 @@ impl Used {
     }
 
     // A register for each eightbyte: "If any eightbyte finds no register", none.
-    pub fn in_registers(&mut self, kinds: Kinds) -> Option<Place>
+    pub(crate) fn in_registers(&mut self, kinds: Kinds) -> Option<Place>
         requires { (self.old.general.0 ≤ 6) × (self.old.vector.0 ≤ 8) }
         ensures { IsFound self.old (listed kinds) result self.new }
     {
@@ -125,8 +125,8 @@ impl Used {
     // What is used once an argument is on the stack: a short way for one that is aligned to 8 or less, as most are, and never makes the area's
     // alignment 32.
     fn use_stack(&mut self, argument: Argument)
-        requires { Room self.old × Small (shape_in argument.named (get_or argument.table.now argument.ty 0)) }
-        ensures { self.new ≡ stacking eights self.old (shape_in argument.entry.named (get_or argument.entry.table.now argument.entry.ty 0)) }
+        requires { Room self.old × Small (shape_in argument.named argument.entry.0) }
+        ensures { self.new ≡ stacking eights self.old (shape_in argument.named argument.entry.0) }
     {
         let Extent { size, align } = argument.extent();
         if align > Bytes(8) {
@@ -139,8 +139,8 @@ impl Used {
     // What is used after an argument, as `place` says it, without the place. Whether an unnamed one is wide is asked only where there are
     // registers for it.
     pub fn use_argument(&mut self, argument: Argument)
-        requires { Room self.old × Small (shape_in argument.named (get_or argument.table.now argument.ty 0)) × Asking (get_or argument.table.now argument.ty 0) }
-        ensures { self.new ≡ next eights self.old (shape_in argument.entry.named (get_or argument.entry.table.now argument.entry.ty 0)) }
+        requires { Room self.old × Small (shape_in argument.named argument.entry.0) × Asking argument.entry.0 }
+        ensures { self.new ≡ next eights self.old (shape_in argument.named argument.entry.0) }
     {
         let asks = argument.asks();
         let general = self.general + asks.general;
@@ -161,13 +161,13 @@ struct Asks {
     vector: Registers,
 }
 
-impl<'a> Argument<'a> {
+impl Argument {
     fn asks(self) -> Asks
-        ensures { (result.general.0 ≡ get_or self.entry.table.now self.entry.ty 0 / 67108864 % 16)
-            × (result.vector.0 ≡ get_or self.entry.table.now self.entry.ty 0 / 67108864 / 16)
+        ensures { (result.general.0 ≡ self.entry.0 / 67108864 % 16)
+            × (result.vector.0 ≡ self.entry.0 / 67108864 / 16)
             × (result.vector.0 ≤ 2 ^ 40) }
     {
-        let asks = self.table[self.ty] as usize / 67108864;
+        let asks = self.entry.asks();
         Asks {
             general: Registers(asks % 16),
             vector: Registers(asks / 16),
@@ -176,8 +176,8 @@ impl<'a> Argument<'a> {
 
     // "An unnamed one, structures included, is always on the stack": whether it is such.
     fn is_unnamed_wide(self) -> bool
-        ensures { result ≡ (not self.entry.named && wide_in (get_or self.entry.table.now self.entry.ty 0 / 524288)) }
+        ensures { result ≡ (not self.named && wide_in (self.entry.0 / 524288)) }
     {
-        !self.named && classify::is_wide(self.table, self.ty)
+        !self.named && self.entry.is_wide()
     }
 }

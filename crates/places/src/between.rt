@@ -1,6 +1,6 @@
 // The place of an argument by what is used before it and after it, which `use_argument` says: it is on the stack where the stack arguments end later, and
 // otherwise in the registers that were taken in between. So what is asked for is looked at once, and no record of a place goes through memory.
-ghost use Rattle.std.specs.Prelude.{◌≡◌, ◌^◌, ◌≤◌, ◌<◌, ◌%◌, get_or};
+ghost use Rattle.std.specs.Prelude.{◌≡◌, ◌^◌, ◌≤◌, ◌<◌, ◌%◌};
 ghost use Rattle.places.specs.Places.{eights, register_for, place};
 ghost use Rattle.places.specs.Shapes.{shape_in};
 ghost use Rattle.places.specs.Recorded.{place_of};
@@ -35,21 +35,21 @@ impl Used {
 
     // The registers of an argument of over 8 bytes: one that is wide, or two.
     fn over_eight(self, after: Used, argument: Argument) -> Place
-        requires { Between argument.named (get_or argument.table.now argument.ty 0) self after × (8 < get_or argument.table.now argument.ty 0 % 8192)
+        requires { Between argument.named argument.entry.0 self after × (8 < argument.entry.0 % 8192)
             × (after.stack.0 ≤ self.stack.0) }
-        ensures { place_of result ≡ place eights self (shape_in argument.entry.named (get_or argument.entry.table.now argument.entry.ty 0)) }
+        ensures { place_of result ≡ place eights self (shape_in argument.named argument.entry.0) }
     {
-        if classify::is_wide(argument.table, argument.ty) {
+        if argument.entry.is_wide() {
             return Place::One(Register::Wide(self.vector));
         }
-        let [first, second] = classify::classes_in(argument.table, argument.ty);
+        let [first, second] = argument.entry.classes();
         Place::Two(self.first_of(first), after.last_of(second))
     }
 
     // The place of an argument, where `after` is used once it is placed.
     pub fn place_between(self, after: Used, argument: Argument) -> Place
-        requires { (self.stack.0 ≤ 2 ^ 20) × Between argument.named (get_or argument.table.now argument.ty 0) self after }
-        ensures { place_of result ≡ place eights self (shape_in argument.entry.named (get_or argument.entry.table.now argument.entry.ty 0)) }
+        requires { (self.stack.0 ≤ 2 ^ 20) × Between argument.named argument.entry.0 self after }
+        ensures { place_of result ≡ place eights self (shape_in argument.named argument.entry.0) }
     {
         let Extent { size, align } = argument.extent();
         if after.stack > self.stack {

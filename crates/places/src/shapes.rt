@@ -1,5 +1,5 @@
 // Which registers a value asks for, by its classes (document 01, "Places").
-ghost use Rattle.std.specs.Prelude.{◌≡◌, ◌||◌, [], ◌∷◌, ◌/◌, get_or};
+ghost use Rattle.std.specs.Prelude.{◌≡◌, ◌||◌, [], ◌∷◌, ◌/◌};
 ghost use Rattle.classes.specs.declared.Class.TheVariants.{Memory};
 ghost use Rattle.classes.specs.Classes.{same, is_x87};
 ghost use Rattle.types.specs.Table.{IsEntry};
@@ -48,33 +48,33 @@ pub fn kinds_of(first: Class, second: Class) -> Kinds
     }
 }
 
-impl<'a> Argument<'a> {
+impl Argument {
     // Size and alignment of its type.
     pub fn extent(self) -> Extent
-        ensures { IsEntry (get_or self.entry.table.now self.entry.ty 0) result }
+        ensures { IsEntry self.entry.0 result }
     {
-        types::extent_in(self.table, self.ty)
+        types::extent_by(self.entry.0)
     }
 
     // What it asks for: "A named argument of these four classes takes one vector register; an unnamed one, structures included, is
     // always on the stack".
     fn kinds(self) -> Kinds
-        ensures { listed result ≡ kinds_for self.entry.named (unpacked_of (get_or self.entry.table.now self.entry.ty 0 / 524288)) }
+        ensures { listed result ≡ kinds_for self.named (unpacked_of (self.entry.0 / 524288)) }
     {
-        if classify::is_wide(self.table, self.ty) {
+        if self.entry.is_wide() {
             return if self.named {
                 Kinds::One(Kind::Wide)
             } else {
                 Kinds::Stack
             };
         }
-        let [first, second] = classify::classes_in(self.table, self.ty);
+        let [first, second] = self.entry.classes();
         kinds_of(first, second)
     }
 
     // What places it.
     pub fn shape(self) -> Shape
-        ensures { asked result ≡ shape_in self.entry.named (get_or self.entry.table.now self.entry.ty 0) }
+        ensures { asked result ≡ shape_in self.named self.entry.0 }
     {
         let kinds = self.kinds();
         let Extent { size, align } = self.extent();

@@ -15,7 +15,7 @@ use Rattle.addresses.specs.Addresses.{gather}
 use Rattle.description.specs.Description.{named_in, arguments_in, kind_at, a_at, count_at, member_start, IsBytes, model_in}
 use Rattle.form.specs.declared.Refusal.{Refusal}
 use Rattle.form.specs.Order.{Rule}
-use Rattle.form.specs.Reading.{refusal_at, refusal_by, refusal_of}
+use Rattle.form.specs.Reading.{refusal_at, refusal_by, refusal_of, refusal_in}
 use Rattle.types.specs.Size.{size_ty, align_ty}
 use Rattle.types.specs.Decode.{ty_at}
 use Rattle.types.specs.Wrong.{refusal_for}
@@ -72,14 +72,14 @@ use Rattle.flat.specs.Parts.{nowhere, of_description}
 use Rattle.flat.specs.Stations.{station_meant, flat_station, walk_meant, flat_walk}
 use Rattle.flat.proofs.Meant.{class_meant_lem}
 use Rattle.flat.proofs.Kept.{layout-means, station-means, walk-means}
-use Rattle.c_calls.specs.Outcome.{Outcome, refusal_in, left_in}
-use Rattle.c_calls.specs.TypeCalls.{extent_given, classes_given, run_part, run_refusal}
-use Rattle.c_calls.specs.LayoutCalls.{layout_given, list_given, flat_at}
-use Rattle.c_calls.specs.MovingCalls.{placed_given, gathered_given}
-use Rattle.c_calls.specs.ReturningCalls.{put_given, taken_given}
-use Rattle.c_calls.specs.StationCalls.{attach_given, detach_given, freed_station, change_given}
-use Rattle.c_calls.proofs.Given.{freed-means}
-use Rattle.c_calls.specs.WalkCalls.{open_given, step_given, shown_part as part_shown, shown_refusal}
+use Rattle.callbridge.specs.Outcome.{left_in}
+use Rattle.callbridge.specs.TypeCalls.{extent_given, classes_given, run_part, run_refusal}
+use Rattle.callbridge.specs.LayoutCalls.{layout_given, list_given, flat_at}
+use Rattle.callbridge.specs.MovingCalls.{placed_given, gathered_given}
+use Rattle.callbridge.specs.ReturningCalls.{put_given, taken_given}
+use Rattle.callbridge.specs.StationCalls.{attach_given, detach_given, freed_station, change_given}
+use Rattle.callbridge.proofs.Given.{freed-means}
+use Rattle.callbridge.specs.WalkCalls.{open_given, step_given, shown_part as part_shown, shown_refusal}
 use Rattle.callbridge.specs.Interface.{Tells, TellsPart, run_of}
 use Rattle.callbridge.proofs.Told.{extent_told, classes-told, run-told, layout-told, list_told, placed-told, gathered-told, put-told, taken-told, attach-told, detach-told, change-told, open_told, step-told, shown-told}
 use Rattle.callbridge.proofs.Means.{list_means as flat-list-means}
@@ -138,11 +138,11 @@ unfolding refusal_for refusal_by refusal_at
 means read d zero new old v e = ap accepted (e refl)
 means read d (suc n) new old v e = refl
 
-pub told-number : {A : Type 0} {o : Outcome A} {d : List ℕ} {n : ℕ} {new : A} → Tells o d n new → (refusal_in o).number ≡ n
+pub told-number : {A : Type 0} {o : Result A Refusal} {d : List ℕ} {n : ℕ} {new : A} → Tells o d n new → (refusal_in o).number ≡ n
 told-number {d = d} {n = n} t = ap (λ (r : Refusal). r.number) t.refusal ∙ number-for d n
 
 -- it fills the lent record
-pub fills : {A X : Type 0} (read : A → X) (d : List ℕ) (rules : List Rule) (v : X) (old : A) (o : Outcome A) (n : ℕ) (new : A) (m : Meaning X)
+pub fills : {A X : Type 0} (read : A → X) (d : List ℕ) (rules : List Rule) (v : X) (old : A) (o : Result A Refusal) (n : ℕ) (new : A) (m : Meaning X)
     → Tells o d n new → (n ≡ 0 → read new ≡ v) → Answered m rules v → m ≡ outcome n v → Names d (refusal_for d n) → Fills read d rules v old (refusal_in o) (left_in o old)
 fills {A = A} read d rules v old o n new m t e a f h = record {
   answered = subst (λ x. Answered x rules v) (f ∙ sym (ap₂ (λ (r : Refusal) (x : A). outcome r.number (read x)) t.refusal (t.left old) ∙ means read d n new old v e)) a;
@@ -362,7 +362,7 @@ takes-flat d i y v old =
 -- ---- station
 
 -- what the record means at exit, where the call is accepted
-station-after : {o : Outcome Station} {d : List ℕ} {n : ℕ} {s : Attached} → Tells o d n (flat_station s) → (old : Station) → n ≡ 0 → station_meant (left_in o old) ≡ s
+station-after : {o : Result Station Refusal} {d : List ℕ} {n : ℕ} {s : Attached} → Tells o d n (flat_station s) → (old : Station) → n ≡ 0 → station_meant (left_in o old) ≡ s
 station-after {n = n} {s = s} t old z = ap station_meant (t.left old ∙ kept n (flat_station s) old z) ∙ station-means s
 
 attaches-flat : (old : Station) (seat d : List ℕ) → AttachesFlat old seat d (refusal_in (attach_given old seat d)) (left_in (attach_given old seat d) old) (attach_seat kcb (station_meant old) seat d)

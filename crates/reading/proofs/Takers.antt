@@ -1,6 +1,6 @@
 -- The symbols to come, as the code holds them. Assumes nothing.
 use mathlib.Core.Path.{◌≡◌, refl, sym, ap, ◌∙◌}
-use mathlib.Core.Bool.{true, false, not}
+use mathlib.Core.Bool.{Bool, true, false, not, true≢false}
 use mathlib.Core.List.{List, [], ◌∷◌, ◌++◌}
 use Prim.Native.Nat.{ℕ, zero, suc, ◌+◌, ◌-◌, ◌≤◌, ◌<◌}
 use native.Mathlib.Omega.{arith}
@@ -12,7 +12,8 @@ use Rattle.grammar.specs.Grammar.{Event, Rest, stop, goes, Absence, required, op
 use Rattle.grammar.specs.Machine.{dead, fed, feed_by, feed, live, End, short, ended, is_ended, finish_by, finish}
 use Rattle.grammar.specs.Prototype.{prototype, types}
 use Rattle.reading.specs.Productions.{productions}
-use Rattle.reading.specs.Coded.{rest_at, absent_code}
+use Rattle.reading.specs.Coded.{rest_at, absent_code, may_lack, counted}
+use Rattle.std.specs.Prelude.{Option, None, Some, SomeIff, is_some}
 use Rattle.reading.specs.Code.{tops, takes_by, takes, LeadsTo}
 
 nonzero_rest : (p : ℕ) → (p ≡ 0 → ⊥) → rest_at p ≡ goes (get_or productions (p - 1) [])
@@ -24,13 +25,38 @@ zero_rest : (p : ℕ) → p ≡ 0 → rest_at p ≡ stop
 unfolding rest_at
 zero_rest p h = ap rest_at h
 
-is-optional : (a : Absence) → (absent_code a ≡ 0 → ⊥) → (e : List Event) × (a ≡ optional e)
-is-optional required h = absurd (h refl)
+is-optional : (a : Absence) → may_lack a ≡ true → (e : List Event) × (a ≡ optional e)
+is-optional required h = absurd (true≢false (sym h))
 is-optional (optional e) h = (e, refl)
 
-is-required : (a : Absence) → absent_code a ≡ 0 → a ≡ required
+is-required : (a : Absence) → may_lack a ≡ false → a ≡ required
 is-required required h = refl
-is-required (optional e) h = absurd (omega arith)
+is-required (optional e) h = absurd (true≢false h)
+
+-- what the tables' entries say
+pub counted-sub : (x : ℕ) (o : Option ℕ) → SomeIff o (1 ≤ x) (x - 1) → counted o ≡ x
+counted-sub x None h = omega (arith, h)
+counted-sub x (Some n) h = omega (arith, h.0, h.1)
+
+pub counted-some : (o : Option ℕ) (b : Bool) → b ≡ is_some o → b ≡ true → counted o ≡ 0 → ⊥
+counted-some None b e h z = true≢false (sym h ∙ e)
+counted-some (Some n) b e h z = omega arith
+
+pub counted-none : (o : Option ℕ) (b : Bool) → b ≡ is_some o → b ≡ false → counted o ≡ 0
+counted-none None b e h = refl
+counted-none (Some n) b e h = absurd (true≢false (sym e ∙ h))
+
+pub counted-test : (o : Option ℕ) → is_some o ≡ not (eqb (counted o) 0)
+counted-test None = refl
+counted-test (Some n) = sym (ap not (ne_eqb (suc n) 0 (λ q. omega arith)))
+
+pub may-code : (a : Absence) (x : ℕ) → x ≡ absent_code a → not (eqb x 0) ≡ may_lack a
+may-code required x h = rw h refl
+may-code (optional e) x h = rw h refl
+
+pub may-past : (a : Absence) → 1 ≡ absent_code a → true ≡ may_lack a
+may-past required h = absurd (omega arith)
+may-past (optional e) h = refl
 
 module _ (g : Grammar) (a : List ℕ) (k : ℕ) where
   -- the symbol on top takes the token
@@ -42,7 +68,7 @@ module _ (g : Grammar) (a : List ℕ) (k : ℕ) where
       let q : g.rule (get_or a d 0) k ≡ goes (get_or productions (p - 1) []) = rw z at (r ∙ nonzero_rest p h) in
       rw q refl
 
-  pub takes_none : (d p x : ℕ) → 0 < d → g.rule (get_or a (d - 1) 0) k ≡ rest_at p → p ≡ 0 → x ≡ absent_code (g.absent (get_or a (d - 1) 0)) → x ≡ 0 → takes g a d k ≡ 0
+  pub takes_none : (d p : ℕ) (x : Bool) → 0 < d → g.rule (get_or a (d - 1) 0) k ≡ rest_at p → p ≡ 0 → x ≡ may_lack (g.absent (get_or a (d - 1) 0)) → x ≡ false → takes g a d k ≡ 0
   unfolding takes
   takes_none zero p x l r h m n = absurd (omega arith)
   takes_none (suc d) p x l r h m n =
@@ -51,14 +77,14 @@ module _ (g : Grammar) (a : List ℕ) (k : ℕ) where
       let o : g.absent (get_or a d 0) ≡ required = rw z at (is-required (g.absent (get_or a (suc d - 1) 0)) (sym m ∙ n)) in
       rw (q, o) refl
 
-  pub takes-below : (d p x : ℕ) → 0 < d → g.rule (get_or a (d - 1) 0) k ≡ rest_at p → p ≡ 0 → x ≡ absent_code (g.absent (get_or a (d - 1) 0)) → (x ≡ 0 → ⊥) → takes g a d k ≡ takes g a (d - 1) k
+  pub takes-below : (d p : ℕ) (x : Bool) → 0 < d → g.rule (get_or a (d - 1) 0) k ≡ rest_at p → p ≡ 0 → x ≡ may_lack (g.absent (get_or a (d - 1) 0)) → x ≡ true → takes g a d k ≡ takes g a (d - 1) k
   unfolding takes
   takes-below zero p x l r h m n = absurd (omega arith)
   takes-below (suc d) p x l r h m n =
       let z : suc d - 1 ≡ d = omega arith in
       let q : g.rule (get_or a d 0) k ≡ stop = rw z at (r ∙ zero_rest p h) in
-      let y : x ≡ absent_code (g.absent (get_or a d 0)) = rw z at m in
-      by q (is-optional (g.absent (get_or a d 0)) (λ s. n (y ∙ s)))
+      let y : x ≡ may_lack (g.absent (get_or a d 0)) = rw z at m in
+      by q (is-optional (g.absent (get_or a d 0)) (sym y ∙ n))
     where
       by : g.rule (get_or a d 0) k ≡ stop → (e : List Event) × (g.absent (get_or a d 0) ≡ optional e) → takes g a (suc d) k ≡ takes g a (suc d - 1) k
       by q o = let z : suc d - 1 ≡ d = omega arith in rw (q, o.1, z) refl
@@ -98,8 +124,8 @@ module _ (g : Grammar) (a : List ℕ) (k : ℕ) where
   fits-live d zero h = rw (none-taken d h) refl
   fits-live d (suc t) h = let (i, r, e, u, v, w) = some-taken d (suc t) h (omega arith) in rw (ne_eqb (suc t) 0 (λ q. omega arith), w) refl
 
-  pub leads_nowhere : (d t : ℕ) (b : List ℕ) → t ≡ takes g a d k → t ≡ 0 → LeadsTo (feed g (tops a d) k) 0 b
-  leads_nowhere d t b h z = rw (none-taken d (sym h ∙ z)) refl
+  pub leads_nowhere : (d t : ℕ) (b : List ℕ) (e : ℕ) → t ≡ takes g a d k → t ≡ 0 → LeadsTo (feed g (tops a d) k) false b e
+  leads_nowhere d t b e h z = rw (none-taken d (sym h ∙ z)) refl
 
   stop≢goes : (r : List ℕ) → stop ≡ goes r → ⊥
   stop≢goes r h = let z : ◌≡◌ {A = ℕ} 0 1 = cc in omega arith
@@ -116,29 +142,28 @@ module _ (g : Grammar) (a : List ℕ) (k : ℕ) where
   goes_same r s h = cc
 
   pub leads_on : (d t p r : ℕ) (b : List ℕ) → t ≡ takes g a d k → (t ≡ 0 → ⊥) → g.rule (get_or a (t - 1) 0) k ≡ rest_at p → (p ≡ 0 → ⊥)
-      → tops b r ≡ get_or productions (p - 1) [] ++ tops a (t - 1) → LeadsTo (feed g (tops a d) k) (r + 1) b
+      → tops b r ≡ get_or productions (p - 1) [] ++ tops a (t - 1) → LeadsTo (feed g (tops a d) k) true b r
   unfolding Took
   leads_on d t p r b h n q m s =
       let (i, v, e, u, x, w) = some-taken d t (sym h) (omega arith) in
       let y : t - 1 ≡ i = omega arith in
-      let z : r + 1 - 1 ≡ r = omega arith in
       let j : get_or productions (p - 1) [] ≡ v = goes_same _ _ (sym (nonzero_rest p m) ∙ sym q ∙ ap (λ (o : ℕ). g.rule (get_or a o 0) k) y ∙ x) in
-      rw (w, z) (omega arith, rw (j, y) at s)
+      rw w (refl, rw (j, y) at s)
 
   -- symbols that may all be left out
-  pub ends-none : (d x : ℕ) → 0 < d → x ≡ absent_code (g.absent (get_or a (d - 1) 0)) → x ≡ 0 → is_ended (finish g (tops a d)) ≡ false
+  pub ends-none : (d : ℕ) (x : Bool) → 0 < d → x ≡ may_lack (g.absent (get_or a (d - 1) 0)) → x ≡ false → is_ended (finish g (tops a d)) ≡ false
   ends-none zero x l m n = absurd (omega arith)
   ends-none (suc d) x l m n =
       let z : suc d - 1 ≡ d = omega arith in
       let o : g.absent (get_or a d 0) ≡ required = rw z at (is-required (g.absent (get_or a (suc d - 1) 0)) (sym m ∙ n)) in
       rw o refl
 
-  pub ends-below : (d x : ℕ) → 0 < d → x ≡ absent_code (g.absent (get_or a (d - 1) 0)) → (x ≡ 0 → ⊥) → is_ended (finish g (tops a d)) ≡ is_ended (finish g (tops a (d - 1)))
+  pub ends-below : (d : ℕ) (x : Bool) → 0 < d → x ≡ may_lack (g.absent (get_or a (d - 1) 0)) → x ≡ true → is_ended (finish g (tops a d)) ≡ is_ended (finish g (tops a (d - 1)))
   ends-below zero x l m n = absurd (omega arith)
   ends-below (suc d) x l m n =
       let z : suc d - 1 ≡ d = omega arith in
-      let y : x ≡ absent_code (g.absent (get_or a d 0)) = rw z at m in
-      go (is-optional (g.absent (get_or a d 0)) (λ s. n (y ∙ s)))
+      let y : x ≡ may_lack (g.absent (get_or a d 0)) = rw z at m in
+      go (is-optional (g.absent (get_or a d 0)) (sym y ∙ n))
     where
       by : (e : List Event) (f : End) → is_ended (finish_by (optional e) f) ≡ is_ended f
       by e short = refl

@@ -8,10 +8,9 @@ mod tokens; // the bytes of a token
 mod symbols; // the symbols that are still to come
 mod texts; // a text, byte by byte
 
-// The answer: accepted; 25, more than 4,096 bytes; 26, and the place where the text is refused.
-#[derive(Clone, Copy)]
-pub enum Reading {
-    Accepted,
+// Why a text is refused: 25, more than 4,096 bytes; 26, and the place where no text fits any more.
+#[derive(Clone, Copy, Debug, PartialEq, Eq)]
+pub enum ReadError {
     TooLong,
     RefusedAt(usize),
 }

@@ -1,56 +1,68 @@
 // The grammar of C prototypes as tables of bytes: classes, alternatives, symbols, fixed tokens.
-ghost use Rattle.std.specs.Prelude.{◌≡◌, [], ◌≤◌, ◌<◌, length, get_or};
+ghost use Rattle.std.specs.Prelude.{◌≡◌, eqb, [], ◌≤◌, ◌<◌, length, get_or};
 ghost use Rattle.grammar.specs.Tokens.{class_of};
 ghost use Rattle.grammar.specs.Prototype.{declarations, spellings};
 ghost use Rattle.reading.specs.Productions.{productions};
-ghost use Rattle.reading.specs.Coded.{class_code, rest_at, absent_code};
+ghost use Rattle.reading.specs.Coded.{class_code, number_of, rest_at, may_lack, counted};
 
-// The class of a byte.
-pub fn class_of(b: u8) -> u8
-    ensures { result ≡ class_code (class_of b) }
-{
-    let i = wide(b);
-    CLASS[i]
+// What a byte is in a text.
+#[derive(Clone, Copy, Debug, PartialEq, Eq)]
+pub enum Class {
+    Blank = 0,
+    Letter = 1,
+    Digit = 2,
+    Dot = 3,
+    Alone = 4,
 }
 
-// The alternative of a symbol that begins with a token of kind k: 0, or one more than its production's number.
-pub fn rule(symbol: u8, k: usize) -> usize
+impl Class {
+    // What the table has for it.
+    fn number(self) -> u8
+        ensures { result ≡ number_of self }
+    {
+        self as u8
+    }
+}
+
+// Whether the byte is of this class.
+pub fn has_class(b: u8, class: Class) -> bool
+    ensures { result ≡ eqb (class_code (class_of b)) (number_of class) }
+{
+    CLASS[usize::from(b)] == class.number()
+}
+
+// The production of a symbol's alternative that begins with a token of kind k.
+pub fn rule(symbol: u8, k: usize) -> Option<usize>
     requires { k < 48 }
-    ensures { (declarations.rule symbol k ≡ rest_at result) × (result ≤ 160) }
+    ensures { (declarations.rule symbol k ≡ rest_at (counted result)) × (counted result ≤ 160) }
 {
-    let n = wide(symbol);
-    if n < 86 {
-        let i = n * 48 + k;
-        return wide(RULE[i]);
+    if symbol < 86 {
+        usize::from(RULE[usize::from(symbol) * 48 + k]).checked_sub(1)
+    } else {
+        None
     }
-    0
 }
 
-// 1 where the symbol may be left out.
-pub fn absent(symbol: u8) -> u8
-    ensures { result ≡ absent_code (declarations.absent symbol) }
+// Whether the symbol may be left out.
+pub fn may_lack(symbol: u8) -> bool
+    ensures { result ≡ may_lack (declarations.absent symbol) }
 {
-    let n = wide(symbol);
-    if n < 86 {
-        return ABSENT[n];
-    }
-    1
+    86 <= symbol || ABSENT[usize::from(symbol)] != 0
 }
 
+// How many symbols a production has, and the one at j.
 pub fn count(p: usize) -> usize
     requires { p < 160 }
     ensures { (result ≡ length (get_or productions p [])) × (result ≤ 5) }
 {
-    let i = p * 6;
-    wide(PRODUCTION[i])
+    usize::from(PRODUCTION[p * 6])
 }
 
 pub fn symbol_at(p: usize, j: usize) -> u8
     requires { (p < 160) × (j < 5) }
     ensures { result ≡ get_or (get_or productions p []) j 0 }
 {
-    let i = p * 6 + j + 1;
-    PRODUCTION[i]
+    PRODUCTION[p * 6 + j + 1]
 }
 
 // How long the fixed token number i is, and its byte at j.
@@ -58,22 +70,14 @@ pub fn spelling_length(i: usize) -> usize
     requires { i < 45 }
     ensures { (result ≡ length (get_or spellings i [])) × (result ≤ 11) }
 {
-    let at = i * 12;
-    wide(SPELLING[at])
+    usize::from(SPELLING[i * 12])
 }
 
 pub fn spelling_byte(i: usize, j: usize) -> u8
     requires { (i < 45) × (j < 11) }
     ensures { result ≡ get_or (get_or spellings i []) j 0 }
 {
-    let at = i * 12 + j + 1;
-    SPELLING[at]
-}
-
-fn wide(x: u8) -> usize
-    ensures { (result ≡ x) × (result < 256) }
-{
-    x as usize
+    SPELLING[i * 12 + j + 1]
 }
 
 // Written by tools/grammar: the tables; that they hold the grammar is tested.

@@ -6,219 +6,144 @@ ghost use Rattle.grammar.specs.Machine.{live, feed, begins, possible, some_fixed
 ghost use Rattle.grammar.specs.Prototype.{declarations, prototype, types, spellings};
 ghost use Rattle.reading.specs.Code.{tops, LeadsTo, Holds, answer_of, reading_of};
 
-use crate::{Reading, symbols, tables, tokens};
-
-// The state behind some bytes: whether some text fits behind them, how many symbols are to come, and where the token that is being read begins.
-#[derive(Clone, Copy)]
-struct Standing {
-    alive: bool,
-    depth: usize,
-    start: usize,
-}
+use crate::symbols::Symbols;
+use crate::tables::Class;
+use crate::{ReadError, tables, tokens};
 
 // Whether they begin the fixed token number i, and this may come next.
-fn fixed_fits(
-    stack: &[u8; 16400],
-    depth: usize,
-    text: &[u8],
-    start: usize,
-    end: usize,
-    i: usize,
-) -> bool
-    requires { (depth ≤ 16400) × (start ≤ end) × (end ≤ length text.now) × (i < 45) }
-    ensures { result ≡ (begins (slice start end text.now) (get_or spellings i []) && live (feed declarations (tops stack.now depth) (i + 3))) }
+fn fixed_fits(symbols: &Symbols, text: &[u8], start: usize, end: usize, i: usize) -> bool
+    requires { (start ≤ end) × (end ≤ length text.now) × (i < 45) }
+    ensures { result ≡ (begins (slice start end text.now) (get_or spellings i []) && live (feed declarations (tops symbols.now.cells symbols.now.depth) (i + 3))) }
 {
-    if tokens::begins_token(text, start, end, i) {
-        return symbols::may_come(stack, depth, i + 3);
-    }
-    false
+    tokens::begins_token(text, start, end, i) && symbols.may_come(i + 3)
 }
 
-fn some_fixed(stack: &[u8; 16400], depth: usize, text: &[u8], start: usize, end: usize) -> bool
-    requires { (depth ≤ 16400) × (start ≤ end) × (end ≤ length text.now) }
-    ensures { result ≡ some_fixed declarations (tops stack.now depth) spellings 3 (slice start end text.now) }
+fn some_fixed(symbols: &Symbols, text: &[u8], start: usize, end: usize) -> bool
+    requires { (start ≤ end) × (end ≤ length text.now) }
+    ensures { result ≡ some_fixed declarations (tops symbols.now.cells symbols.now.depth) spellings 3 (slice start end text.now) }
 {
-    let mut i = 0;
-    while i < 45 {
-        if fixed_fits(stack, depth, text, start, end, i) {
+    for i in 0..45 {
+        if fixed_fits(symbols, text, start, end, i) {
             return true;
         }
-        i += 1;
     }
     false
 }
 
 // Whether they are a number, as was found out, and one may come next.
-fn number_fits(stack: &[u8; 16400], depth: usize, number: bool) -> bool
-    requires { depth ≤ 16400 }
-    ensures { result ≡ (number && live (feed declarations (tops stack.now depth) 0)) }
+fn number_fits(symbols: &Symbols, number: bool) -> bool
+    ensures { result ≡ (number && live (feed declarations (tops symbols.now.cells symbols.now.depth) 0)) }
 {
-    if number {
-        return symbols::may_come(stack, depth, 0);
-    }
-    false
+    number && symbols.may_come(0)
 }
 
 // Whether they begin a name, and one may come next.
-fn name_fits(stack: &[u8; 16400], depth: usize, text: &[u8], start: usize, end: usize) -> bool
-    requires { (depth ≤ 16400) × (start < end) × (end ≤ length text.now) }
-    ensures { result ≡ (is_name (slice start end text.now) && live (feed declarations (tops stack.now depth) 1)) }
+fn name_fits(symbols: &Symbols, text: &[u8], start: usize, end: usize) -> bool
+    requires { (start < end) × (end ≤ length text.now) }
+    ensures { result ≡ (is_name (slice start end text.now) && live (feed declarations (tops symbols.now.cells symbols.now.depth) 1)) }
 {
-    if tables::class_of(text[start]) == 1 {
-        return symbols::may_come(stack, depth, 1);
-    }
-    false
+    tables::has_class(text[start], Class::Letter) && symbols.may_come(1)
 }
 
 // Whether they begin a token that may come next, where it is told whether they are a number.
-fn could(
-    stack: &[u8; 16400],
-    depth: usize,
-    text: &[u8],
-    start: usize,
-    end: usize,
-    number: bool,
-) -> bool
-    requires { (depth ≤ 16400) × (start < end) × (end ≤ length text.now) × (number ≡ is_number (slice start end text.now)) }
-    ensures { result ≡ possible declarations (tops stack.now depth) (slice start end text.now) }
+fn could(symbols: &Symbols, text: &[u8], start: usize, end: usize, number: bool) -> bool
+    requires { (start < end) × (end ≤ length text.now) × (number ≡ is_number (slice start end text.now)) }
+    ensures { result ≡ possible declarations (tops symbols.now.cells symbols.now.depth) (slice start end text.now) }
 {
-    if number_fits(stack, depth, number) {
-        return true;
-    }
-    if name_fits(stack, depth, text, start, end) {
-        return true;
-    }
-    some_fixed(stack, depth, text, start, end)
+    number_fits(symbols, number)
+        || name_fits(symbols, text, start, end)
+        || some_fixed(symbols, text, start, end)
 }
 
-// The token before i is whole.
-fn end_token(stack: &mut [u8; 16400], depth: usize, text: &[u8], start: usize, i: usize) -> usize
-    requires { (depth + 5 ≤ 16400) × (start ≤ i) × (i ≤ length text.now) }
-    ensures { LeadsTo (flush declarations (slice start i text.now) (tops stack.old depth) []) result stack.new × (result ≤ depth + 1 + 4 * (i - start)) }
+// The token before i is whole: whether it may come, and then the symbols are those behind it.
+fn end_token(symbols: &mut Symbols, text: &[u8], start: usize, i: usize) -> bool
+    requires { (symbols.old.depth + 5 ≤ 16400) × (start ≤ i) × (i ≤ length text.now) }
+    ensures { LeadsTo (flush declarations (slice start i text.now) (tops symbols.old.cells symbols.old.depth) []) result symbols.new.cells symbols.new.depth
+        × (symbols.new.depth ≤ symbols.old.depth + 4 * (i - start)) }
 {
-    if start == i {
-        return depth + 1;
-    }
-    let k = tokens::kind_of(text, start, i);
-    symbols::lead(stack, depth, k)
+    start == i || symbols.lead(tokens::kind_of(text, start, i))
 }
 
-// One byte more, where it is told whether the token before it is a number so far.
+// One byte more, where it is told whether the token before it is a number so far: where the token begins that is being read then, if some text fits behind it.
 fn read_byte(
-    stack: &mut [u8; 16400],
-    depth: usize,
+    symbols: &mut Symbols,
     text: &[u8],
     start: usize,
     i: usize,
     number: bool,
-) -> Standing
-    requires { (depth ≤ 6 + 4 * start) × (start ≤ i) × (i < length text.now) × (length text.now ≤ 4096) × (number ≡ is_number (slice start i text.now)) }
-    ensures { Holds text.now (i + 1) (step declarations (at (slice start i text.now) (tops stack.old depth) []) (get_or text.now i 0)) result.alive result.depth result.start stack.new }
+) -> Option<usize>
+    requires { (symbols.old.depth ≤ 6 + 4 * start) × (start ≤ i) × (i < length text.now) × (length text.now ≤ 4096) × (number ≡ is_number (slice start i text.now)) }
+    ensures { Holds text.now (i + 1) (step declarations (at (slice start i text.now) (tops symbols.old.cells symbols.old.depth) []) (get_or text.now i 0)) result symbols.new.cells symbols.new.depth }
 {
     if tokens::joins_on(text, start, i) {
         let more = tokens::number_on(text, start, i, number);
-        return Standing {
-            alive: could(stack, depth, text, start, i + 1, more),
-            depth,
-            start,
-        };
+        return could(symbols, text, start, i + 1, more).then_some(start);
     }
-    let d = end_token(stack, depth, text, start, i);
-    if d == 0 {
-        return Standing {
-            alive: false,
-            depth: 0,
-            start: 0,
-        };
+    if !end_token(symbols, text, start, i) {
+        return None;
     }
-    if tables::class_of(text[i]) == 0 {
-        return Standing {
-            alive: true,
-            depth: d - 1,
-            start: i + 1,
-        };
+    if tables::has_class(text[i], Class::Blank) {
+        return Some(i + 1);
     }
     let digit = tokens::number_on(text, i, i, false);
-    Standing {
-        alive: could(stack, d - 1, text, i, i + 1, digit),
-        depth: d - 1,
-        start: i,
-    }
+    could(symbols, text, i, i + 1, digit).then_some(i)
 }
 
 // The end of the text.
-fn read_end(stack: &mut [u8; 16400], depth: usize, text: &[u8], start: usize) -> bool
-    requires { (depth ≤ 6 + 4 * start) × (start ≤ length text.now) × (length text.now ≤ 4096) }
-    ensures { result ≡ is_ended (close declarations (at (slice start (length text.now) text.now) (tops stack.old depth) [])) }
+fn read_end(symbols: &mut Symbols, text: &[u8], start: usize) -> bool
+    requires { (symbols.old.depth ≤ 6 + 4 * start) × (start ≤ length text.now) × (length text.now ≤ 4096) }
+    ensures { result ≡ is_ended (close declarations (at (slice start (length text.now) text.now) (tops symbols.old.cells symbols.old.depth) [])) }
 {
-    let d = end_token(stack, depth, text, start, text.len());
-    if d == 0 {
-        return false;
-    }
-    symbols::ends(stack, d - 1)
+    end_token(symbols, text, start, text.len()) && symbols.may_end()
 }
 
-// Reads a text of at most 4,096 bytes, of the symbols that stand on the stack.
-fn read_on(text: &[u8], stack: &mut [u8; 16400], height: usize) -> Reading
-    requires { (length text.now ≤ 4096) × (height ≤ 6) }
-    ensures { result ≡ answer_of (read_text declarations (tops stack.old height) text.now) }
+// Reads a text of at most 4,096 bytes, of the symbols that are to come.
+fn read_on(text: &[u8], symbols: &mut Symbols) -> Result<(), ReadError>
+    requires { (length text.now ≤ 4096) × (symbols.old.depth ≤ 6) }
+    ensures { result ≡ answer_of (read_text declarations (tops symbols.old.cells symbols.old.depth) text.now) }
 {
-    let mut depth = height;
     let mut start = 0;
     let mut number = false;
-    let mut i = 0;
-    while i < text.len() {
-        let s = read_byte(stack, depth, text, start, i, number);
-        if !s.alive {
-            return Reading::RefusedAt(i);
-        }
-        number = tokens::number_by(text, start, i, s.start, number);
-        depth = s.depth;
-        start = s.start;
-        i += 1;
+    for i in 0..text.len() {
+        let Some(next) = read_byte(symbols, text, start, i, number) else {
+            return Err(ReadError::RefusedAt(i));
+        };
+        number = tokens::number_by(text, start, i, next, number);
+        start = next;
     }
-    if read_end(stack, depth, text, start) {
-        return Reading::Accepted;
+    if read_end(symbols, text, start) {
+        Ok(())
+    } else {
+        Err(ReadError::RefusedAt(text.len()))
     }
-    Reading::RefusedAt(i)
-}
-
-// Reads a prototype of at most 4,096 bytes. The stack may hold anything.
-fn prototype_with(text: &[u8], stack: &mut [u8; 16400]) -> Reading
-    requires { length text.now ≤ 4096 }
-    ensures { result ≡ answer_of (read_text declarations prototype text.now) }
-{
-    let height = symbols::start_prototype(stack);
-    read_on(text, stack, height)
-}
-
-// Reads the types of further arguments.
-fn types_with(text: &[u8], stack: &mut [u8; 16400]) -> Reading
-    requires { length text.now ≤ 4096 }
-    ensures { result ≡ answer_of (read_text declarations types text.now) }
-{
-    let height = symbols::start_types(stack);
-    read_on(text, stack, height)
 }
 
 // Reads a prototype.
-pub fn read_prototype(text: &[u8]) -> Reading
+pub fn read_prototype(text: &[u8]) -> Result<(), ReadError>
     ensures { result ≡ reading_of prototype text.now }
 {
     if 4096 < text.len() {
-        return Reading::TooLong;
+        return Err(ReadError::TooLong);
     }
-    let mut stack = [0u8; 16400];
-    prototype_with(text, &mut stack)
+    let mut symbols = Symbols {
+        cells: [0; 16400],
+        depth: 0,
+    };
+    symbols.start_prototype();
+    read_on(text, &mut symbols)
 }
 
 // Reads the types of further arguments.
-pub fn read_types(text: &[u8]) -> Reading
+pub fn read_types(text: &[u8]) -> Result<(), ReadError>
     ensures { result ≡ reading_of types text.now }
 {
     if 4096 < text.len() {
-        return Reading::TooLong;
+        return Err(ReadError::TooLong);
     }
-    let mut stack = [0u8; 16400];
-    types_with(text, &mut stack)
+    let mut symbols = Symbols {
+        cells: [0; 16400],
+        depth: 0,
+    };
+    symbols.start_types();
+    read_on(text, &mut symbols)
 }

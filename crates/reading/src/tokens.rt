@@ -7,6 +7,7 @@ ghost use Rattle.grammar.specs.Machine.{begins, joins_run};
 ghost use Rattle.grammar.specs.Prototype.{spellings};
 
 use crate::tables;
+use crate::tables::Class;
 
 // Whether the bytes from start to end begin the fixed token number i.
 pub fn begins_token(text: &[u8], start: usize, end: usize, i: usize) -> bool
@@ -17,12 +18,10 @@ pub fn begins_token(text: &[u8], start: usize, end: usize, i: usize) -> bool
     if tables::spelling_length(i) < n {
         return false;
     }
-    let mut j = 0;
-    while j < n {
+    for j in 0..n {
         if tables::spelling_byte(i, j) != text[start + j] {
             return false;
         }
-        j += 1;
     }
     true
 }
@@ -32,10 +31,7 @@ fn is_token(text: &[u8], start: usize, end: usize, i: usize) -> bool
     requires { (start ≤ end) × (end ≤ length text.now) × (i < 45) }
     ensures { result ≡ same (get_or spellings i []) (slice start end text.now) }
 {
-    if tables::spelling_length(i) != end - start {
-        return false;
-    }
-    begins_token(text, start, end, i)
+    tables::spelling_length(i) == end - start && begins_token(text, start, end, i)
 }
 
 // Whether they are a number: digits, with no zero in front of others.
@@ -44,20 +40,15 @@ pub fn is_number(text: &[u8], start: usize, end: usize) -> bool
     ensures { result ≡ is_number (slice start end text.now) }
 {
     let first = text[start];
-    if tables::class_of(first) != 2 {
+    if !tables::has_class(first, Class::Digit) {
         return false;
     }
-    let mut j = start + 1;
-    while j < end {
-        if tables::class_of(text[j]) != 2 {
+    for j in start + 1..end {
+        if !tables::has_class(text[j], Class::Digit) {
             return false;
         }
-        j += 1;
     }
-    if first != 48 {
-        return true;
-    }
-    start + 1 == end
+    first != b'0' || start + 1 == end
 }
 
 // Whether the token that begins at start is a number with the byte at i too, where it is told whether it is one before that byte: so no token is looked through for each of its bytes.
@@ -65,16 +56,10 @@ pub fn number_on(text: &[u8], start: usize, i: usize, number: bool) -> bool
     requires { (start ≤ i) × (i < length text.now) × (number ≡ is_number (slice start i text.now)) }
     ensures { result ≡ is_number (slice start (i + 1) text.now) }
 {
-    if tables::class_of(text[i]) != 2 {
+    if !tables::has_class(text[i], Class::Digit) {
         return false;
     }
-    if start == i {
-        return true;
-    }
-    if number {
-        return text[start] != 48;
-    }
-    false
+    start == i || (number && text[start] != b'0')
 }
 
 // The same where the token begins at `next` behind that byte.
@@ -85,10 +70,7 @@ pub fn number_by(text: &[u8], start: usize, i: usize, next: usize, number: bool)
     if next == start {
         return number_on(text, start, i, number);
     }
-    if i < next {
-        return false;
-    }
-    is_number(text, next, i + 1)
+    next <= i && is_number(text, next, i + 1)
 }
 
 // The kind of the token that they are.
@@ -99,45 +81,34 @@ pub fn kind_of(text: &[u8], start: usize, end: usize) -> usize
     if is_number(text, start, end) {
         return 0;
     }
-    let mut i = 0;
-    while i < 45 {
+    for i in 0..45 {
         if is_token(text, start, end, i) {
             return i + 3;
         }
-        i += 1;
     }
-    if tables::class_of(text[start]) == 1 {
-        return 1;
+    if tables::has_class(text[start], Class::Letter) {
+        1
+    } else {
+        2
     }
-    2
 }
 
 // Whether two bytes, one behind the other, are of one token.
 fn joined(a: u8, b: u8) -> bool
     ensures { result ≡ joins (class_of a) (class_of b) }
 {
-    let c = tables::class_of(a);
-    let d = tables::class_of(b);
-    if c == 3 {
-        return d == 3;
+    if tables::has_class(a, Class::Dot) {
+        tables::has_class(b, Class::Dot)
+    } else {
+        wordy(a) && wordy(b)
     }
-    if c == 1 {
-        return wordy(b);
-    }
-    if c == 2 {
-        return wordy(b);
-    }
-    false
 }
 
+// Whether a byte is a letter or a digit.
 fn wordy(b: u8) -> bool
     ensures { result ≡ (is_letter (class_of b) || is_digit (class_of b)) }
 {
-    let d = tables::class_of(b);
-    if d == 1 {
-        return true;
-    }
-    d == 2
+    tables::has_class(b, Class::Letter) || tables::has_class(b, Class::Digit)
 }
 
 // Whether the byte at i joins the token that begins at start.
@@ -145,8 +116,5 @@ pub fn joins_on(text: &[u8], start: usize, i: usize) -> bool
     requires { (start ≤ i) × (i < length text.now) }
     ensures { result ≡ joins_run (slice start i text.now) (get_or text.now i 0) }
 {
-    if start < i {
-        return joined(text[start], text[i]);
-    }
-    false
+    start < i && joined(text[start], text[i])
 }

@@ -16,14 +16,14 @@ use Rattle.types.proofs.Large.{accepted-form}
 use Rattle.uses.proofs.Uses.{accepted-types}
 use Rattle.layout.specs.Arguments.{shape_at as layout_shape, shapes_from, used_at as layout_used, area_of as layout_area}
 use Rattle.layout.specs.declared.Layout.{Layout}
-use Rattle.layout.specs.Layout.{layout_of, layout_answer}
+use Rattle.layout.specs.Layout.{layout_of, layout_answer, check_answer}
 use Rattle.layout.specs.Verdict.{check_order, verdict}
 use Rattle.layout.proofs.Layouts.{laid-accepted, refused-verdict, refused-nonzero}
 use Rattle.layout.proofs.Arguments.{length-shapes, shapes-split}
 use Rattle.layout.proofs.Verdict.{accepted-uses}
 use Rattle.places.specs.Shapes.{Shape}
 use Rattle.places.specs.Places.{eights, after}
-use Rattle.station.specs.Paper.{kcb, verdict_of, refusal_under, arguments, shape_at, type_at, used_at, area_of}
+use Rattle.station.specs.Paper.{kcb, verdict_of, refusal_under, answer_under, arguments, shape_at, type_at, used_at, area_of}
 
 pub kcb-verdict : (d : List ℕ) → verdict_of kcb d ≡ verdict d
 unfolding kcb verdict_of verdict
@@ -40,6 +40,11 @@ laid-right d l e = let z = laid-accepted d l e in (kcb-verdict d ∙ z.0, z.1)
 pub laid-not : (d : List ℕ) (r : Refusal) → layout_answer d ≡ Err r → (r ≡ refusal_under kcb d (verdict_of kcb d)) × (verdict_of kcb d ≢ 0)
 laid-not d r e =
     (refused-verdict d r e ∙ sym (kcb-refusal d (verdict d)) ∙ ap (refusal_under kcb d) (sym (kcb-verdict d)), λ v. refused-nonzero d r e (sym (kcb-verdict d) ∙ v))
+
+-- the verdict's answer, under the number that it is
+pub checked-as : (d : List ℕ) (n : ℕ) → n ≡ verdict_of kcb d → check_answer d ≡ answer_under kcb d n tt
+unfolding check_answer answer_under
+checked-as d n e = rw (e, kcb-verdict d, kcb-refusal)
 
 pub kcb-registers : kcb.registers ≡ 176
 unfolding kcb

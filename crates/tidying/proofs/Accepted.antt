@@ -27,10 +27,10 @@ use Rattle.layout.proofs.Verdict.{no_ten, accepted-uses, accepted-area}
 use Rattle.tidying.specs.Call.{Returned, void, returned, Call, returned_by, call_of}
 use Rattle.tidying.specs.Numbering.{index_of, table_of}
 use Rattle.tidying.specs.Ordered.{at, AllBelow, Below}
-use Rattle.tidying.specs.Tidy.{members_of, many_of, separate, kind_of, second_of, count_of, records_of, numbers_of, runs_of, return_number, head_of, tidy_by, tidy_of}
+use Rattle.tidying.specs.Tidy.{start_of, members_of, many_of, separate, kind_of, second_of, count_of, records_of, numbers_of, runs_of, return_number, head_of, tidy_by, tidy_of}
 use Rattle.tidying.proofs.Tables.{at-index}
 use Rattle.tidying.proofs.Reached.{ReturnNumbered, return_index, table-right}
-use Rattle.tidying.proofs.Bytes.{start_of, length-records, length_runs, types-tidy, flags-tidy, named-tidy, arguments-tidy, return_tidy, members-tidy, kind-tidy, second-tidy, count-tidy, member-tidy, argument-tidy}
+use Rattle.tidying.proofs.Bytes.{length-records, length_runs, types-tidy, flags-tidy, named-tidy, arguments-tidy, return_tidy, members-tidy, kind-tidy, second-tidy, count-tidy, member-tidy, argument-tidy}
 use Rattle.tidying.proofs.Decoded.{type-said, numbered-at, call-said}
 use Rattle.tidying.proofs.Laid.{many-call, flags-call, named-call, argument-call, area-call, model-flags, model-call}
 use Rattle.tidying.proofs.Known.{Known, table-known, table-no_more}

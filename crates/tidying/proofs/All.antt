@@ -1,5 +1,5 @@
 -- All types of a call are numbered: what `reach_all` cites. Assumes nothing.
-use mathlib.Core.Path.{◌≡◌, refl, sym, ◌∙◌}
+use mathlib.Core.Path.{◌≡◌, refl, ap, ◌∙◌}
 use mathlib.Core.List.{List, []}
 use Prim.Native.Nat.{ℕ, ◌≤◌, ◌<◌}
 use native.Mathlib.Omega.{arith}
@@ -15,7 +15,7 @@ use Rattle.uses.proofs.Uses.{accepted-types, accepted-return, right-below}
 use Rattle.layout.specs.Arguments.{is_void}
 use Rattle.tidying.specs.Call.{trees_from, returned_by, call_of}
 use Rattle.tidying.specs.Numbering.{reached, reached_by, reached_from, table_of}
-use Rattle.tidying.specs.Asks.{Has, tabled, Numbers, Numbered, AllNumbered}
+use Rattle.tidying.specs.Asks.{Has, tabled, Numbers, AllNumbered}
 use Rattle.tidying.proofs.Reached.{ordered-none}
 
 module _ (d : List ℕ) (right : uses_refusal d ≡ 0) where
@@ -42,36 +42,31 @@ module _ (d : List ℕ) (right : uses_refusal d ≡ 0) where
       parts = λ k l h. absurd (h (none k (omega (arith, l, few))));
     }
 
-table-call : (d : List ℕ) (a : List Ty) → a ≡ reached_by [] (returned_by d) → reached_from a (trees_from d 0 (arguments_in d)) ≡ table_of (call_of d)
-unfolding table_of call_of
-table-call d a e = rw e
-
-returned-void : (d : List ℕ) → return_in d ≡ 255 → reached_by [] (returned_by d) ≡ []
-unfolding reached_by returned_by is_void
-returned-void d e = rw (eq-eqb (return_in d) 255 e)
-
-returned-type : (d : List ℕ) → (return_in d ≡ 255 → ⊥) → reached_by [] (returned_by d) ≡ reached [] (ty_at d (return_in d))
-unfolding reached_by returned_by is_void
-returned-type d h = rw (ne_eqb (return_in d) 255 h)
-
 tabled-none : (d old : List ℕ) → tabled d old 0 ≡ []
 unfolding tabled
 tabled-none d old = refl
 
-module _ (d new₀ old₀ new old : List ℕ) (n : ℕ) (s : Numbers d new old n) (arguments : (i : ℕ) → i < arguments_in d → Has new (argument_at d i)) where
-  pub all-void : return_in d ≡ 255 → tabled d old n ≡ reached_from (tabled d old₀ 0) (trees_from d 0 (arguments_in d)) → AllNumbered d new old n
-  all-void e q = record {
-    numbers = s;
-    is = q ∙ table-call d (tabled d old₀ 0) (tabled-none d old₀ ∙ sym (returned-void d e));
-    returns = λ h. absurd (h e);
-    arguments = arguments;
-  }
+-- through return
+module _ (d old : List ℕ) (n : ℕ) where
+  pub return_void : return_in d ≡ 255 → tabled d old n ≡ reached_by (tabled d old n) (returned_by d)
+  unfolding reached_by returned_by is_void
+  return_void e = rw (eq-eqb (return_in d) 255 e)
 
-  pub all_after : (k m : ℕ) (mid was : List ℕ) → k ≡ return_in d → (k ≡ 255 → ⊥) → Numbered d k new₀ mid was m (reached (tabled d old₀ 0) (ty_at d k)) → ((i : ℕ) → Has mid i → Has new i)
-      → tabled d old n ≡ reached_from (tabled d was m) (trees_from d 0 (arguments_in d)) → AllNumbered d new old n
-  all_after k m mid was e h r kept q = record {
-    numbers = s;
-    is = q ∙ table-call d (tabled d was m) (r.is ∙ rw (tabled-none d old₀, e) (sym (returned-type d (λ z. h (e ∙ z)))));
-    returns = λ z. kept (return_in d) (rw e at r.has);
-    arguments = arguments;
-  }
+  pub return_type : (was : List ℕ) (m k : ℕ) → k ≡ return_in d → (k ≡ 255 → ⊥) → tabled d was m ≡ reached (tabled d old n) (ty_at d k) → tabled d was m ≡ reached_by (tabled d old n) (returned_by d)
+  unfolding reached_by returned_by is_void
+  return_type was m k e h q = rw (ne_eqb (return_in d) 255 (λ z. h (e ∙ z))) (q ∙ rw e)
+
+-- then arguments
+pub all_reached : (d new old : List ℕ) (n : ℕ) → Numbers d new old n → (old₀ mid was : List ℕ) (m : ℕ) → tabled d was m ≡ reached_by (tabled d old₀ 0) (returned_by d)
+    → ((return_in d ≡ 255 → ⊥) → Has mid (return_in d)) → tabled d old n ≡ reached_from (tabled d was m) (trees_from d 0 (arguments_in d))
+    → ((i : ℕ) → i < arguments_in d → Has new (argument_at d i)) → ((i : ℕ) → Has mid i → Has new i) → AllNumbered d new old n
+unfolding table_of call_of
+all_reached d new old n s old₀ mid was m er hr ea ha kept = record {
+  numbers = s;
+  is = ea ∙ ap (λ (l : List Ty). reached_from l (trees_from d 0 (arguments_in d))) er ∙ table-call;
+  returns = λ h. kept (return_in d) (hr h);
+  arguments = ha;
+}
+  where
+    table-call : reached_from (reached_by (tabled d old₀ 0) (returned_by d)) (trees_from d 0 (arguments_in d)) ≡ table_of (call_of d)
+    table-call = rw (tabled-none d old₀)

@@ -4,12 +4,11 @@ use mathlib.Core.Path.{◌≡◌, refl, sym, ap, ◌∙◌}
 use mathlib.Core.Logic.{◌↔◌, ◌≢◌}
 use mathlib.Core.Bool.{Bool, true, false, cond}
 use mathlib.Core.List.{List, [], ◌∷◌}
-use Prim.Native.Nat.{ℕ, ◌+◌, ◌*◌, ◌≤◌, ◌<◌}
+use Prim.Native.Nat.{ℕ, ◌≤◌, ◌<◌}
 use native.Mathlib.Omega.{arith}
-use borrow.Author.Tests.{eq-eqb, ne_eqb, eqb-true, eqb-false, lt-ltb, le-ltb, ltb-false}
-use lib.Dec.{eqb}
-use lib.ListN.{length, get_or, replicate, get_or-replicate}
-use Rattle.description.specs.Description.{arguments_in, return_in}
+use borrow.Author.Tests.{eq-eqb, ne_eqb, lt-ltb, le-ltb, ltb-false}
+use lib.ListN.{length, get_or}
+use Rattle.description.specs.Description.{return_in}
 use Rattle.form.specs.Order.{rule, NoneHolds, Answers, Positive}
 use Rattle.form.specs.declared.Refusal.{Refusal}
 use Rattle.form.specs.Reading.{refusal_at, refusal_by, refusal_of}
@@ -23,12 +22,12 @@ use Rattle.layout.specs.Verdict.{check_order, verdict}
 use Rattle.layout.proofs.Verdict.{check-positive}
 use Rattle.tidying.specs.Call.{void, returned, returned_by, call_of}
 use Rattle.tidying.specs.Numbering.{table_of}
-use Rattle.tidying.specs.Tidy.{separate, return_number, tidy_of}
-use Rattle.tidying.specs.Answers.{tidied, too_many, other_length, length_order, tidy_order, length_refusal, tidy_refusal, length_answer, tidy_after, count_answer}
+use Rattle.tidying.specs.Tidy.{separate, return_number}
+use Rattle.tidying.specs.Answers.{tidied, too_many, other_length, length_order, tidy_order, length_refusal, tidy_refusal, length_answer, tidy_answer, tidy_after}
 use Rattle.tidying.specs.Statements.{Tidiable}
-use Rattle.tidying.specs.Asks.{AllNumbered, AskWrite, AskHead}
-use Rattle.tidying.proofs.All.{all-headed, return_low}
-use Rattle.tidying.proofs.Stores.{write_many, write_low, write_length, number_at}
+use Rattle.tidying.specs.Asks.{AllNumbered}
+use Rattle.tidying.proofs.All.{return_low}
+use Rattle.tidying.proofs.Stores.{write_low, number_at}
 
 -- ---- which number, exactly
 
@@ -56,11 +55,7 @@ pub tidy-none_exactly : (d : List ℕ) (room : ℕ) → (tidy_refusal d room ≡
 unfolding tidy_refusal
 tidy-none_exactly d room = accepts-exactly (tidy_order d room) (tidy-positive d room)
 
-number_in : (d : List ℕ) (n : ℕ) → (refusal_for d n).number ≡ n
-unfolding refusal_for refusal_by refusal_at
-number_in d n = refl
-
--- ---- what counting answers
+-- ---- what numbering answers
 
 module _ (d : List ℕ) where
   length-verdict : (verdict d ≡ 0 → ⊥) → length_refusal d ≡ verdict d
@@ -87,112 +82,51 @@ module _ (d : List ℕ) where
   unfolding too_many
   length-few h = ltb-false 255 (separate (table_of (call_of d))) ((length-none_exactly d).0 h).1.1.1.1.1.1.1.1.1.1.0
 
-  pub accepted-number : (r : Refusal) → r ≡ refusal_for d (verdict d) → r.number ≡ 0 → verdict d ≡ 0
-  accepted-number r e h = sym (number_in d (verdict d)) ∙ ap (λ (x : Refusal). x.number) (sym e) ∙ h
-
-  count-refused : (n : ℕ) → length_refusal d ≡ n → n ≢ 0 → (r : Refusal) → r ≡ refusal_for d n → Err r ≡ count_answer d
-  unfolding count_answer
-  count-refused n e h r q = rw (e, ne_eqb n 0 h, q)
-
   -- 1 to 10
-  module _ (r : Refusal) (e : r ≡ refusal_for d (verdict d)) (h : r.number ≡ 0 → ⊥) where
-    refused : verdict d ≢ 0
-    refused q = h (ap (λ (x : Refusal). x.number) e ∙ number_in d (verdict d) ∙ q)
-
-    pub count-early : Err r ≡ count_answer d
-    count-early = count-refused (verdict d) (length-verdict refused) refused r e
-
-    pub early_refuses : length_refusal d ≢ 0
-    early_refuses q = refused (length-accepted q)
+  pub number-early : verdict d ≢ 0 → (r : Refusal) → r ≡ refusal_for d (verdict d) → (length_refusal d ≢ 0) × (r ≡ refusal_for d (length_refusal d))
+  number-early h r e = let q = length-verdict h in (λ z. h (sym q ∙ z), e ∙ ap (refusal_for d) (sym q))
 
   -- 29
-  module _ (v : verdict d ≡ 0) (m : ℕ) (em : m ≡ separate (table_of (call_of d))) where
-    pub count-many : 255 < m → (r : Refusal) → r ≡ refusal_of 29 → Err r ≡ count_answer d
-    count-many l r e = count-refused 29 (twenty_nine v (omega (arith, l, em))) (λ z. omega (arith, z)) r (e ∙ sym (no_type d 29 refl refl))
-
-    pub many-refuses : 255 < m → length_refusal d ≢ 0
-    many-refuses l q = omega (arith, l, em, length-few q)
-
-    pub count-counted : m ≤ 255 → (n : ℕ) → n ≡ length (table_of (call_of d)) → Ok (n, m) ≡ count_answer d
-    unfolding count_answer
-    count-counted l n en = rw (no_twenty_nine v (omega (arith, l, em)), en, em)
-
--- ---- what the calls answer, by the count
-
--- what is numbered and counted, where nothing refuses
-pub counted-write : (d new old : List ℕ) (n : ℕ) → AllNumbered d new old n → separate (table_of (call_of d)) ≤ 255 → AskWrite d new old (length (table_of (call_of d)))
-counted-write d new old n all few = rw (write_many d new old n all) (record { all = all; few = few })
-
-pub counted-low : (d new old : List ℕ) → AskWrite d new old (length (table_of (call_of d))) → (11 ≤ length d) × ((length (table_of (call_of d)) ≤ 64) × (separate (table_of (call_of d)) ≤ 255))
-counted-low d new old w = (all-headed d w.all.numbers.right, ((write_low d new old (length (table_of (call_of d))) w.all).0, w.few))
-
-pub counted-length : (d new old : List ℕ) → AskWrite d new old (length (table_of (call_of d))) → (n m r : ℕ) → n ≡ length (table_of (call_of d)) → m ≡ separate (table_of (call_of d))
-    → r ≡ 11 + 4 * n + m + arguments_in d → r ≡ length (tidied d)
-counted-length d new old w n m r en em er = omega (arith, er, en, em, write_length d new old (length (table_of (call_of d))) w.all)
-
-module _ (d : List ℕ) where
-  answered : (b : Bool) → eqb (length_refusal d) 0 ≡ b
-      → count_answer d ≡ cond b (Ok (length (table_of (call_of d)), separate (table_of (call_of d)))) (Err (refusal_for d (length_refusal d)))
-  unfolding count_answer
-  answered b e = rw e
-
-  -- a count that is there
-  pub counted : (n m : ℕ) → count_answer d ≡ Ok (n, m) → (length_refusal d ≡ 0) × ((n ≡ length (table_of (call_of d))) × (m ≡ separate (table_of (call_of d))))
-  counted n m e = by (eqb (length_refusal d) 0) refl
-    where
-      by : (b : Bool) → eqb (length_refusal d) 0 ≡ b → (length_refusal d ≡ 0) × ((n ≡ length (table_of (call_of d))) × (m ≡ separate (table_of (call_of d))))
-      by true q = let z : ◌≡◌ {A = Result (ℕ × ℕ) Refusal} (Ok (n, m)) (Ok (length (table_of (call_of d)), separate (table_of (call_of d)))) = sym e ∙ answered true q in
-          let y : ◌≡◌ {A = ℕ × ℕ} (n, m) (length (table_of (call_of d)), separate (table_of (call_of d))) = cc in
-          (eqb-true (length_refusal d) 0 q, (ap (λ (p : ℕ × ℕ). p.0) y, ap (λ (p : ℕ × ℕ). p.1) y))
-      by false q = absurd (let z : ◌≡◌ {A = Result (ℕ × ℕ) Refusal} (Ok (n, m)) (Err (refusal_for d (length_refusal d))) = sym e ∙ answered false q in let f : ◌≡◌ {A = ℕ} 0 1 = cc in omega arith)
-
-  -- one that is not
-  not_counted : (r : Refusal) → count_answer d ≡ Err r → (length_refusal d ≢ 0) × (r ≡ refusal_for d (length_refusal d))
-  not_counted r e = by (eqb (length_refusal d) 0) refl
-    where
-      by : (b : Bool) → eqb (length_refusal d) 0 ≡ b → (length_refusal d ≢ 0) × (r ≡ refusal_for d (length_refusal d))
-      by true q = absurd (let z : ◌≡◌ {A = Result (ℕ × ℕ) Refusal} (Err r) (Ok (length (table_of (call_of d)), separate (table_of (call_of d)))) = sym e ∙ answered true q in let f : ◌≡◌ {A = ℕ} 0 1 = cc in omega arith)
-      by false q = let z : ◌≡◌ {A = Result (ℕ × ℕ) Refusal} (Err r) (Err (refusal_for d (length_refusal d))) = sym e ∙ answered false q in (eqb-false (length_refusal d) 0 q, cc)
+  pub number-many : verdict d ≡ 0 → 255 < separate (table_of (call_of d)) → (r : Refusal) → r ≡ refusal_of 29 → (length_refusal d ≢ 0) × (r ≡ refusal_for d (length_refusal d))
+  number-many v l r e = let q = twenty_nine v l in (λ z. omega (arith, z, q), e ∙ sym (no_type d 29 refl refl) ∙ ap (refusal_for d) (sym q))
 
   -- the length
-  pub length-refused : (f r : Refusal) → count_answer d ≡ Err f → r ≡ f → Err r ≡ length_answer d
+  pub length-refused : length_refusal d ≢ 0 → (r : Refusal) → r ≡ refusal_for d (length_refusal d) → ◌≡◌ {A = Result Bytes Refusal} (Err r) (length_answer d)
   unfolding length_answer
-  length-refused f r e q = let h = not_counted f e in rw (ne_eqb (length_refusal d) 0 h.0, q, h.1)
+  length-refused h r e = rw (ne_eqb (length_refusal d) 0 h, e)
 
-  pub length-known : length_refusal d ≡ 0 → (n : Bytes) → n.0 ≡ length (tidied d) → Ok n ≡ length_answer d
+  pub length-known : length_refusal d ≡ 0 → (n : Bytes) → n.0 ≡ length (tidied d) → ◌≡◌ {A = Result Bytes Refusal} (Ok n) (length_answer d)
   unfolding length_answer
   length-known z n q = rw (z, ← q)
 
 module _ (d out : List ℕ) where
   refused-by : (n : ℕ) → tidy_refusal d (length out) ≡ n → n ≢ 0 → (r : Refusal) → r ≡ refusal_for d n
-      → (r ≡ refusal_for d (tidy_refusal d (length out))) × (out ≡ tidy_after d out)
-  unfolding tidy_after
-  refused-by n e h r q = (q ∙ ap (refusal_for d) (sym e), rw (e, ne_eqb n 0 h))
+      → (◌≡◌ {A = Result (Unit {0}) Refusal} (Err r) (tidy_answer d (length out))) × (out ≡ tidy_after d out)
+  unfolding tidy_after tidy_answer
+  refused-by n e h r q = (rw (e, ne_eqb n 0 h, q), rw (e, ne_eqb n 0 h))
 
   behind : length_refusal d ≡ 0 → (b : Bool) → other_length d (length out) ≡ b → tidy_refusal d (length out) ≡ cond b 11 0
   unfolding tidy_refusal length_refusal
   behind v b e = first-behind (length_order d) (rule 11 (other_length d (length out)) ∷ []) (length-positive d) v ∙ rw e
 
   -- 1 to 10, and 29
-  pub tidy-early : (f r : Refusal) → count_answer d ≡ Err f → r ≡ f → (r ≡ refusal_for d (tidy_refusal d (length out))) × (out ≡ tidy_after d out)
+  pub tidy-early : length_refusal d ≢ 0 → (r : Refusal) → r ≡ refusal_for d (length_refusal d) → (◌≡◌ {A = Result (Unit {0}) Refusal} (Err r) (tidy_answer d (length out))) × (out ≡ tidy_after d out)
   unfolding tidy_refusal length_refusal
-  tidy-early f r e q =
-      let h = not_counted d f e in
-      refused-by (length_refusal d) (first-before (length_order d) (rule 11 (other_length d (length out)) ∷ []) h.0) h.0 r (q ∙ h.1)
+  tidy-early h r e = refused-by (length_refusal d) (first-before (length_order d) (rule 11 (other_length d (length out)) ∷ []) h) h r e
 
   -- 11
   pub tidy-room : length_refusal d ≡ 0 → length out ≢ length (tidied d) → (r : Refusal) → r ≡ refusal_of 11
-      → (r ≡ refusal_for d (tidy_refusal d (length out))) × (out ≡ tidy_after d out)
+      → (◌≡◌ {A = Result (Unit {0}) Refusal} (Err r) (tidy_answer d (length out))) × (out ≡ tidy_after d out)
   unfolding other_length
   tidy-room v h r e =
       refused-by 11 (behind v true (rw (ne_eqb (length out) (length (tidied d)) h))) (λ z. omega (arith, z)) r (e ∙ sym (no_type d 11 refl refl))
 
-  pub tidy-done : length_refusal d ≡ 0 → length out ≡ length (tidied d) → (after : List ℕ) → after ≡ tidied d → (r : Refusal) → r ≡ refusal_of 0
-      → (r ≡ refusal_for d (tidy_refusal d (length out))) × (after ≡ tidy_after d out)
-  unfolding other_length tidy_after
-  tidy-done v h after e r q =
+  pub tidy-done : length_refusal d ≡ 0 → length out ≡ length (tidied d) → (after : List ℕ) → after ≡ tidied d
+      → (◌≡◌ {A = Result (Unit {0}) Refusal} (Ok tt) (tidy_answer d (length out))) × (after ≡ tidy_after d out)
+  unfolding other_length tidy_after tidy_answer
+  tidy-done v h after e =
       let z : tidy_refusal d (length out) ≡ 0 = behind v false (rw (eq-eqb (length out) (length (tidied d)) h)) in
-      (rw z (q ∙ sym (no_type d 0 refl refl)), rw z e)
+      (rw z, rw z e)
 
 -- ---- the number of the returned type
 
@@ -216,21 +150,6 @@ module _ (d new old : List ℕ) (n : ℕ) (all : AllNumbered d new old n) where
 
   pub return_small : (r : ℕ) → r ≡ return_in d → (r ≡ 255 → ⊥) → r < 64
   return_small r e z = omega (arith, e, return_low d all.numbers.right (λ w. z (e ∙ w)), write_low d new old n all)
-
-  pub head_ask : (members returns size : ℕ) → separate (table_of (call_of d)) ≤ 255 → members ≡ separate (table_of (call_of d)) → returns ≡ return_number (table_of (call_of d)) (call_of d).returns → returns < 256 → size ≡ length (tidy_of (call_of d)) → AskHead d n members returns size
-  head_ask members returns size few em er low es = record {
-    headed = all-headed d all.numbers.right;
-    many = sym (write_many d new old n all);
-    sum = em;
-    number = er;
-    small = (omega (arith, write_low d new old n all), (omega (arith, em, few), low));
-    room = es;
-    long = omega (arith, es, write_length d new old n all);
-  }
-
--- each entry of a new list is blank
-pub blank-entries : (k : ℕ) → k < 64 → ◌≡◌ {A = ℕ} (get_or (replicate {A = ℕ} 64 255) k 0) 255
-blank-entries k l = get_or-replicate 64 k 255 0 l
 
 -- ---- what can be tidied
 

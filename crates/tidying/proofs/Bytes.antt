@@ -3,14 +3,14 @@ use mathlib.Core.Path.{◌≡◌, refl, sym, ap, ◌∙◌}
 use mathlib.Core.List.{List, [], ◌∷◌, ◌++◌, append_assoc, map}
 use Prim.Native.Nat.{ℕ, zero, suc, ◌+◌, ◌*◌, ◌/◌, ◌%◌, ◌≤◌, ◌<◌}
 use native.Mathlib.Omega.{arith}
-use lib.ListN.{length, take, drop, length-append, get_or-append}
+use lib.ListN.{length, drop, length-append, get_or-append}
 use lib.Seq.{get_or-append-add, get_or-drop, drop-append-add, drop-append-le, drop-cons}
 use Rattle.description.specs.Description.{byte_at, types_in, flags_in, named_in, arguments_in, return_in, members_in, kind_at, a_at, count_at, member_at, argument_at}
 use Rattle.types.specs.Tree.{Ty, Tys, basic, none, more}
 use Rattle.tidying.specs.Call.{Call}
 use Rattle.tidying.specs.Numbering.{index_of}
 use Rattle.tidying.specs.Ordered.{at}
-use Rattle.tidying.specs.Tidy.{members_of, many_of, separate, kind_of, second_of, count_of, records_of, numbers_of, runs_of, return_number, head_of, tidy_by}
+use Rattle.tidying.specs.Tidy.{members_of, many_of, separate, start_of, kind_of, second_of, count_of, records_of, numbers_of, runs_of, return_number, head_of, tidy_by}
 
 pub length-records : (table : List Ty) (m : ℕ) (l : List Ty) → length (records_of table m l) ≡ 4 * length l
 unfolding records_of
@@ -26,10 +26,6 @@ pub length_runs : (table l : List Ty) → length (runs_of table l) ≡ separate 
 unfolding runs_of separate
 length_runs table [] = refl
 length_runs table (t ∷ l) = length-append (numbers_of table (members_of t)) (runs_of table l) ∙ omega (arith, length-numbers table (members_of t), length_runs table l)
-
--- where the run of type k begins
-abbrev pub start_of : List Ty → ℕ → ℕ
-start_of l k = separate (take k l)
 
 pub drop-records : (table : List Ty) (m : ℕ) (l : List Ty) (k : ℕ) → k ≤ length l → drop (4 * k) (records_of table m l) ≡ records_of table (m + start_of l k) (drop k l)
 unfolding records_of separate

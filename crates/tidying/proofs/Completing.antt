@@ -27,46 +27,52 @@ use Rattle.tidying.specs.Same.{same_ty, same_tys}
 use Rattle.tidying.specs.Call.{trees_from}
 use Rattle.tidying.specs.Numbering.{index_of, completed, reached, reached_from}
 use Rattle.tidying.specs.Ordered.{at, Ordered}
-use Rattle.tidying.specs.Asks.{Has, tabled, Parts, Numbers, AskRuns, AskSame, AskComplete, Onward, unnumbered, AskMembers, NextPart, AskNew, Lowest, blanks, Numbered}
+use Rattle.tidying.specs.Asks.{Has, tabled, Parts, Numbers, AskRuns, AskSame, Completable, Onward, unnumbered, AskMembers, AskNew, Lowest, blanks, Numbered}
 use Rattle.tidying.specs.Tidy.{kind_of, count_of, many_of}
 use Rattle.tidying.proofs.Accepted.{many-from}
-use Rattle.tidying.proofs.Same.{same_true, same_self}
+use Rattle.tidying.specs.Equal.{same_true, same_self}
 use Rattle.tidying.proofs.Tables.{index_bound, index_snoc, completed-old, completed-new, completed-grows, Grows}
 use Rattle.tidying.proofs.Reached.{completed-ordered}
 use Rattle.tidying.proofs.Known.{table-few, every-completed}
 use Rattle.tidying.proofs.Walk.{reached-there, reached-first}
-use Rattle.tidying.proofs.Numbers.{tabled-length, tabled-at, tabled-same, index_found, index_none, numbers-every, numbers-few, numbers_apart, numbers-low, parts_below, onward, numbered_more, blanks-less}
+use Rattle.tidying.proofs.Numbers.{tabled-length, tabled-at, tabled-same, index_found, index_none, numbers-every, numbers-few, numbers_apart, numbers-low, parts_below, onward, numbered_more, blanks-less, numbers_more}
 
 -- ---- completing a type
 
-module _ (d new old : List ℕ) (n k : ℕ) (ask : AskComplete d new old n k) where
-  pub complete_old : (v : ℕ) → v ≡ index_of (tabled d old n) (ty_at d k) → v < n → Numbered d k new (set new k v) old n (completed (tabled d old n) (ty_at d k))
+both : (d new old : List ℕ) (n k v : ℕ) (s : Numbers d new old n) (ask : Completable d new k) (small : v < 255) (now : List ℕ) (m : ℕ) (room : length now ≡ 64)
+    → tabled d now m ≡ completed (tabled d old n) (ty_at d k) → v ≡ index_of (completed (tabled d old n) (ty_at d k)) (ty_at d k)
+    → ((j : ℕ) → j < m → (get_or now j 0 ≡ k) ⊎ ((get_or now j 0 < types_in d) × Has new (get_or now j 0)))
+    → Numbers d (set new k v) now m × Numbered d k new (set new k v) now m (completed (tabled d old n) (ty_at d k))
+both d new old n k v s ask small now m room is got known = (numbers_more d new old n k v s ask small now m room is got known, numbered_more d new old n k v s ask small now m room is got known)
+
+module _ (d new old : List ℕ) (n k : ℕ) (s : Numbers d new old n) (ask : Completable d new k) where
+  pub complete_old : (v : ℕ) → v ≡ index_of (tabled d old n) (ty_at d k) → v < n → Numbers d (set new k v) old n × Numbered d k new (set new k v) old n (completed (tabled d old n) (ty_at d k))
   complete_old v e l =
       let q = completed-old (tabled d old n) (ty_at d k) (omega (arith, e, l, tabled-length d old n)) in
-      numbered_more d new old n k v ask (omega (arith, l, numbers-few d new old n ask.numbers, numbers-low d new old n ask.numbers)) old n ask.numbers.room (sym q) (rw q e) (λ j h. inr (ask.numbers.olds j h, ask.numbers.done j h))
+      both d new old n k v s ask (omega (arith, l, numbers-few d new old n s, numbers-low d new old n s)) old n s.room (sym q) (rw q e) (λ j h. inr (s.olds j h, s.done j h))
 
-  pub complete_new : (v : ℕ) → v ≡ index_of (tabled d old n) (ty_at d k) → v ≡ n → n < 64 → Numbered d k new (set new k v) (set old n k) (n + 1) (completed (tabled d old n) (ty_at d k))
+  pub complete_new : (v : ℕ) → v ≡ index_of (tabled d old n) (ty_at d k) → v ≡ n → n < 64 → Numbers d (set new k v) (set old n k) (n + 1) × Numbered d k new (set new k v) (set old n k) (n + 1) (completed (tabled d old n) (ty_at d k))
   unfolding tabled
   complete_new v e l h =
-      let r = ask.numbers.room in
+      let r = s.room in
       let q = completed-new (tabled d old n) (ty_at d k) (omega (arith, e, l, tabled-length d old n)) in
-      numbered_more d new old n k v ask (omega (arith, l, h)) (set old n k) (n + 1) (length-set old n k ∙ r)
+      both d new old n k v s ask (omega (arith, l, h)) (set old n k) (n + 1) (length-set old n k ∙ r)
       (rw (add-one n, tabled-same d old (set old n k) n (λ j p. get_or-set_other old n j k 0 (λ z. omega (arith, z, p))), get_or-set_same old n k 0 (omega (arith, h, r))) (sym q))
       (rw q (l ∙ sym (tabled-length d old n) ∙ sym (index_snoc (tabled d old n) (ty_at d k) (omega (arith, e, l, tabled-length d old n)))))
       (λ j p. which j (eq-or-lt_of_le {n = j} {m = n} (omega arith)))
     where
       which : (j : ℕ) → (j ≡ n) ⊎ (j < n) → (get_or (set old n k) j 0 ≡ k) ⊎ ((get_or (set old n k) j 0 < types_in d) × Has new (get_or (set old n k) j 0))
-      which j (inl z) = inl (rw z (get_or-set_same old n k 0 (omega (arith, h, ask.numbers.room))))
-      which j (inr z) = inr (rw (get_or-set_other old n j k 0 (λ w. omega (arith, w, z))) (ask.numbers.olds j z, ask.numbers.done j z))
+      which j (inl z) = inl (rw z (get_or-set_same old n k 0 (omega (arith, h, s.room))))
+      which j (inr z) = inr (rw (get_or-set_other old n j k 0 (λ w. omega (arith, w, z))) (s.olds j z, s.done j z))
 
   -- there is room for one more where it is new
   pub complete_room : n ≡ index_of (tabled d old n) (ty_at d k) → n < 64
   complete_room e =
       let q = completed-new (tabled d old n) (ty_at d k) (omega (arith, e, tabled-length d old n)) in
-      let m = table-few d (accepted-types d ask.numbers.right) (completed (tabled d old n) (ty_at d k))
-      (completed-ordered (tabled d old n) ask.numbers.ordered (ty_at d k) (parts_below d new old n ask.numbers k ask.known ask.parts))
-      (every-completed d (accepted-types d ask.numbers.right) (tabled d old n) (ty_at d k) (numbers-every d new old n ask.numbers) (record { number = k; below = ask.known; is = refl })) in
-      omega (arith, m, ap length q, length-append (tabled d old n) (ty_at d k ∷ []), tabled-length d old n, numbers-low d new old n ask.numbers)
+      let m = table-few d (accepted-types d s.right) (completed (tabled d old n) (ty_at d k))
+      (completed-ordered (tabled d old n) s.ordered (ty_at d k) (parts_below d new old n s k ask.known ask.parts))
+      (every-completed d (accepted-types d s.right) (tabled d old n) (ty_at d k) (numbers-every d new old n s) (record { number = k; below = ask.known; is = refl })) in
+      omega (arith, m, ap length q, length-append (tabled d old n) (ty_at d k ∷ []), tabled-length d old n, numbers-low d new old n s)
 
 -- ---- the same types
 
@@ -123,6 +129,18 @@ module _ (d new : List ℕ) (x y left : ℕ) (ask : AskRuns d new x y left) wher
     runs_other h =
         runs-step some
         ∙ rw (other-types (ty_at d (member_at d x)) (ty_at d (member_at d y)) (λ e. h (ask.apart.equal (member_at d x) (member_at d y) first_below.0 first_below.1 first-have.0 first-have.1 e)))
+
+-- the runs from one place of both on
+pub runs_on : (d new : List ℕ) (a b count i : ℕ) → AskRuns d new a b count → i ≤ count → AskRuns d new (a + i) (b + i) (count - i)
+runs_on d new a b count i ask l = record {
+  whole = ask.whole;
+  few = ask.few;
+  apart = ask.apart;
+  one = omega (arith, ask.one);
+  other = omega (arith, ask.other);
+  below = λ j h. let p : a + i + j ≡ a + (i + j) = omega arith in let q : b + i + j ≡ b + (i + j) = omega arith in rw (p, q) (ask.below (i + j) (omega arith));
+  have = λ j h. let p : a + i + j ≡ a + (i + j) = omega arith in let q : b + i + j ≡ b + (i + j) = omega arith in rw (p, q) (ask.have (i + j) (omega arith));
+}
 
 both-groups : (u : Bool) (ts ss : Tys) → same_ty (group u ts) (group u ss) ≡ same_tys ts ss
 unfolding same_ty
@@ -265,34 +283,25 @@ module _ (d new : List ℕ) (k : ℕ) (ask : AskNew d new k) where
   pub new_low : k < 64
   new_low = omega (arith, ask.known, accepted-counts d (accepted-form d (accepted-types d ask.right)))
 
-  pub next-basic : kind_at d k ≡ 0 → NextPart d new k k
-  next-basic e = record {
-    done = λ q. record { element = λ z. absurd (omega (arith, e, z)); member = λ z. absurd (omega (arith, e, z)) };
-    on = λ q. absurd (q refl);
-  }
+  pub next-basic : kind_at d k ≡ 0 → Parts d new k
+  next-basic e = record { element = λ z. absurd (omega (arith, e, z)); member = λ z. absurd (omega (arith, e, z)) }
 
   pub part_low : kind_at d k ≡ 1 → a_at d k < 64
   part_low e = omega (arith, new_low, (sized-ruled d k sized).element e)
 
-  pub next-element : kind_at d k ≡ 1 → get_or new (a_at d k) 0 ≡ 255 → NextPart d new k (a_at d k)
+  pub next-element : kind_at d k ≡ 1 → get_or new (a_at d k) 0 ≡ 255 → Onward d new k (a_at d k)
   next-element e b = record {
-    done = λ q. absurd (omega (arith, q, (sized-ruled d k sized).element e));
-    on = λ q. record {
-      low = (sized-ruled d k sized).element e;
-      blank = b;
-      some = omega (arith, e);
-      element = λ z. refl;
-      place = 0;
-      member = λ z. absurd (omega (arith, e, z));
-      before = λ z. absurd (omega (arith, e, z));
-    };
+    low = (sized-ruled d k sized).element e;
+    blank = b;
+    some = omega (arith, e);
+    element = λ z. refl;
+    place = 0;
+    member = λ z. absurd (omega (arith, e, z));
+    before = λ z. absurd (omega (arith, e, z));
   }
 
-  pub next-array : kind_at d k ≡ 1 → (get_or new (a_at d k) 0 ≡ 255 → ⊥) → NextPart d new k k
-  next-array e b = record {
-    done = λ q. record { element = λ z. b; member = λ z. absurd (omega (arith, e, z)) };
-    on = λ q. absurd (q refl);
-  }
+  pub next-array : kind_at d k ≡ 1 → (get_or new (a_at d k) 0 ≡ 255 → ⊥) → Parts d new k
+  next-array e b = record { element = λ z. b; member = λ z. absurd (omega (arith, e, z)) }
 
   module _ (two : 2 ≤ kind_at d k) where
     pub next-members : AskMembers d (a_at d k) (count_at d k)
@@ -302,31 +311,25 @@ module _ (d new : List ℕ) (k : ℕ) (ask : AskNew d new k) where
       below = λ i x y. omega (arith, new_low, (sized-ruled d k sized).member two i x y);
     }
 
-    pub next-member : (at : ℕ) → at ≡ first_from (unnumbered d new) (a_at d k) (count_at d k) → at < a_at d k + count_at d k → NextPart d new k (member_at d at)
+    pub next-member : (at : ℕ) → at ≡ first_from (unnumbered d new) (a_at d k) (count_at d k) → at < a_at d k + count_at d k → Onward d new k (member_at d at)
     next-member at e l =
         let lo : a_at d k ≤ at = rw e (first-from (unnumbered d new) (a_at d k) (count_at d k)) in
         let b : unnumbered d new at ≡ true = rw e (first_holds (unnumbered d new) (a_at d k) (count_at d k) (rw e at l)) in
         let low : member_at d at < k = (sized-ruled d k sized).member two at lo l in
         record {
-          done = λ q. absurd (omega (arith, q, low));
-          on = λ q. record {
-            low = low;
-            blank = eqb-true (get_or new (member_at d at) 0) 255 b;
-            some = omega (arith, two);
-            element = λ z. absurd (omega (arith, two, z));
-            place = at;
-            member = λ z. (lo, (l, refl));
-            before = λ z i x y. eqb-false (get_or new (member_at d i) 0) 255 (first-least (unnumbered d new) (a_at d k) (count_at d k) i x (rw e at y));
-          };
+          low = low;
+          blank = eqb-true (get_or new (member_at d at) 0) 255 b;
+          some = omega (arith, two);
+          element = λ z. absurd (omega (arith, two, z));
+          place = at;
+          member = λ z. (lo, (l, refl));
+          before = λ z i x y. eqb-false (get_or new (member_at d i) 0) 255 (first-least (unnumbered d new) (a_at d k) (count_at d k) i x (rw e at y));
         }
 
-    pub next-group : (at : ℕ) → at ≡ first_from (unnumbered d new) (a_at d k) (count_at d k) → a_at d k + count_at d k ≤ at → NextPart d new k k
+    pub next-group : (at : ℕ) → at ≡ first_from (unnumbered d new) (a_at d k) (count_at d k) → a_at d k + count_at d k ≤ at → Parts d new k
     next-group at e l = record {
-      done = λ q. record {
-        element = λ z. absurd (omega (arith, two, z));
-        member = λ z i x y. eqb-false (get_or new (member_at d i) 0) 255 (first-least (unnumbered d new) (a_at d k) (count_at d k) i x (omega (arith, e, l, y)));
-      };
-      on = λ q. absurd (q refl);
+      element = λ z. absurd (omega (arith, two, z));
+      member = λ z i x y. eqb-false (get_or new (member_at d i) 0) 255 (first-least (unnumbered d new) (a_at d k) (count_at d k) i x (omega (arith, e, l, y)));
     }
 
 -- ---- down to the part that is completed first
@@ -348,9 +351,7 @@ module _ (d new : List ℕ) (k at : ℕ) (ask : AskNew d new at) (t : Through d 
 
   pub lowest-here : Parts d new at → Lowest d new k at
   lowest-here p = record {
-    known = ask.known;
-    blank = ask.blank;
-    parts = p;
+    ready = record { known = ask.known; parts = p; blank = ask.blank };
     first = λ old n s.
         let b = parts_below d new old n s at ask.known p in
         t.through old n s (completed (tabled d old n) (ty_at d at)) (completed-ordered (tabled d old n) s.ordered (ty_at d at) b) (completed-grows (tabled d old n) (ty_at d at)) (reached-first (tabled d old n) s.ordered (ty_at d at) b);
@@ -364,9 +365,6 @@ module _ (d new old : List ℕ) (n k : ℕ) (s : Numbers d new old n) (known : k
 
   pub reach_ask : get_or new k 0 ≡ 255 → AskNew d new k
   reach_ask b = record { right = s.right; known = known; blank = b }
-
-  pub complete_ask : (r : ℕ) → Lowest d new k r → AskComplete d new old n r
-  complete_ask r l = record { numbers = s; known = l.known; parts = l.parts; blank = l.blank }
 
 -- ---- the arguments
 
@@ -383,14 +381,14 @@ reach_end a d i n h = let q : n - i ≡ 0 = omega arith in rw q
 
 -- ---- the type that is the same
 
-module _ (d new old : List ℕ) (n k : ℕ) (ask : AskComplete d new old n k) where
+module _ (d new old : List ℕ) (n k : ℕ) (s : Numbers d new old n) (ask : Completable d new k) where
   pub find-ask : (j : ℕ) → j < n → AskSame d new (get_or old j 0) k
   find-ask j l = record {
-    right = ask.numbers.right;
-    apart = numbers_apart d new old n ask.numbers;
-    one = ask.numbers.olds j l;
+    right = s.right;
+    apart = numbers_apart d new old n s;
+    one = s.olds j l;
     other = ask.known;
-    ones = ask.numbers.parts (get_or old j 0) (ask.numbers.olds j l) (ask.numbers.done j l);
+    ones = s.parts (get_or old j 0) (s.olds j l) (s.done j l);
     others = ask.parts;
   }
 
@@ -413,31 +411,32 @@ find-on d old t j h e i l = by (eq-or-lt_of_le {n = i} {m = j} (omega arith))
 
 -- ---- what completing leaves
 
-module _ (d new old : List ℕ) (n k : ℕ) (ask : AskComplete d new old n k) where
+module _ (d new old : List ℕ) (n k : ℕ) (s : Numbers d new old n) (ask : Completable d new k) where
   pub complete_low : (v : ℕ) → v ≡ index_of (tabled d old n) (ty_at d k) → (v ≤ n) × ((v ≤ 64) × (k < 64))
   complete_low v e =
       let b = index_bound (tabled d old n) (ty_at d k) in
-      let l = numbers-low d new old n ask.numbers in
-      (omega (arith, e, b, tabled-length d old n), (omega (arith, e, b, tabled-length d old n, numbers-few d new old n ask.numbers, l), omega (arith, ask.known, l)))
+      let l = numbers-low d new old n s in
+      (omega (arith, e, b, tabled-length d old n), (omega (arith, e, b, tabled-length d old n, numbers-few d new old n s, l), omega (arith, ask.known, l)))
 
   less : (v : ℕ) → v ≡ index_of (tabled d old n) (ty_at d k) → blanks (set new k v) < blanks new
   less v e =
       let b = complete_low v e in
-      blanks-less new k v (omega (arith, b.1.1, ask.numbers.wide)) ask.blank (λ z. omega (arith, z, b.1.0))
+      blanks-less new k v (omega (arith, b.1.1, s.wide)) ask.blank (λ z. omega (arith, z, b.1.0))
 
   pub completed-as : (v w : ℕ) → w ≡ v → v ≡ index_of (tabled d old n) (ty_at d k) → v < n
-      → Numbered d k new (set new k w) old n (completed (tabled d old n) (ty_at d k)) × (blanks (set new k w) < blanks new)
-  completed-as v w q e l = rw q (complete_old d new old n k ask v e l, less v e)
+      → Numbers d (set new k w) old n × Numbered d k new (set new k w) old n (completed (tabled d old n) (ty_at d k)) × (blanks (set new k w) < blanks new)
+  completed-as v w q e l = let z = complete_old d new old n k s ask v e l in rw q (z.0, z.1, less v e)
 
   pub completed-next : (v w x : ℕ) → w ≡ v → x ≡ k → v ≡ index_of (tabled d old n) (ty_at d k) → n ≤ v
-      → Numbered d k new (set new k w) (set old n x) (n + 1) (completed (tabled d old n) (ty_at d k)) × (blanks (set new k w) < blanks new)
+      → Numbers d (set new k w) (set old n x) (n + 1) × Numbered d k new (set new k w) (set old n x) (n + 1) (completed (tabled d old n) (ty_at d k)) × (blanks (set new k w) < blanks new)
   completed-next v w x q r e l =
       let b = complete_low v e in
       let z : v ≡ n = omega (arith, b.0, l) in
-      rw (q, r) (complete_new d new old n k ask v e z (complete_room d new old n k ask (sym z ∙ e)), less v e)
+      let y = complete_new d new old n k s ask v e z (complete_room d new old n k s ask (sym z ∙ e)) in
+      rw (q, r) (y.0, y.1, less v e)
 
   pub next-room : (v : ℕ) → v ≡ index_of (tabled d old n) (ty_at d k) → n ≤ v → n < 64
-  next-room v e l = let b = complete_low v e in let z : v ≡ n = omega (arith, b.0, l) in complete_room d new old n k ask (sym z ∙ e)
+  next-room v e l = let b = complete_low v e in let z : v ≡ n = omega (arith, b.0, l) in complete_room d new old n k s ask (sym z ∙ e)
 
 -- ---- a type of which a part has just been completed
 
@@ -452,7 +451,7 @@ module _ (d new₀ old₀ : List ℕ) (n₀ k : ℕ) (new old : List ℕ) (n : �
 
 pub reach_done : (d new₀ old₀ : List ℕ) (n₀ k : ℕ) (new old : List ℕ) (n : ℕ) → Numbers d new old n → reached (tabled d old n) (ty_at d k) ≡ reached (tabled d old₀ n₀) (ty_at d k)
     → ((i : ℕ) → Has new₀ i → Has new i) → k < types_in d → Has new k → Numbered d k new₀ new old n (reached (tabled d old₀ n₀) (ty_at d k))
-reach_done d new₀ old₀ n₀ k new old n s same kept known h = record { numbers = s; is = reach_none d new old n k s known h ∙ same; has = h; kept = kept }
+reach_done d new₀ old₀ n₀ k new old n s same kept known h = record { is = reach_none d new old n k s known h ∙ same; has = h; kept = kept }
 
 -- the arguments passed have numbers
 pub passed-more : (d new now : List ℕ) (i : ℕ) → ((j : ℕ) → j < i → Has new (argument_at d j)) → ((x : ℕ) → Has new x → Has now x) → Has now (argument_at d i) → (j : ℕ) → j < i + 1 → Has now (argument_at d j)

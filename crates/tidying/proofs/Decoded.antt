@@ -13,10 +13,10 @@ use Rattle.layout.specs.Arguments.{is_void}
 use Rattle.tidying.specs.Call.{Returned, void, returned, Call, trees_from, returned_by, call_of}
 use Rattle.tidying.specs.Numbering.{index_of, table_of}
 use Rattle.tidying.specs.Ordered.{at, AllBelow, Below, Ordered}
-use Rattle.tidying.specs.Tidy.{members_of, many_of, kind_of, second_of, count_of, numbers_of, return_number, tidy_by, tidy_of}
+use Rattle.tidying.specs.Tidy.{start_of, members_of, many_of, kind_of, second_of, count_of, numbers_of, return_number, tidy_by, tidy_of}
 use Rattle.tidying.proofs.Tables.{at-index}
 use Rattle.tidying.proofs.Reached.{Numbered, ReturnNumbered, return_index, Table, table-right}
-use Rattle.tidying.proofs.Bytes.{start_of, flags-tidy, named-tidy, arguments-tidy, return_tidy, kind-tidy, second-tidy, count-tidy, member-tidy, argument-tidy}
+use Rattle.tidying.proofs.Bytes.{flags-tidy, named-tidy, arguments-tidy, return_tidy, kind-tidy, second-tidy, count-tidy, member-tidy, argument-tidy}
 
 -- a run that holds the numbers of members says those members, where f says what is below k
 members-said : (table : List Ty) (f : ℕ → Ty) (d : List ℕ) (k : ℕ) → k ≤ length table → ((j : ℕ) → j < k → f j ≡ at table j) → (ts : Tys) (i : ℕ)

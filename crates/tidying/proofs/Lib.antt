@@ -1,4 +1,3 @@
-pub mod Same
 pub mod Tables
 pub mod Reached
 pub mod Bytes

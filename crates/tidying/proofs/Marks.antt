@@ -69,6 +69,15 @@ module _ (d marks : List ℕ) (i n : ℕ) (ask : AskMarks d marks i n) where
       known = λ j p q. ask.known j (omega arith) (omega arith);
     }
 
+-- the members from one of them on
+pub marks_on : (d marks : List ℕ) (first count at : ℕ) → AskMarks d marks first count → first ≤ at → at ≤ first + count → AskMarks d marks at (first + count - at)
+marks_on d marks first count at ask l h = record {
+  whole = ask.whole;
+  fits = omega (arith, ask.fits);
+  below = λ i p q. ask.below i (omega arith) (omega arith);
+  known = λ i p q. ask.known i (omega arith) (omega arith);
+}
+
 -- ---- one type
 
 group-mark : (k : ℕ) (ts : Tys) → 2 ≤ k → k ≤ 3 → mark_ty (group (eqb k 3) ts) ≡ mark_tys k ts

@@ -22,7 +22,7 @@ use Rattle.uses.proofs.Uses.{accepted-types}
 use Rattle.tidying.specs.Same.{same_ty}
 use Rattle.tidying.specs.Numbering.{index_of, completed, reached}
 use Rattle.tidying.specs.Ordered.{at, AllBelow, Below, Ordered}
-use Rattle.tidying.specs.Asks.{Has, tabled, Parts, Apart, Numbers, AskComplete, Onward, blanks, Numbered}
+use Rattle.tidying.specs.Asks.{Has, tabled, Parts, Apart, Numbers, Completable, Onward, blanks, Numbered}
 use Rattle.tidying.proofs.Tables.{at-index, completed-grows, completed-there, Grows}
 use Rattle.tidying.proofs.Reached.{completed-ordered}
 use Rattle.tidying.proofs.Known.{Every, table-few}
@@ -144,9 +144,9 @@ blanks-less (x ∷ l) zero v h e z = rw (e, ne_eqb v 255 z) (omega arith)
 blanks-less (x ∷ l) (suc k) v h e z = omega (arith, blanks-less l k v (omega arith) e z)
 
 -- type k gets the number v
-module _ (d new old : List ℕ) (n k v : ℕ) (ask : AskComplete d new old n k) (small : v < 255) where
+module _ (d new old : List ℕ) (n k v : ℕ) (s : Numbers d new old n) (ask : Completable d new k) (small : v < 255) where
   inside : k < length new
-  inside = omega (arith, ask.known, ask.numbers.wide, numbers-low d new old n ask.numbers)
+  inside = omega (arith, ask.known, s.wide, numbers-low d new old n s)
 
   has-k : Has (set new k v) k
   has-k e = omega (arith, e, get_or-set_same new k v 0 inside)
@@ -185,7 +185,7 @@ module _ (d new old : List ℕ) (n k v : ℕ) (ask : AskComplete d new old n k) 
         → (get_or (set new k v) i 0 ≡ index_of (completed (tabled d old n) (ty_at d k)) (ty_at d i)) × (index_of (completed (tabled d old n) (ty_at d k)) (ty_at d i) < m)
     newly i l (inl e) = rw e (get_or-set_same new k v 0 inside ∙ got, omega (arith, completed-there (tabled d old n) (ty_at d k), length-m))
     newly i l (inr p) =
-        let q = ask.numbers.news i l p.0 in
+        let q = s.news i l p.0 in
         let g = completed-grows (tabled d old n) (ty_at d k) in
         let z = g.same (ty_at d i) (omega (arith, q.1, tabled-length d old n)) in
         (p.1 ∙ q.0 ∙ sym z, omega (arith, z, q.1, g.longer, tabled-length d old n, length-m))
@@ -196,20 +196,22 @@ module _ (d new old : List ℕ) (n k v : ℕ) (ask : AskComplete d new old n k) 
 
     parts-by : (i : ℕ) → i < types_in d → (i ≡ k) ⊎ ((Has new i) × (get_or (set new k v) i 0 ≡ get_or new i 0)) → Parts d (set new k v) i
     parts-by i l (inl e) = rw e (parts-kept k ask.parts)
-    parts-by i l (inr p) = parts-kept i (ask.numbers.parts i l p.0)
+    parts-by i l (inr p) = parts-kept i (s.parts i l p.0)
+
+    pub numbers_more : Numbers d (set new k v) now m
+    numbers_more = record {
+      right = s.right;
+      wide = length-set new k v ∙ s.wide;
+      room = room;
+      ordered = rw is (completed-ordered (tabled d old n) s.ordered (ty_at d k) (parts_below d new old n s k ask.known ask.parts));
+      olds = λ j l. (done-by j (known j l)).0;
+      done = λ j l. (done-by j (known j l)).1;
+      news = λ i l h. rw is (newly i l (one_of i h));
+      parts = λ i l h. parts-by i l (one_of i h);
+    }
 
     pub numbered_more : Numbered d k new (set new k v) now m (completed (tabled d old n) (ty_at d k))
     numbered_more = record {
-      numbers = record {
-        right = ask.numbers.right;
-        wide = length-set new k v ∙ ask.numbers.wide;
-        room = room;
-        ordered = rw is (completed-ordered (tabled d old n) ask.numbers.ordered (ty_at d k) (parts_below d new old n ask.numbers k ask.known ask.parts));
-        olds = λ j l. (done-by j (known j l)).0;
-        done = λ j l. (done-by j (known j l)).1;
-        news = λ i l h. rw is (newly i l (one_of i h));
-        parts = λ i l h. parts-by i l (one_of i h);
-      };
       is = is;
       has = has-k;
       kept = has_kept;

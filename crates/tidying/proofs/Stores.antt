@@ -1,14 +1,17 @@
 -- Writing the tidy bytes one after the other. Assumes nothing.
 use mathlib.Core.Path.{◌≡◌, refl, sym, ap, ◌∙◌}
 use mathlib.Core.Bool.{Bool, true, false}
-use mathlib.Core.List.{List, [], ◌∷◌}
+use mathlib.Core.List.{List, [], ◌∷◌, ◌++◌, append_assoc}
 use Prim.Native.Nat.{ℕ, zero, suc, ◌+◌, ◌*◌, ◌/◌, ◌%◌, ◌≤◌, ◌<◌}
 use native.Mathlib.Numerals.{add-one}
 use native.Mathlib.Omega.{arith}
 use borrow.Author.Tests.{eq-eqb, eqb-true, not-false, lt-ltb, le-ltb}
 use lib.Dec.{eqb, leb}
-use lib.ListN.{length, get_or, set, length-set}
-use lib.Seq.{take-suc, take-suc-set, take_all}
+use Rattle.std.proofs.lemmas.List.{append-nil, length-take-le, length-drop}
+use lib.ListN.{length, get_or, take, drop}
+use borrow.Rule.Slice.PartMut.{put_mid, same_len_mid}
+use Rattle.std.proofs.lemmas.Slice.{take-put_mid}
+use lib.Seq.{take-suc, take_all}
 use Rattle.description.specs.Description.{byte_at, types_in, arguments_in, kind_at, a_at, count_at, member_at, argument_at, Whole, model_in}
 use Rattle.types.specs.Tree.{Ty, Tys, basic, array, group}
 use Rattle.types.specs.Decode.{tys_from, ty_at}
@@ -18,24 +21,39 @@ use Rattle.types.proofs.Trees.{sized-ruled, at-basic, at-array, at-group}
 use Rattle.types.proofs.Large.{accepted-form, accepted-sized}
 use Rattle.form.specs.Conditions.{broken_record, broken_basic}
 use Rattle.form.proofs.Form.{or_none, accepted-counts, accepted-whole}
+use Rattle.uses.specs.Uses.{uses_refusal}
 use Rattle.uses.proofs.Uses.{accepted-types, accepted-typed}
 use Rattle.tidying.specs.Call.{call_of}
 use Rattle.tidying.specs.Numbering.{index_of, table_of}
 use Rattle.tidying.specs.Ordered.{at}
-use Rattle.tidying.specs.Tidy.{members_of, many_of, separate, kind_of, second_of, count_of, numbers_of, tidy_by, tidy_of}
-use Rattle.tidying.specs.Asks.{Has, Numbers, AllNumbered, Written, run_length, AskSum, AskHead, AskRun, AskArguments, AskWrite, second_at, AskSecond, AskRecord}
-use Rattle.tidying.proofs.Bytes.{start_of, types-tidy, members-tidy, kind-tidy, second-tidy, low-tidy, high-tidy, member-tidy, argument-tidy}
+use Rattle.tidying.specs.Tidy.{start_of, members_of, many_of, separate, kind_of, second_of, count_of, numbers_of, return_number, tidy_by, tidy_of}
+use Rattle.tidying.specs.Asks.{Has, Numbers, AllNumbered, Written, Stands, run_length, AskRun, second_at}
+use Rattle.tidying.proofs.Bytes.{types-tidy, members-tidy, kind-tidy, second-tidy, low-tidy, high-tidy, member-tidy, argument-tidy}
 use Rattle.tidying.proofs.Laid.{many-call, flags-call, named-call, argument-call}
 use Rattle.tidying.proofs.Accepted.{length-tidy, many-from, start-next}
 use Rattle.tidying.proofs.Numbers.{tabled-length, tabled-at, numbers-few, numbers-low}
 use Rattle.tidying.proofs.Completing.{kind-top, kind-is, count-is}
 
--- one byte more
-pub write_one : (bytes out : List ℕ) (from v : ℕ) → Written bytes from out → from < length bytes → v ≡ byte_at bytes from → Written bytes (from + 1) (set out from v)
-write_one bytes out from v w l e = record {
-  size = length-set out from v ∙ w.size;
-  same = rw (add-one from, take-suc-set out from v (omega (arith, l, w.size)), take-suc bytes from 0 l, w.same, e);
+-- a part more
+take-part : (bytes part : List ℕ) (from : ℕ) → from + length part ≤ length bytes → ((i : ℕ) → i < length part → get_or part i 0 ≡ get_or bytes (from + i) 0) → take (from + length part) bytes ≡ take from bytes ++ part
+take-part bytes [] from l h = let q : from + 0 ≡ from = omega arith in rw (q, append-nil (take from bytes))
+take-part bytes (x ∷ part) from l h =
+    let q : from + suc (length part) ≡ from + 1 + length part = omega arith in
+    let z : x ≡ get_or bytes from 0 = h 0 (omega arith) ∙ (let p : from + 0 ≡ from = omega arith in rw p) in
+    rw q (take-part bytes part (from + 1) (omega (arith, l)) (λ i m. h (suc i) (omega arith) ∙ (let p : from + suc i ≡ from + 1 + i = omega arith in rw p))
+    ∙ rw (add-one from, take-suc bytes from 0 (omega (arith, l)), ← z) (append_assoc (take from bytes) (x ∷ []) part))
+
+pub write_part : (bytes out part : List ℕ) (from k m : ℕ) → Written bytes from out → Stands bytes part from → length part ≡ k → m ≡ from + k → Written bytes m (put_mid from k out part)
+write_part bytes out part from k m w h e q = record {
+  size = same_len_mid from k out part (e ∙ sym (length-take-le k (drop from out) (omega (arith, length-drop from out, e, w.size, h.room)))) ∙ w.size;
+  same =
+      take-put_mid from k out part m (omega (arith, q, e)) (omega (arith, w.size, h.room))
+      ∙ rw w.same (sym (take-part bytes part from h.room h.same) ∙ (let z : from + length part ≡ m = omega (arith, e, q) in rw z));
 }
+
+-- how long a part is
+pub part_length : (out : List ℕ) (from k n : ℕ) → from + k ≤ length out → n ≡ k → length (take n (drop from out)) ≡ k
+part_length out from k n l e = rw e (length-take-le k (drop from out) (omega (arith, length-drop from out, l)))
 
 pub write_none : (bytes out : List ℕ) → length out ≡ length bytes → Written bytes 0 out
 write_none bytes out e = record { size = e; same = refl }
@@ -238,66 +256,40 @@ start-step l j h = rw (add-one j) (start-suc l j h)
 start-end : (l : List Ty) (j : ℕ) → j ≡ length l → start_of l j ≡ separate l
 start-end l j e = rw (take_all j l (omega (arith, e)))
 
-module _ (d old : List ℕ) (n : ℕ) (ask : AskSum d old n) where
-  pub sum-none : start_of (table_of (call_of d)) 0 ≡ 0
-  unfolding separate
-  sum-none = refl
+-- these bytes of a record stand there
+four_stand : (bytes : List ℕ) (from a b c e : ℕ) → from + 4 ≤ length bytes → a ≡ byte_at bytes from → b ≡ byte_at bytes (from + 1) → c ≡ byte_at bytes (from + 2) → e ≡ byte_at bytes (from + 3)
+    → Stands bytes (a ∷ b ∷ c ∷ e ∷ []) from
+four_stand bytes from a b c e l p q r s = record { room = l; same = by }
+  where
+    by : (i : ℕ) → i < 4 → get_or (a ∷ b ∷ c ∷ e ∷ []) i 0 ≡ get_or bytes (from + i) 0
+    by zero h = let z : from + 0 ≡ from = omega arith in rw z p
+    by (suc zero) h = q
+    by (suc (suc zero)) h = r
+    by (suc (suc (suc zero))) h = s
+    by (suc (suc (suc (suc i)))) h = absurd (omega arith)
 
-  pub sum-next : (j x y : ℕ) → j < n → x ≡ start_of (table_of (call_of d)) j → y ≡ run_length d (get_or old j 0) → x + y ≡ start_of (table_of (call_of d)) (j + 1)
-  sum-next j x y l a b = omega (arith, a, b, ask.are j l, start-step (table_of (call_of d)) j (omega (arith, l, ask.many)))
+eleven_stand : (bytes : List ℕ) (a b c e f g h i j k l : ℕ) → 11 ≤ length bytes
+    → a ≡ byte_at bytes 0 → b ≡ byte_at bytes 1 → c ≡ byte_at bytes 2 → e ≡ byte_at bytes 3 → f ≡ byte_at bytes 4 → g ≡ byte_at bytes 5
+    → h ≡ byte_at bytes 6 → i ≡ byte_at bytes 7 → j ≡ byte_at bytes 8 → k ≡ byte_at bytes 9 → l ≡ byte_at bytes 10
+    → Stands bytes (a ∷ b ∷ c ∷ e ∷ f ∷ g ∷ h ∷ i ∷ j ∷ k ∷ l ∷ []) 0
+eleven_stand bytes a b c e f g h i j k l long p0 p1 p2 p3 p4 p5 p6 p7 p8 p9 p10 = record { room = omega (arith, long); same = by }
+  where
+    by : (m : ℕ) → m < 11 → get_or (a ∷ b ∷ c ∷ e ∷ f ∷ g ∷ h ∷ i ∷ j ∷ k ∷ l ∷ []) m 0 ≡ get_or bytes (0 + m) 0
+    by zero q = p0
+    by (suc zero) q = p1
+    by (suc (suc zero)) q = p2
+    by (suc (suc (suc zero))) q = p3
+    by (suc (suc (suc (suc zero)))) q = p4
+    by (suc (suc (suc (suc (suc zero))))) q = p5
+    by (suc (suc (suc (suc (suc (suc zero)))))) q = p6
+    by (suc (suc (suc (suc (suc (suc (suc zero))))))) q = p7
+    by (suc (suc (suc (suc (suc (suc (suc (suc zero)))))))) q = p8
+    by (suc (suc (suc (suc (suc (suc (suc (suc (suc zero))))))))) q = p9
+    by (suc (suc (suc (suc (suc (suc (suc (suc (suc (suc zero)))))))))) q = p10
+    by (suc (suc (suc (suc (suc (suc (suc (suc (suc (suc (suc m))))))))))) q = absurd (omega arith)
 
-  pub sum-end : (j x : ℕ) → j ≡ n → x ≡ start_of (table_of (call_of d)) j → x ≡ separate (table_of (call_of d))
-  sum-end j x e a = a ∙ start-end (table_of (call_of d)) j (e ∙ sym ask.many)
+-- ---- the second byte of a record
 
-module _ (d new old : List ℕ) (n : ℕ) (all : AllNumbered d new old n) where
-  pub ask-sum : AskSum d old n
-  ask-sum = record {
-    whole = accepted-whole d (accepted-form d (accepted-types d all.numbers.right));
-    many = write_many d new old n all;
-    few = (write_low d new old n all).0;
-    olds = old-low d new old n all;
-    are = λ j l. run_is j l (view (kind_at d (get_or old j 0)));
-  }
-    where
-      run_is : (j : ℕ) → j < n → View (kind_at d (get_or old j 0)) → run_length d (get_or old j 0) ≡ many_of (members_of (at (table_of (call_of d)) j))
-      run_is j l (v0 e) = run_none d (get_or old j 0) (omega (arith, e)) ∙ sym (many-none d new old n all j l (omega (arith, e)))
-      run_is j l (v1 e) = run_none d (get_or old j 0) (omega (arith, e)) ∙ sym (many-none d new old n all j l (omega (arith, e)))
-      run_is j l (v2 e) = run-some d (get_or old j 0) e ∙ many_is d new old n all j l e
-
-  pub ask-arguments : separate (table_of (call_of d)) ≤ 255 → AskArguments d new (11 + 4 * n + separate (table_of (call_of d)))
-  ask-arguments few = record {
-    whole = accepted-whole d (accepted-form d (accepted-types d all.numbers.right));
-    below = λ i l. let b = argument-small d new old n all i l in (b.0, omega (arith, b.1));
-    are = argument-byte d new old n all;
-    room = omega (arith, write_length d new old n all);
-    short = omega (arith, write_length d new old n all, write_low d new old n all, few);
-  }
-
-  pub ask-run : separate (table_of (call_of d)) ≤ 255 → (j : ℕ) → j < n → 2 ≤ kind_at d (get_or old j 0) → AskRun d new (a_at d (get_or old j 0)) (count_at d (get_or old j 0)) (11 + 4 * n + start_of (table_of (call_of d)) j)
-  ask-run few j l two = record {
-    whole = accepted-whole d (accepted-form d (accepted-types d all.numbers.right));
-    fits = λ i m. omega (arith, m, (sized-ruled d (get_or old j 0) (accepted-sized d (accepted-types d all.numbers.right) (get_or old j 0) (all.numbers.olds j l))).run two);
-    below = λ i m. let b = member-small d new old n all j l two i m in (b.0, omega (arith, b.1));
-    are = member-byte d new old n all j l two;
-    room = omega (arith, write_length d new old n all, run_room d new old n all j l, many_is d new old n all j l two);
-    short = omega (arith, write_length d new old n all, write_low d new old n all, few);
-  }
-
--- one byte more, in a loop
-pub write_next : (bytes out : List ℕ) (from i v : ℕ) → Written bytes (from + i) out → from + i < length bytes → v ≡ byte_at bytes (from + i) → Written bytes (from + (i + 1)) (set out (from + i) v)
-write_next bytes out from i v w l e = let q : from + (i + 1) ≡ from + i + 1 = omega arith in rw q (write_one bytes out (from + i) v w l e)
-
-pub write_start : (bytes out : List ℕ) (from : ℕ) → Written bytes from out → Written bytes (from + 0) out
-write_start bytes out from w = let q : from + 0 ≡ from = omega arith in rw q w
-
-pub write_four : (bytes out : List ℕ) (from a b c e : ℕ) → Written bytes from out → from + 4 ≤ length bytes → a ≡ byte_at bytes from → b ≡ byte_at bytes (from + 1) → c ≡ byte_at bytes (from + 2) → e ≡ byte_at bytes (from + 3)
-    → Written bytes (from + 4) (set (set (set (set out from a) (from + 1) b) (from + 2) c) (from + 3) e)
-write_four bytes out from a b c e w l p q r s =
-    write_next bytes (set (set (set out from a) (from + 1) b) (from + 2) c) from 3 e
-    (write_next bytes (set (set out from a) (from + 1) b) from 2 c
-    (write_next bytes (set out from a) from 1 b (write_one bytes out from a w (omega arith) p) (omega arith) q) (omega arith) r) (omega arith) s
-
--- the second byte of a record
 module _ (d new : List ℕ) (k m : ℕ) where
   pub second-high : 1 < kind_at d k → m ≡ second_at d new k m
   unfolding second_at
@@ -311,83 +303,106 @@ module _ (d new : List ℕ) (k m : ℕ) where
   unfolding second_at
   second-one e = rw e
 
-module _ (d new old : List ℕ) (n : ℕ) (ask : AskWrite d new old n) where
-  short : length (tidy_of (call_of d)) ≤ 1024
-  short = omega (arith, write_length d new old n ask.all, write_low d new old n ask.all, ask.few)
+module _ (d : List ℕ) (right : uses_refusal d ≡ 0) where
+  pub right_whole : Whole d
+  right_whole = accepted-whole d (accepted-form d (accepted-types d right))
 
-  whole-d : Whole d
-  whole-d = accepted-whole d (accepted-form d (accepted-types d ask.all.numbers.right))
+  pub right_few : types_in d ≤ 64
+  right_few = omega (arith, accepted-counts d (accepted-form d (accepted-types d right)))
 
-  module _ (j : ℕ) (l : j < n) where
-    old-sized : Sized (model_in d) d (get_or old j 0)
-    old-sized = accepted-sized d (accepted-types d ask.all.numbers.right) (get_or old j 0) (ask.all.numbers.olds j l)
+  module _ (k : ℕ) (known : k < types_in d) where
+    sized-k : Sized (model_in d) d k
+    sized-k = accepted-sized d (accepted-types d right) k known
 
-    pub runs-ask : (k first count from : ℕ) → k ≡ get_or old j 0 → first ≡ a_at d k → count ≡ run_length d k → from ≡ 11 + 4 * n + start_of (table_of (call_of d)) j → AskRun d new first count from
-    runs-ask k first count from ek ef ec e = by (view (kind_at d (get_or old j 0)))
-      where
-        empty : kind_at d (get_or old j 0) < 2 → AskRun d new first count from
-        empty h =
-            let z : count ≡ 0 = ec ∙ rw ek (run_none d (get_or old j 0) h) in
-            record {
-              whole = whole-d;
-              fits = λ i m. absurd (omega (arith, z, m));
-              below = λ i m. absurd (omega (arith, z, m));
-              are = λ i m. absurd (omega (arith, z, m));
-              room = omega (arith, e, z, write_length d new old n ask.all, run_room d new old n ask.all j l);
-              short = short;
-            }
+    pub kind-byte_low : kind_at d k < 256
+    kind-byte_low = omega (arith, kind-top d k sized-k)
 
-        by : View (kind_at d (get_or old j 0)) → AskRun d new first count from
-        by (v0 z) = empty (omega (arith, z))
-        by (v1 z) = empty (omega (arith, z))
-        by (v2 z) = rw (e, ef, ec, ek, run-some d (get_or old j 0) z) (ask-run d new old n ask.all ask.few j l z)
+    pub code_low : kind_at d k ≡ 0 → a_at d k < 256
+    code_low e = omega (arith, (sized-ruled d k sized-k).code e)
 
-    pub second-ask : (k : ℕ) → k ≡ get_or old j 0 → AskSecond d new k
-    second-ask k e = rw e (record { whole = whole-d; known = ask.all.numbers.olds j l; below = λ z. (element-small d new old n ask.all j l z).0 })
+    pub element_low : kind_at d k ≡ 1 → a_at d k < 64
+    element_low e = omega (arith, right_few, known, (sized-ruled d k sized-k).element e)
 
-    second-right : (m : ℕ) → m ≡ start_of (table_of (call_of d)) j → (second_at d new (get_or old j 0) m < 256) × (second_at d new (get_or old j 0) m ≡ byte_at (tidy_of (call_of d)) (11 + 4 * j + 1))
-    second-right m e = by (view (kind_at d (get_or old j 0)))
-      where
-        by : View (kind_at d (get_or old j 0)) → (second_at d new (get_or old j 0) m < 256) × (second_at d new (get_or old j 0) m ≡ byte_at (tidy_of (call_of d)) (11 + 4 * j + 1))
-        by (v0 z) = rw (← second-zero d new (get_or old j 0) m z) (omega (arith, (sized-ruled d (get_or old j 0) old-sized).code z), second-basic d new old n ask.all j l z)
-        by (v1 z) = rw (← second-one d new (get_or old j 0) m z) (omega (arith, element-small d new old n ask.all j l z), second-array d new old n ask.all j l z)
-        by (v2 z) =
-            rw (← second-high d new (get_or old j 0) m z) (omega (arith, e, run_room d new old n ask.all j l, ask.few), e ∙ second_group d new old n ask.all j l z)
+-- ---- what the functions ask and leave
 
-    pub record_ask : (k second m : ℕ) → k ≡ get_or old j 0 → m ≡ start_of (table_of (call_of d)) j → second ≡ second_at d new k m → AskRecord d k second (11 + 4 * j)
-    record_ask k second m ek em es =
-        let r = second-right m em in
-        rw (es, ek) (record {
-          whole = whole-d;
-          known = ask.all.numbers.olds j l;
-          kind = (omega (arith, kind-top d (get_or old j 0) old-sized), kind-byte d new old n ask.all j l);
-          second_is = r;
-          low = low_byte d new old n ask.all j l;
-          high = high_byte d new old n ask.all j l;
-          room = omega (arith, write_length d new old n ask.all);
-          short = short;
-        })
+module _ (d new old : List ℕ) (n : ℕ) (all : AllNumbered d new old n) where
+  run_is : (j : ℕ) → j < n → View (kind_at d (get_or old j 0)) → run_length d (get_or old j 0) ≡ many_of (members_of (at (table_of (call_of d)) j))
+  run_is j l (v0 e) = run_none d (get_or old j 0) (omega (arith, e)) ∙ sym (many-none d new old n all j l (omega (arith, e)))
+  run_is j l (v1 e) = run_none d (get_or old j 0) (omega (arith, e)) ∙ sym (many-none d new old n all j l (omega (arith, e)))
+  run_is j l (v2 e) = run-some d (get_or old j 0) e ∙ many_is d new old n all j l e
 
--- the header
-pub write_eleven : (bytes out : List ℕ) (a b c e f g h i j k l : ℕ) → length out ≡ length bytes → 11 ≤ length bytes
-    → a ≡ byte_at bytes 0 → b ≡ byte_at bytes 1 → c ≡ byte_at bytes 2 → e ≡ byte_at bytes 3 → f ≡ byte_at bytes 4 → g ≡ byte_at bytes 5
-    → h ≡ byte_at bytes 6 → i ≡ byte_at bytes 7 → j ≡ byte_at bytes 8 → k ≡ byte_at bytes 9 → l ≡ byte_at bytes 10
-    → Written bytes 11 (set (set (set (set (set (set (set (set (set (set (set out 0 a) 1 b) 2 c) 3 e) 4 f) 5 g) 6 h) 7 i) 8 j) 9 k) 10 l)
-write_eleven bytes out a b c e f g h i j k l size long p0 p1 p2 p3 p4 p5 p6 p7 p8 p9 p10 =
-    write_one bytes _ 10 l
-    (write_one bytes _ 9 k
-    (write_one bytes _ 8 j
-    (write_one bytes _ 7 i
-    (write_one bytes _ 6 h
-    (write_one bytes _ 5 g
-    (write_one bytes _ 4 f
-    (write_one bytes _ 3 e
-    (write_one bytes _ 2 c (write_one bytes _ 1 b (write_one bytes out 0 a (write_none bytes out size) (omega arith) p0) (omega arith) p1) (omega arith) p2) (omega arith) p3) (omega arith) p4) (omega arith) p5) (omega arith) p6) (omega arith) p7) (omega arith) p8) (omega arith) p9) (omega arith) p10
+  pub sum-none : start_of (table_of (call_of d)) 0 ≡ 0
+  unfolding separate
+  sum-none = refl
 
-module _ (d out : List ℕ) (n members returns : ℕ) (ask : AskHead d n members returns (length out)) where
-  pub head_written : (x y z : ℕ) → x ≡ n → y ≡ returns → z ≡ members
-      → Written (tidy_of (call_of d)) 11 (set (set (set (set (set (set (set (set (set (set (set out 0 75) 1 67) 2 66) 3 1) 4 0) 5 x) 6 (byte_at d 6)) 7 (byte_at d 7)) 8 (byte_at d 8)) 9 y) 10 z)
+  pub sum-next : (j x y : ℕ) → j < n → x ≡ start_of (table_of (call_of d)) j → y ≡ run_length d (get_or old j 0) → x + y ≡ start_of (table_of (call_of d)) (j + 1)
+  sum-next j x y l a b = omega (arith, a, b, run_is j l (view (kind_at d (get_or old j 0))), start-step (table_of (call_of d)) j (omega (arith, l, write_many d new old n all)))
+
+  pub sum-end : (j x : ℕ) → j ≡ n → x ≡ start_of (table_of (call_of d)) j → x ≡ separate (table_of (call_of d))
+  sum-end j x e a = a ∙ start-end (table_of (call_of d)) j (e ∙ sym (write_many d new old n all))
+
+  pub sum-low : (j : ℕ) → j < n → start_of (table_of (call_of d)) j + run_length d (get_or old j 0) ≤ separate (table_of (call_of d))
+  sum-low j l = omega (arith, run_is j l (view (kind_at d (get_or old j 0))), run_room d new old n all j l)
+
+  -- the record of number j
+  pub record_stands : (j m v : ℕ) → j < n → m ≡ start_of (table_of (call_of d)) j → v ≡ second_at d new (get_or old j 0) m
+      → Stands (tidy_of (call_of d)) (kind_at d (get_or old j 0) ∷ v ∷ (count_at d (get_or old j 0) % 256) ∷ (count_at d (get_or old j 0) / 256) ∷ []) (11 + 4 * j)
+  record_stands j m v l e q =
+      four_stand (tidy_of (call_of d)) (11 + 4 * j) (kind_at d (get_or old j 0)) v (count_at d (get_or old j 0) % 256) (count_at d (get_or old j 0) / 256)
+      (omega (arith, l, write_length d new old n all)) (kind-byte d new old n all j l) (q ∙ by (view (kind_at d (get_or old j 0)))) (low_byte d new old n all j l) (high_byte d new old n all j l)
+    where
+      by : View (kind_at d (get_or old j 0)) → second_at d new (get_or old j 0) m ≡ byte_at (tidy_of (call_of d)) (11 + 4 * j + 1)
+      by (v0 z) = rw (← second-zero d new (get_or old j 0) m z) (second-basic d new old n all j l z)
+      by (v1 z) = rw (← second-one d new (get_or old j 0) m z) (second-array d new old n all j l z)
+      by (v2 z) = rw (← second-high d new (get_or old j 0) m z) (e ∙ second_group d new old n all j l z)
+
+  -- the members of number j
+  pub run-ask : (j : ℕ) → j < n → AskRun d (a_at d (get_or old j 0)) (run_length d (get_or old j 0))
+  run-ask j l = by (view (kind_at d (get_or old j 0)))
+    where
+      none : kind_at d (get_or old j 0) < 2 → AskRun d (a_at d (get_or old j 0)) (run_length d (get_or old j 0))
+      none h =
+          let z = run_none d (get_or old j 0) h in
+          record { whole = right_whole d all.numbers.right; fits = λ i m. absurd (omega (arith, z, m)); below = λ i m. absurd (omega (arith, z, m)) }
+
+      by : View (kind_at d (get_or old j 0)) → AskRun d (a_at d (get_or old j 0)) (run_length d (get_or old j 0))
+      by (v0 z) = none (omega (arith, z))
+      by (v1 z) = none (omega (arith, z))
+      by (v2 z) =
+          rw (run-some d (get_or old j 0) z)
+          (record {
+            whole = right_whole d all.numbers.right;
+            fits = λ i m. omega (arith, m, (sized-ruled d (get_or old j 0) (accepted-sized d (accepted-types d all.numbers.right) (get_or old j 0) (all.numbers.olds j l))).run z);
+            below = λ i m. (member-small d new old n all j l z i m).0;
+          })
+
+  pub run_stands : (j from : ℕ) (part : List ℕ) → j < n → from ≡ 11 + 4 * n + start_of (table_of (call_of d)) j → length part ≡ run_length d (get_or old j 0)
+      → ((i : ℕ) → i < length part → get_or part i 0 ≡ get_or new (member_at d (a_at d (get_or old j 0) + i)) 0) → Stands (tidy_of (call_of d)) part from
+  run_stands j from part l e q h = record {
+    room = omega (arith, e, q, write_length d new old n all, sum-low j l);
+    same = λ i m. h i m ∙ by i (omega (arith, m, q)) (view (kind_at d (get_or old j 0)));
+  }
+    where
+      by : (i : ℕ) → i < run_length d (get_or old j 0) → View (kind_at d (get_or old j 0)) → get_or new (member_at d (a_at d (get_or old j 0) + i)) 0 ≡ get_or (tidy_of (call_of d)) (from + i) 0
+      by i m (v0 z) = absurd (omega (arith, m, run_none d (get_or old j 0) (omega (arith, z))))
+      by i m (v1 z) = absurd (omega (arith, m, run_none d (get_or old j 0) (omega (arith, z))))
+      by i m (v2 z) = rw e (member-byte d new old n all j l z i (omega (arith, m, run-some d (get_or old j 0) z)))
+
+  -- the arguments
+  pub arguments-ask : (i : ℕ) → i < arguments_in d → argument_at d i < 64
+  arguments-ask i l = (argument-small d new old n all i l).0
+
+  pub arguments_stand : (part : List ℕ) → length part ≡ arguments_in d → ((i : ℕ) → i < length part → get_or part i 0 ≡ get_or new (argument_at d i) 0)
+      → Stands (tidy_of (call_of d)) part (11 + 4 * n + separate (table_of (call_of d)))
+  arguments_stand part q h = record {
+    room = omega (arith, q, write_length d new old n all);
+    same = λ i m. h i m ∙ argument-byte d new old n all i (omega (arith, m, q));
+  }
+
+  -- the header
+  pub head_stands : (members returns : ℕ) → members ≡ separate (table_of (call_of d)) → returns ≡ return_number (table_of (call_of d)) (call_of d).returns
+      → Stands (tidy_of (call_of d)) (75 ∷ 67 ∷ 66 ∷ 1 ∷ 0 ∷ n ∷ byte_at d 6 ∷ byte_at d 7 ∷ byte_at d 8 ∷ returns ∷ members ∷ []) 0
   unfolding tidy_of tidy_by
-  head_written x y z ex ey ez =
-      write_eleven (tidy_of (call_of d)) out 75 67 66 1 0 x (byte_at d 6) (byte_at d 7) (byte_at d 8) y z ask.room (omega (arith, ask.room, ask.long))
-      refl refl refl refl refl (ex ∙ ask.many) (sym (flags-call d)) (sym (named-call d)) (sym (many-call d)) (ey ∙ ask.number) (ez ∙ ask.sum)
+  head_stands members returns em er =
+      eleven_stand (tidy_of (call_of d)) 75 67 66 1 0 n (byte_at d 6) (byte_at d 7) (byte_at d 8) returns members (omega (arith, write_length d new old n all))
+      refl refl refl refl refl (sym (write_many d new old n all)) (sym (flags-call d)) (sym (named-call d)) (sym (many-call d)) er em

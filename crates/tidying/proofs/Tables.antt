@@ -10,7 +10,7 @@ use Rattle.types.specs.Tree.{Ty, basic}
 use Rattle.tidying.specs.Same.{same_ty}
 use Rattle.tidying.specs.Numbering.{index_of, completed}
 use Rattle.tidying.specs.Ordered.{at}
-use Rattle.tidying.proofs.Same.{same_true, same_self}
+use Rattle.tidying.specs.Equal.{same_true, same_self}
 
 pub index_bound : (table : List Ty) (t : Ty) → index_of table t ≤ length table
 unfolding index_of

@@ -20,12 +20,12 @@ use Rattle.layout.proofs.Verdict.{accepted-uses}
 use Rattle.tidying.specs.Call.{Call, call_of}
 use Rattle.tidying.specs.Numbering.{index_of, table_of}
 use Rattle.tidying.specs.Ordered.{at, Ordered}
-use Rattle.tidying.specs.Tidy.{members_of, many_of, separate, kind_of, second_of, count_of, tidy_by, tidy_of}
+use Rattle.tidying.specs.Tidy.{start_of, members_of, many_of, separate, kind_of, second_of, count_of, tidy_by, tidy_of}
 use Rattle.tidying.specs.Asks.{run_length}
 use Rattle.tidying.specs.Answers.{tidied, length_refusal, length_answer}
 use Rattle.tidying.specs.Statements.{runs_before, TidyTable, Tidiable}
 use Rattle.tidying.proofs.Reached.{table-right}
-use Rattle.tidying.proofs.Bytes.{start_of, types-tidy, members-tidy, kind-tidy, second-tidy, count-tidy}
+use Rattle.tidying.proofs.Bytes.{types-tidy, members-tidy, kind-tidy, second-tidy, count-tidy}
 use Rattle.tidying.proofs.Decoded.{type-said}
 use Rattle.tidying.proofs.Known.{table-no_more}
 use Rattle.tidying.proofs.Accepted.{length-tidy, types-low, tidy-call}

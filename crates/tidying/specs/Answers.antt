@@ -8,7 +8,6 @@ use Rattle.tidying.specs.Call.{call_of}
 use Rattle.tidying.specs.Numbering.{table_of}
 use Rattle.tidying.specs.Tidy.{separate, tidy_of}
 use Rattle.form.specs.declared.Refusal.{Refusal}
-use Rattle.form.specs.Reading.{refusal_of}
 use Rattle.units.specs.declared.Bytes.{Bytes}
 
 -- the tidy form of a description
@@ -44,12 +43,6 @@ length_answer d = cond (eqb (length_refusal d) 0) (Ok (record { 0 = length (tidi
 unfoldable pub tidy_after : List ℕ → List ℕ → List ℕ
 tidy_after d out = cond (eqb (tidy_refusal d (length out)) 0) (tidied d) out
 
--- how many types the tidy form has, and how many members
-unfoldable pub count_answer : List ℕ → Result (ℕ × ℕ) Refusal
-count_answer d =
-    cond (eqb (length_refusal d) 0) (Ok (length (table_of (call_of d)), separate (table_of (call_of d)))) (Err (refusal_for d (length_refusal d)))
-
--- the refusal that this carries
-abbrev pub refusal_in : Result (ℕ × ℕ) Refusal → Refusal
-refusal_in (Ok (n, m)) = refusal_of 0
-refusal_in (Err r) = r
+-- and what is answered
+unfoldable pub tidy_answer : List ℕ → ℕ → Result (Unit {0}) Refusal
+tidy_answer d room = cond (eqb (tidy_refusal d room) 0) (Ok tt) (Err (refusal_for d (tidy_refusal d room)))

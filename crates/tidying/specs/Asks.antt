@@ -1,18 +1,13 @@
 -- What the functions that number types ask and leave: `new` has the number of each type of the description, 255 where it has none yet,
 -- and `old` the type of each number. Assumes nothing: these are definitions.
-use Rattle.std.specs.Prelude.{◌≡◌, Bool, cond, List, [], ◌∷◌, ◌++◌, ℕ, zero, suc, ◌+◌, ◌/◌, ◌%◌, ◌≤◌, ◌<◌, eqb, ltb, length, get_or, take}
+use Rattle.std.specs.Prelude.{◌≡◌, Bool, cond, List, [], ◌∷◌, ◌++◌, ℕ, zero, suc, ◌+◌, ◌≤◌, ◌<◌, eqb, ltb, length, get_or, take}
 use Rattle.description.specs.Description.{types_in, members_in, arguments_in, argument_at, return_in, kind_at, a_at, count_at, member_at, Whole}
-use Rattle.types.specs.Tree.{Ty, basic}
+use Rattle.types.specs.Tree.{Ty}
 use Rattle.types.specs.Decode.{ty_at}
 use Rattle.uses.specs.Uses.{uses_refusal}
 use Rattle.tidying.specs.Numbering.{index_of, completed, reached, table_of}
 use Rattle.tidying.specs.Call.{call_of}
 use Rattle.tidying.specs.Ordered.{Ordered}
-use Rattle.tidying.specs.Tidy.{members_of, many_of, separate, return_number, tidy_of}
-
--- no type has a number
-abbrev pub Blank : List ℕ → Type 0
-Blank new = (k : ℕ) → k < 64 → get_or new k 0 ≡ 255
 
 -- type k has a number
 abbrev pub Has : List ℕ → ℕ → Type 0
@@ -64,8 +59,7 @@ pub record AskSame (d new : List ℕ) (j k : ℕ) : Type 0 where
   pub others : Parts d new k
 
 -- type k is to be completed
-pub record AskComplete (d new old : List ℕ) (n k : ℕ) : Type 0 where
-  pub numbers : Numbers d new old n
+pub record Completable (d new : List ℕ) (k : ℕ) : Type 0 where
   pub known : k < types_in d
   pub parts : Parts d new k
   pub blank : get_or new k 0 ≡ 255
@@ -90,11 +84,6 @@ pub record AskMembers (d : List ℕ) (first count : ℕ) : Type 0 where
   pub fits : first + count ≤ members_in d
   pub below : (i : ℕ) → first ≤ i → i < first + count → member_at d i < 64
 
--- the part that is next, or the type itself
-pub record NextPart (d new : List ℕ) (k r : ℕ) : Type 0 where
-  pub done : r ≡ k → Parts d new k
-  pub on : (r ≡ k → ⊥) → Onward d new k r
-
 -- a type without a number
 pub record AskNew (d new : List ℕ) (k : ℕ) : Type 0 where
   pub right : uses_refusal d ≡ 0
@@ -103,9 +92,7 @@ pub record AskNew (d new : List ℕ) (k : ℕ) : Type 0 where
 
 -- r is completed first on the way to k
 pub record Lowest (d new : List ℕ) (k r : ℕ) : Type 0 where
-  pub known : r < types_in d
-  pub blank : get_or new r 0 ≡ 255
-  pub parts : Parts d new r
+  pub ready : Completable d new r
   pub first : (old : List ℕ) (n : ℕ) → Numbers d new old n → reached (tabled d old n) (ty_at d k) ≡ reached (completed (tabled d old n) (ty_at d r)) (ty_at d k)
 
 -- the types without a number
@@ -115,7 +102,6 @@ blanks (x ∷ l) = cond (eqb x 255) 1 0 + blanks l
 
 -- what numbering type k leaves, where these are its types
 pub record Numbered (d : List ℕ) (k : ℕ) (new₀ new old : List ℕ) (n : ℕ) (table : List Ty) : Type 0 where
-  pub numbers : Numbers d new old n
   pub is : tabled d old n ≡ table
   pub has : Has new k
   pub kept : (i : ℕ) → Has new₀ i → Has new i
@@ -132,66 +118,21 @@ pub record Written (bytes : List ℕ) (from : ℕ) (out : List ℕ) : Type 0 whe
   pub size : length out ≡ length bytes
   pub same : take from out ≡ take from bytes
 
--- all types are numbered, and their members fit
-pub record AskWrite (d new old : List ℕ) (n : ℕ) : Type 0 where
-  pub all : AllNumbered d new old n
-  pub few : separate (table_of (call_of d)) ≤ 255
-
 -- the members of type k: none where it has no run
 unfoldable pub run_length : List ℕ → ℕ → ℕ
 run_length d k = cond (ltb (kind_at d k) 2) 0 (count_at d k)
 
--- the types of the tidy form, whose members are counted
-pub record AskSum (d old : List ℕ) (n : ℕ) : Type 0 where
-  pub whole : Whole d
-  pub many : length (table_of (call_of d)) ≡ n
-  pub few : n ≤ 64
-  pub olds : (j : ℕ) → j < n → (get_or old j 0 < types_in d) × (get_or old j 0 < 64)
-  pub are : (j : ℕ) → j < n → run_length d (get_or old j 0) ≡ many_of (members_of (get_or (table_of (call_of d)) j (basic 0)))
+-- these bytes stand in the others from this place on
+pub record Stands (bytes part : List ℕ) (from : ℕ) : Type 0 where
+  pub room : from + length part ≤ length bytes
+  pub same : (i : ℕ) → i < length part → get_or part i 0 ≡ get_or bytes (from + i) 0
 
--- what the header says, and a buffer of the tidy length
-pub record AskHead (d : List ℕ) (n members returns size : ℕ) : Type 0 where
-  pub headed : 11 ≤ length d
-  pub many : n ≡ length (table_of (call_of d))
-  pub sum : members ≡ separate (table_of (call_of d))
-  pub number : returns ≡ return_number (table_of (call_of d)) (call_of d).returns
-  pub small : (n < 256) × ((members < 256) × (returns < 256))
-  pub room : size ≡ length (tidy_of (call_of d))
-  pub long : 11 ≤ size
-
--- `count` members from place `first` on have the numbers that stand at `from` in the tidy bytes
-pub record AskRun (d new : List ℕ) (first count from : ℕ) : Type 0 where
+-- `count` members from place `first` on are types
+pub record AskRun (d : List ℕ) (first count : ℕ) : Type 0 where
   pub whole : Whole d
   pub fits : (i : ℕ) → i < count → first + i < members_in d
-  pub below : (i : ℕ) → i < count → (member_at d (first + i) < 64) × (get_or new (member_at d (first + i)) 0 < 256)
-  pub are : (i : ℕ) → i < count → get_or new (member_at d (first + i)) 0 ≡ get_or (tidy_of (call_of d)) (from + i) 0
-  pub room : from + count ≤ length (tidy_of (call_of d))
-  pub short : length (tidy_of (call_of d)) ≤ 1024
-
--- and so do the arguments
-pub record AskArguments (d new : List ℕ) (from : ℕ) : Type 0 where
-  pub whole : Whole d
-  pub below : (i : ℕ) → i < arguments_in d → (argument_at d i < 64) × (get_or new (argument_at d i) 0 < 256)
-  pub are : (i : ℕ) → i < arguments_in d → get_or new (argument_at d i) 0 ≡ get_or (tidy_of (call_of d)) (from + i) 0
-  pub room : from + arguments_in d ≤ length (tidy_of (call_of d))
-  pub short : length (tidy_of (call_of d)) ≤ 1024
+  pub below : (i : ℕ) → i < count → member_at d (first + i) < 64
 
 -- the second byte of the record of type k, whose run, if it has one, begins at place m
 unfoldable pub second_at : List ℕ → List ℕ → ℕ → ℕ → ℕ
 second_at d new k m = cond (ltb 1 (kind_at d k)) m (cond (eqb (kind_at d k) 0) (a_at d k) (get_or new (a_at d k) 0))
-
-pub record AskSecond (d new : List ℕ) (k : ℕ) : Type 0 where
-  pub whole : Whole d
-  pub known : k < types_in d
-  pub below : kind_at d k ≡ 1 → a_at d k < 64
-
--- the record of type k stands at `from` in the tidy bytes
-pub record AskRecord (d : List ℕ) (k second from : ℕ) : Type 0 where
-  pub whole : Whole d
-  pub known : k < types_in d
-  pub kind : (kind_at d k < 256) × (kind_at d k ≡ get_or (tidy_of (call_of d)) from 0)
-  pub second_is : (second < 256) × (second ≡ get_or (tidy_of (call_of d)) (from + 1) 0)
-  pub low : count_at d k % 256 ≡ get_or (tidy_of (call_of d)) (from + 2) 0
-  pub high : count_at d k / 256 ≡ get_or (tidy_of (call_of d)) (from + 3) 0
-  pub room : from + 4 ≤ length (tidy_of (call_of d))
-  pub short : length (tidy_of (call_of d)) ≤ 1024

@@ -1,4 +1,5 @@
 pub mod Same
+pub mod Equal
 pub mod Call
 pub mod Numbering
 pub mod Ordered

@@ -1,5 +1,5 @@
 -- The tidy bytes of a call: request 2026-03. Assumes nothing: these are definitions.
-use Rattle.std.specs.Prelude.{List, [], ◌∷◌, ◌++◌, map, ℕ, suc, ◌+◌, ◌/◌, ◌%◌, length}
+use Rattle.std.specs.Prelude.{List, [], ◌∷◌, ◌++◌, map, ℕ, suc, ◌+◌, ◌/◌, ◌%◌, length, take}
 use Rattle.types.specs.Tree.{Ty, Tys, basic, array, struct, union, none, more}
 use Rattle.tidying.specs.Call.{Returned, void, returned, Call}
 use Rattle.tidying.specs.Numbering.{index_of, table_of}
@@ -19,6 +19,10 @@ many_of (more t ts) = suc (many_of ts)
 unfoldable pub separate : List Ty → ℕ
 separate [] = 0
 separate (t ∷ ts) = many_of (members_of t) + separate ts
+
+-- where the run of type k begins
+abbrev pub start_of : List Ty → ℕ → ℕ
+start_of l k = separate (take k l)
 
 -- "A type record is kind, a, count (16 bits, little-endian)": of a type with its run, if it has one, from place m on
 abbrev pub kind_of : Ty → ℕ

@@ -1,81 +1,65 @@
 // A mark for each type, equal for equal types: of types with different marks no part is compared, so that runs that are nearly equal cost little (document 02,
 // request 2026-03, "equal ones once").
-ghost use Rattle.std.specs.Prelude.{◌≡◌, ◌<◌, length, get_or};
+ghost use Rattle.std.specs.Prelude.{◌≡◌, ◌<◌};
 ghost use Rattle.description.specs.Description.{types_in};
 ghost use Rattle.types.specs.Decode.{ty_at, tys_from};
 ghost use Rattle.uses.specs.Uses.{uses_refusal};
 ghost use Rattle.tidying.specs.Marks.{mixed, mark_ty, mark_tys, Marked, AskMarks};
 
-// The mark of type k.
-pub fn mark_at(marks: &[u64; 64], k: usize) -> u64
-    requires { k < 64 }
-    ensures { result ≡ get_or marks.now k 0 }
-{
-    marks[k]
+// A description that none of 1 to 9 refuses, with the mark of each of its types.
+#[derive(Clone, Copy)]
+pub struct MarkedTypes<'a> {
+    pub bytes: &'a [u8],
+    pub marks: &'a [u32; 64],
+    ghost judged: { uses_refusal bytes.now ≡ 0 },
+    ghost marked: { Marked bytes.now marks.now (types_in bytes.now) },
 }
 
 // One number more.
-fn mix(mark: u64, next: u64) -> u64
-    requires { (mark < 4294967296) × (next < 4294967296) }
-    ensures { (result ≡ mixed mark next) × (result < 4294967296) }
+fn mix(mark: u32, next: u32) -> u32
+    ensures { result ≡ mixed mark next }
 {
-    (mark * 2654435761 + next) % 4294967296
+    mark.wrapping_mul(2654435761).wrapping_add(next)
 }
 
 // The mark of `count` members from place `first` on, behind what is mixed so far.
-fn mark_members(d: &[u8], marks: &[u64; 64], first: usize, count: usize, start: u64) -> u64
-    requires { AskMarks d.now marks.now first count × (start < 4294967296) }
+fn mark_members(d: &[u8], marks: &[u32; 64], first: usize, count: usize, start: u32) -> u32
+    requires { AskMarks d.now marks.now first count }
     ensures { result ≡ mark_tys start (tys_from (ty_at d.now) d.now first count) }
 {
     let mut mark = start;
-    let mut at = first;
-    let mut left = count;
-    while 0 < left {
-        let next = mark_at(marks, description::member_at(d, at));
-        mark = mix(mark, next);
-        at += 1;
-        left -= 1;
+    for at in first..first + count {
+        mark = mix(mark, marks[description::member_at(d, at)]);
     }
     mark
 }
 
 // The mark of type k, by those of the types below it.
-fn mark_of(d: &[u8], marks: &[u64; 64], k: usize) -> u64
+fn mark_of(d: &[u8], marks: &[u32; 64], k: usize) -> u32
     requires { (uses_refusal d.now ≡ 0) × (k < types_in d.now) × Marked d.now marks.now k }
     ensures { result ≡ mark_ty (ty_at d.now k) }
 {
     let kind = description::kind_at(d, k);
     let a = description::a_at(d, k);
     if kind == 0 {
-        return mix(0, a as u64);
+        return mix(0, a as u32);
     }
     let count = description::count_at(d, k);
     if kind == 1 {
-        let counted = mix(1, count as u64);
-        return mix(counted, mark_at(marks, a));
+        let counted = mix(1, count as u32);
+        return mix(counted, marks[a]);
     }
-    mark_members(d, marks, a, count, kind as u64)
-}
-
-// How many marks there are, which the type of the list says: as a slice it has that as a fact.
-fn entries(marks: &[u64; 64]) -> usize
-    ensures { (result ≡ 64) × (result ≡ length marks.now) }
-{
-    let whole: &[u64] = marks;
-    whole.len()
+    mark_members(d, marks, a, count, kind as u32)
 }
 
 // The marks of all types, from number 0 upward.
-pub fn mark_all(d: &[u8], marks: &mut [u64; 64])
+pub fn mark_all(d: &[u8], marks: &mut [u32; 64])
     requires { uses_refusal d.now ≡ 0 }
     ensures { Marked d.now marks.new (types_in d.now) }
 {
-    entries(marks);
     let types = description::byte_at(d, 5);
-    let mut k = 0;
-    while k < types {
+    for k in 0..types {
         let mark = mark_of(d, marks, k);
         marks[k] = mark;
-        k += 1;
     }
 }

@@ -1,264 +1,238 @@
 // The types of a description numbered for its tidy form (request 2026-03): equal ones once, as each is first completed. Each type
 // is completed once, so that a type that is made of others in many ways is not walked through in as many.
-ghost use Rattle.std.specs.Prelude.{◌≡◌, ℕ, ◌+◌, ◌<◌, ◌≤◌, length, get_or};
-ghost use Rattle.description.specs.Description.{types_in, arguments_in, argument_at};
+ghost use Rattle.std.specs.Prelude.{◌≡◌, ℕ, ◌+◌, ◌<◌, get_or, eqb, MatchOption};
+ghost use Rattle.std.proofs.Props.{props};
+ghost use Rattle.description.specs.Description.{types_in, arguments_in, argument_at, return_in};
 ghost use Rattle.form.specs.Search.{first_from};
 ghost use Rattle.types.specs.Decode.{ty_at, tys_from};
-ghost use Rattle.uses.specs.Uses.{uses_refusal};
 ghost use Rattle.tidying.specs.Same.{same_ty, same_tys};
-ghost use Rattle.tidying.specs.Call.{trees_from};
-ghost use Rattle.tidying.specs.Numbering.{index_of, completed, reached, reached_from};
-ghost use Rattle.tidying.specs.Marks.{Marked};
-ghost use Rattle.tidying.specs.Asks.{Blank, Has, tabled, Parts, Numbers, AskRuns, AskSame, AskComplete, unnumbered, AskMembers, NextPart, AskNew, Lowest, blanks, Numbered, AllNumbered};
+ghost use Rattle.tidying.specs.Call.{trees_from, returned_by};
+ghost use Rattle.tidying.specs.Numbering.{index_of, completed, reached, reached_by, reached_from};
+ghost use Rattle.tidying.specs.Ordered.{Below-prop};
+ghost use Rattle.tidying.specs.Asks.{Has, tabled, Parts, Numbers, AskRuns, AskSame, Completable, unnumbered, AskMembers, Onward, AskNew, Lowest, blanks, Numbered, AllNumbered};
 
-use crate::marking;
+use crate::marking::MarkedTypes;
 
-fn wide(byte: u8) -> usize
-    ensures { (result ≡ byte) × (result < 256) }
-{
-    byte as usize
+// The number of a type that has none yet: no type has it, as there are at most 64. Where a number is read, the type is known to have one, so that an
+// Option would be opened there for nothing: `is_new` asks for it.
+const NONE: u8 = 255;
+
+// The types of a description as far as they have numbers. By type and by number: the two lists are each other's inverse, and fixed memory.
+#[derive(Drop)]
+pub struct Numbering<'a> {
+    pub types: MarkedTypes<'a>,
+    // The number of each type, or NONE.
+    pub numbers: [u8; 64],
+    // The type of each number: the first of equal ones.
+    pub originals: [u8; 64],
+    pub count: usize,
+    ghost right: { Numbers types.bytes.now numbers originals count } by { Prim.hlevel (props, Below-prop) },
 }
 
-// The number of type k, or 255 where it has none yet.
-pub fn number_of(new: &[u8; 64], k: usize) -> usize
-    requires { k < 64 }
-    ensures { (result ≡ get_or new.now k 0) × (result < 256) }
-{
-    wide(new[k])
-}
+impl<'a> Numbering<'a> {
+    // No type has a number.
+    fn new(types: MarkedTypes<'a>) -> Self
+        ensures { (result.types ≡ types.entry) × (result.count ≡ 0) }
+    {
+        Numbering {
+            types,
+            numbers: [NONE; 64],
+            originals: [0; 64],
+            count: 0,
+        }
+    }
 
-// Whether `count` members from place a on and as many from place b on are the same types.
-fn same_members(d: &[u8], new: &[u8; 64], a: usize, b: usize, count: usize) -> bool
-    requires { AskRuns d.now new.now a b count }
-    ensures { result ≡ same_tys (tys_from (ty_at d.now) d.now a count) (tys_from (ty_at d.now) d.now b count) }
-{
-    let mut x = a;
-    let mut y = b;
-    let mut left = count;
-    while 0 < left {
-        let one = number_of(new, description::member_at(d, x));
-        let other = number_of(new, description::member_at(d, y));
-        if one != other {
+    // Whether type k has no number yet.
+    fn is_new(&self, k: usize) -> bool
+        requires { k < 64 }
+        ensures { result ≡ eqb (get_or self.now.numbers k 0) 255 }
+    {
+        self.numbers[k] == NONE
+    }
+
+    // Whether `count` members from place a on and as many from place b on are the same types.
+    fn are_same_members(&self, a: usize, b: usize, count: usize) -> bool
+        requires { AskRuns self.now.types.bytes.now self.now.numbers a b count }
+        ensures { result ≡ same_tys (tys_from (ty_at self.now.types.bytes.now) self.now.types.bytes.now a count)
+            (tys_from (ty_at self.now.types.bytes.now) self.now.types.bytes.now b count) }
+    {
+        let d = self.types.bytes;
+        for i in 0..count {
+            let one = description::member_at(d, a + i);
+            let other = description::member_at(d, b + i);
+            if self.numbers[one] != self.numbers[other] {
+                return false;
+            }
+        }
+        true
+    }
+
+    // Whether types j and k, whose parts have numbers, are the same, by their records.
+    fn are_same_records(&self, j: usize, k: usize) -> bool
+        requires { AskSame self.now.types.bytes.now self.now.numbers j k }
+        ensures { result ≡ same_ty (ty_at self.now.types.bytes.now j) (ty_at self.now.types.bytes.now k) }
+    {
+        let d = self.types.bytes;
+        let kind = description::kind_at(d, j);
+        if kind != description::kind_at(d, k) {
             return false;
         }
-        x += 1;
-        y += 1;
-        left -= 1;
-    }
-    true
-}
-
-// Whether types j and k, whose parts have numbers, are the same, by their records.
-fn same_records(d: &[u8], new: &[u8; 64], j: usize, k: usize) -> bool
-    requires { AskSame d.now new.now j k }
-    ensures { result ≡ same_ty (ty_at d.now j) (ty_at d.now k) }
-{
-    let kind = description::kind_at(d, j);
-    if kind != description::kind_at(d, k) {
-        return false;
-    }
-    let a = description::a_at(d, j);
-    let b = description::a_at(d, k);
-    if kind == 0 {
-        return a == b;
-    }
-    let count = description::count_at(d, j);
-    if count != description::count_at(d, k) {
-        return false;
-    }
-    if kind == 1 {
-        return number_of(new, a) == number_of(new, b);
-    }
-    same_members(d, new, a, b, count)
-}
-
-// The same. Types with different marks are told apart by these alone.
-fn same_types(d: &[u8], new: &[u8; 64], j: usize, k: usize, marks: &[u64; 64]) -> bool
-    requires { AskSame d.now new.now j k × Marked d.now marks.now (types_in d.now) }
-    ensures { result ≡ same_ty (ty_at d.now j) (ty_at d.now k) }
-{
-    if marking::mark_at(marks, j) != marking::mark_at(marks, k) {
-        return false;
-    }
-    same_records(d, new, j, k)
-}
-
-// The number of the type that type k is the same as, or n where there is none.
-fn find_same(
-    d: &[u8],
-    new: &[u8; 64],
-    old: &[u8; 64],
-    n: usize,
-    k: usize,
-    marks: &[u64; 64],
-) -> usize
-    requires { AskComplete d.now new.now old.now n k × Marked d.now marks.now (types_in d.now) }
-    ensures { result ≡ index_of (tabled d.now old.now n) (ty_at d.now k) }
-{
-    let mut j = 0;
-    while j < n {
-        let other = number_of(old, j);
-        if same_types(d, new, other, k, marks) {
-            return j;
+        let a = description::a_at(d, j);
+        let b = description::a_at(d, k);
+        if kind == 0 {
+            return a == b;
         }
-        j += 1;
-    }
-    j
-}
-
-// A number as a byte.
-pub fn narrow(number: usize) -> u8
-    requires { number < 256 }
-    ensures { result ≡ number }
-{
-    number as u8
-}
-
-// Numbers type k, whose parts have numbers: its number is that of the type that it is the same as, or the next.
-fn complete(
-    d: &[u8],
-    k: usize,
-    new: &mut [u8; 64],
-    old: &mut [u8; 64],
-    n: usize,
-    marks: &[u64; 64],
-) -> usize
-    requires { AskComplete d.now new.old old.old n k × Marked d.now marks.now (types_in d.now) }
-    ensures { Numbered d.now k new.old new.new old.new result
-        (completed (tabled d.now old.old n) (ty_at d.now k))
-        × (blanks new.new < blanks new.old) }
-{
-    let j = find_same(d, new, old, n, k, marks);
-    new[k] = narrow(j);
-    if j < n {
-        return n;
-    }
-    old[n] = narrow(k);
-    n + 1
-}
-
-// The first of `count` members from place `first` on that has no number, or the place behind them.
-fn first_new(d: &[u8], new: &[u8; 64], first: usize, count: usize) -> usize
-    requires { AskMembers d.now first count × (first + count < 65536 + 256) }
-    ensures { result ≡ first_from (unnumbered d.now new.now) first count }
-{
-    let end = first + count;
-    let mut at = first;
-    while at < end {
-        if number_of(new, description::member_at(d, at)) == 255 {
-            return at;
+        let count = description::count_at(d, j);
+        if count != description::count_at(d, k) {
+            return false;
         }
-        at += 1;
-    }
-    at
-}
-
-// The first part of type k that has no number, or k where each has one.
-fn next_part(d: &[u8], new: &[u8; 64], k: usize) -> usize
-    requires { AskNew d.now new.now k }
-    ensures { NextPart d.now new.now k result }
-{
-    let kind = description::kind_at(d, k);
-    if kind == 0 {
-        return k;
-    }
-    let a = description::a_at(d, k);
-    if kind == 1 {
-        if number_of(new, a) == 255 {
-            return a;
+        if kind == 1 {
+            return self.numbers[a] == self.numbers[b];
         }
-        return k;
+        self.are_same_members(a, b, count)
     }
-    let count = description::count_at(d, k);
-    let at = first_new(d, new, a, count);
-    if at < a + count {
-        return description::member_at(d, at);
-    }
-    k
-}
 
-// The type that is completed first on the way to type k.
-fn lowest(d: &[u8], new: &[u8; 64], k: usize) -> usize
-    requires { AskNew d.now new.now k }
-    ensures { Lowest d.now new.now k result }
-{
-    let mut at = k;
-    let mut part = next_part(d, new, at);
-    while part != at {
-        at = part;
-        part = next_part(d, new, at);
+    // The same. Types with different marks are told apart by these alone.
+    fn are_same(&self, j: usize, k: usize) -> bool
+        requires { AskSame self.now.types.bytes.now self.now.numbers j k }
+        ensures { result ≡ same_ty (ty_at self.now.types.bytes.now j) (ty_at self.now.types.bytes.now k) }
+    {
+        let marks = self.types.marks;
+        marks[j] == marks[k] && self.are_same_records(j, k)
     }
-    at
-}
 
-// Numbers type k and all that it is made of, depth first.
-fn reach(
-    d: &[u8],
-    k: usize,
-    new: &mut [u8; 64],
-    old: &mut [u8; 64],
-    n: usize,
-    marks: &[u64; 64],
-) -> usize
-    requires { Numbers d.now new.old old.old n × (k < types_in d.now) × Marked d.now marks.now (types_in d.now) }
-    ensures { Numbered d.now k new.old new.new old.new result
-        (reached (tabled d.now old.old n) (ty_at d.now k)) }
-{
-    let mut many = n;
-    let mut number = number_of(new, k);
-    while number == 255 {
-        let part = lowest(d, new, k);
-        many = complete(d, part, new, old, many, marks);
-        number = number_of(new, k);
+    // The number of the type that type k is the same as.
+    fn find_same(&self, k: usize) -> Option<usize>
+        requires { Completable self.now.types.bytes.now self.now.numbers k }
+        ensures { MatchOption result
+            (self.now.count ≡ index_of (tabled self.now.types.bytes.now self.now.originals self.now.count) (ty_at self.now.types.bytes.now k))
+            (λ j. (j ≡ index_of (tabled self.now.types.bytes.now self.now.originals self.now.count) (ty_at self.now.types.bytes.now k)) × (j < self.now.count)) }
+    {
+        for j in 0..self.count {
+            let other = usize::from(self.originals[j]);
+            if self.are_same(other, k) {
+                return Some(j);
+            }
+        }
+        None
     }
-    many
-}
 
-// Numbers the types of all arguments.
-fn reach_arguments(
-    d: &[u8],
-    new: &mut [u8; 64],
-    old: &mut [u8; 64],
-    n: usize,
-    marks: &[u64; 64],
-) -> usize
-    requires { Numbers d.now new.old old.old n × Marked d.now marks.now (types_in d.now) }
-    ensures { Numbers d.now new.new old.new result
-        × (tabled d.now old.new result ≡ reached_from (tabled d.now old.old n) (trees_from d.now 0 (arguments_in d.now)))
-        × ((i : ℕ) → i < arguments_in d.now → Has new.new (argument_at d.now i))
-        × ((i : ℕ) → Has new.old i → Has new.new i) }
-{
-    let arguments = description::byte_at(d, 8);
-    let mut many = n;
-    let mut i = 0;
-    while i < arguments {
-        let k = description::argument_at(d, i);
-        many = reach(d, k, new, old, many, marks);
-        i += 1;
+    // Numbers type k, whose parts have numbers: its number is that of the type that it is the same as, or the next.
+    fn complete(&mut self, k: usize)
+        requires { Completable self.old.types.bytes.now self.old.numbers k }
+        ensures { (self.new.types ≡ self.old.types)
+            × Numbered self.old.types.bytes.now k self.old.numbers self.new.numbers self.new.originals self.new.count
+            (completed (tabled self.old.types.bytes.now self.old.originals self.old.count) (ty_at self.old.types.bytes.now k))
+            × (blanks self.new.numbers < blanks self.old.numbers) }
+    {
+        let found = self.find_same(k);
+        if let Some(j) = found {
+            self.numbers[k] = j as u8;
+            return;
+        }
+        self.numbers[k] = self.count as u8;
+        self.originals[self.count] = k as u8;
+        self.count += 1;
     }
-    many
-}
 
-// How many entries a list of numbers has, which its type says: as a slice it has that as a fact.
-fn entries(list: &[u8; 64]) -> usize
-    ensures { (result ≡ 64) × (result ≡ length list.now) }
-{
-    let whole: &[u8] = list;
-    whole.len()
-}
-
-// Numbers every type that the call reaches, through return, then arguments: `new` has the number of each type of the description,
-// 255 where it is not reached, and `old` the type of each number. The answer is how many there are.
-pub fn reach_all(d: &[u8], new: &mut [u8; 64], old: &mut [u8; 64], marks: &[u64; 64]) -> usize
-    requires { (uses_refusal d.now ≡ 0) × Blank new.old × Marked d.now marks.now (types_in d.now) }
-    ensures { AllNumbered d.now new.new old.new result }
-{
-    entries(new);
-    entries(old);
-    let returns = description::byte_at(d, 9);
-    if returns == 255 {
-        return reach_arguments(d, new, old, 0, marks);
+    // The first of `count` members from place `first` on that has no number.
+    fn first_new(&self, first: usize, count: usize) -> Option<usize>
+        requires { AskMembers self.now.types.bytes.now first count × (first + count < 65536 + 256) }
+        ensures { MatchOption result
+            (first + count ≡ first_from (unnumbered self.now.types.bytes.now self.now.numbers) first count)
+            (λ at. (at ≡ first_from (unnumbered self.now.types.bytes.now self.now.numbers) first count) × (at < first + count)) }
+    {
+        let d = self.types.bytes;
+        for at in first..first + count {
+            if self.is_new(description::member_at(d, at)) {
+                return Some(at);
+            }
+        }
+        None
     }
-    let many = reach(d, returns, new, old, 0, marks);
-    reach_arguments(d, new, old, many, marks)
+
+    // The first part of type k that has no number.
+    fn next_part(&self, k: usize) -> Option<usize>
+        requires { AskNew self.now.types.bytes.now self.now.numbers k }
+        ensures { MatchOption result (Parts self.now.types.bytes.now self.now.numbers k)
+            (λ part. Onward self.now.types.bytes.now self.now.numbers k part) }
+    {
+        let d = self.types.bytes;
+        let kind = description::kind_at(d, k);
+        if kind == 0 {
+            return None;
+        }
+        let a = description::a_at(d, k);
+        if kind == 1 {
+            if self.is_new(a) {
+                return Some(a);
+            }
+            return None;
+        }
+        let at = self.first_new(a, description::count_at(d, k))?;
+        Some(description::member_at(d, at))
+    }
+
+    // The type that is completed first on the way to type k.
+    fn lowest(&self, k: usize) -> usize
+        requires { AskNew self.now.types.bytes.now self.now.numbers k }
+        ensures { Lowest self.now.types.bytes.now self.now.numbers k result }
+    {
+        let mut at = k;
+        while let Some(part) = self.next_part(at) {
+            at = part;
+        }
+        at
+    }
+
+    // Numbers type k and all that it is made of, depth first.
+    fn reach(&mut self, k: usize)
+        requires { k < types_in self.old.types.bytes.now }
+        ensures { (self.new.types ≡ self.old.types)
+            × Numbered self.old.types.bytes.now k self.old.numbers self.new.numbers self.new.originals self.new.count
+            (reached (tabled self.old.types.bytes.now self.old.originals self.old.count) (ty_at self.old.types.bytes.now k)) }
+    {
+        while self.is_new(k) {
+            let part = self.lowest(k);
+            self.complete(part);
+        }
+    }
+
+    // Numbers the returned type.
+    fn reach_return(&mut self)
+        ensures { (self.new.types ≡ self.old.types)
+            × (tabled self.old.types.bytes.now self.new.originals self.new.count
+            ≡ reached_by (tabled self.old.types.bytes.now self.old.originals self.old.count) (returned_by self.old.types.bytes.now))
+            × ((return_in self.old.types.bytes.now ≡ 255 → ⊥) → Has self.new.numbers (return_in self.old.types.bytes.now)) }
+    {
+        let returns = description::byte_at(self.types.bytes, 9);
+        if returns != 255 {
+            self.reach(returns);
+        }
+    }
+
+    // Numbers the types of all arguments.
+    fn reach_arguments(&mut self)
+        ensures { (self.new.types ≡ self.old.types)
+            × (tabled self.old.types.bytes.now self.new.originals self.new.count
+            ≡ reached_from (tabled self.old.types.bytes.now self.old.originals self.old.count) (trees_from self.old.types.bytes.now 0 (arguments_in self.old.types.bytes.now)))
+            × ((i : ℕ) → i < arguments_in self.old.types.bytes.now → Has self.new.numbers (argument_at self.old.types.bytes.now i))
+            × ((i : ℕ) → Has self.old.numbers i → Has self.new.numbers i) }
+    {
+        let d = self.types.bytes;
+        let arguments = description::byte_at(d, 8);
+        for i in 0..arguments {
+            self.reach(description::argument_at(d, i));
+        }
+    }
+
+    // Every type that the call reaches numbered, through return, then arguments.
+    pub fn of_call(types: MarkedTypes<'a>) -> Self
+        ensures { (result.types ≡ types.entry) × AllNumbered types.entry.bytes.now result.numbers result.originals result.count }
+    {
+        let mut numbering = Numbering::new(types);
+        numbering.reach_return();
+        numbering.reach_arguments();
+        numbering
+    }
 }

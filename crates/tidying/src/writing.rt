@@ -1,15 +1,31 @@
-// The bytes of the tidy form (request 2026-03), written one after the other to a lent buffer of its length.
-ghost use Rattle.std.specs.Prelude.{◌≡◌, ℕ, ◌+◌, ◌*◌, ◌<◌, ◌≤◌, length, get_or};
-ghost use Rattle.description.specs.Description.{types_in, arguments_in, Whole};
+// The tidy form of a call (request 2026-03): how long it is, and its bytes, written one after the other to a lent buffer of that length.
+ghost use Rattle.std.specs.Prelude.{◌≡◌, ℕ, ◌+◌, ◌*◌, ◌<◌, ◌≤◌, length, get_or, MatchResult};
+ghost use Rattle.std.proofs.Props.{props};
+ghost use Rattle.description.specs.Description.{types_in, arguments_in, argument_at, member_at, Whole};
+ghost use Rattle.form.specs.Reading.{refusal_of};
 ghost use Rattle.tidying.specs.Call.{call_of};
 ghost use Rattle.tidying.specs.Numbering.{table_of};
-ghost use Rattle.tidying.specs.Tidy.{separate, tidy_of};
-ghost use Rattle.tidying.specs.Asks.{AllNumbered, Written, AskWrite, run_length, AskSum, AskHead, AskRun, AskArguments, AskSecond, second_at, AskRecord};
+ghost use Rattle.tidying.specs.Tidy.{separate, start_of, return_number, tidy_of};
+ghost use Rattle.tidying.specs.Equal.{Ty-set};
+ghost use Rattle.tidying.specs.Ordered.{Below-prop};
+ghost use Rattle.tidying.specs.Asks.{AllNumbered, Stands, Written, run_length, second_at, AskRun};
 
-use crate::numbering;
+use crate::marking::MarkedTypes;
+use crate::numbering::Numbering;
+use form::{Reason, Refusal};
+
+// The types of a call, numbered, where their members fit: each run by itself, at most 255 members in all.
+#[derive(Drop)]
+pub struct Tidied<'a> {
+    pub numbering: Numbering<'a>,
+    pub members: usize,
+    ghost all: { AllNumbered numbering.types.bytes.now numbering.numbers numbering.originals numbering.count } by { Prim.hlevel (props, Below-prop, Ty-set) },
+    ghost sum: { members ≡ separate (table_of (call_of numbering.types.bytes.now)) },
+    ghost few: { members ≤ 255 },
+}
 
 // The members of type k: none where it has no run.
-pub fn run_length(d: &[u8], k: usize) -> usize
+fn run_length(d: &[u8], k: usize) -> usize
     requires { Whole d.now × (k < types_in d.now) }
     ensures { (result ≡ run_length d.now k) × (result < 65536) }
 {
@@ -19,128 +35,169 @@ pub fn run_length(d: &[u8], k: usize) -> usize
     description::count_at(d, k)
 }
 
-// The members of all types of the tidy form, each with a run of its own.
-pub fn separate_members(d: &[u8], old: &[u8; 64], n: usize) -> usize
-    requires { AskSum d.now old.now n }
-    ensures { result ≡ separate (table_of (call_of d.now)) }
+// The members of all types of a call, each run by itself.
+fn separate_members(numbering: &Numbering) -> usize
+    requires { AllNumbered numbering.now.types.bytes.now numbering.now.numbers numbering.now.originals numbering.now.count }
+    ensures { result ≡ separate (table_of (call_of numbering.now.types.bytes.now)) }
 {
+    let d = numbering.types.bytes;
     let mut sum = 0;
-    let mut j = 0;
-    while j < n {
-        let k = numbering::number_of(old, j);
-        let run = run_length(d, k);
-        sum += run;
-        j += 1;
+    for j in 0..numbering.count {
+        let k = usize::from(numbering.originals[j]);
+        sum += run_length(d, k);
     }
     sum
 }
 
-// The numbers of the arguments, from place `from` on.
-pub fn write_arguments(d: &[u8], new: &[u8; 64], out: &mut [u8], from: usize)
-    requires { AskArguments d.now new.now from × Written (tidy_of (call_of d.now)) from out.old }
-    ensures { Written (tidy_of (call_of d.now)) (from + arguments_in d.now) out.new }
-{
-    let arguments = description::byte_at(d, 8);
-    let mut i = 0;
-    while i < arguments {
-        let k = description::argument_at(d, i);
-        let number = numbering::number_of(new, k);
-        out[from + i] = numbering::narrow(number);
-        i += 1;
+impl<'a> Tidied<'a> {
+    // Numbers the types of a call and counts their members. More than 255 have no tidy form.
+    pub fn of_call(types: MarkedTypes<'a>) -> Result<Self, Refusal>
+        ensures { MatchResult result
+            (λ tidied. tidied.numbering.types ≡ types.entry)
+            (λ refusal. (refusal ≡ refusal_of 29) × (255 < separate (table_of (call_of types.entry.bytes.now)))) }
+    {
+        let numbering = Numbering::of_call(types);
+        let members = separate_members(&numbering);
+        if 255 < members {
+            return Err(Refusal::from(Reason::TooManyMembers));
+        }
+        Ok(Tidied { numbering, members })
     }
-}
 
-// The numbers of `count` members from place `first` on, from place `from` of the buffer on.
-fn write_run(d: &[u8], new: &[u8; 64], first: usize, count: usize, out: &mut [u8], from: usize)
-    requires { AskRun d.now new.now first count from × Written (tidy_of (call_of d.now)) from out.old }
-    ensures { Written (tidy_of (call_of d.now)) (from + count) out.new }
-{
-    let mut i = 0;
-    while i < count {
-        let k = description::member_at(d, first + i);
-        let number = numbering::number_of(new, k);
-        out[from + i] = numbering::narrow(number);
-        i += 1;
+    // How many bytes the tidy form has.
+    pub fn length(&self) -> usize
+        ensures { result ≡ length (tidy_of (call_of self.now.numbering.types.bytes.now)) }
+    {
+        let arguments = description::byte_at(self.numbering.types.bytes, 8);
+        11 + 4 * self.numbering.count + self.members + arguments
     }
-}
 
-// The runs of all types of the tidy form, one after the other, behind the records.
-pub fn write_runs(d: &[u8], new: &[u8; 64], old: &[u8; 64], n: usize, out: &mut [u8])
-    requires { AskWrite d.now new.now old.now n × Written (tidy_of (call_of d.now)) (11 + 4 * n) out.old }
-    ensures { Written (tidy_of (call_of d.now)) (11 + 4 * n + separate (table_of (call_of d.now))) out.new }
-{
-    let mut at = 11 + 4 * n;
-    let mut j = 0;
-    while j < n {
-        let k = numbering::number_of(old, j);
-        let first = description::a_at(d, k);
-        let count = run_length(d, k);
-        write_run(d, new, first, count, out, at);
-        at += count;
-        j += 1;
+    // The number of the returned type, 255 for void.
+    fn return_number(&self) -> u8
+        ensures { result ≡ return_number (table_of (call_of self.now.numbering.types.bytes.now)) (call_of self.now.numbering.types.bytes.now).returns }
+    {
+        let returns = description::byte_at(self.numbering.types.bytes, 9);
+        if returns == 255 {
+            return 255;
+        }
+        self.numbering.numbers[returns]
     }
-}
 
-// The second byte of the record of type k, whose run, if it has one, begins at place `start`.
-fn second_byte(d: &[u8], new: &[u8; 64], k: usize, start: usize) -> usize
-    requires { AskSecond d.now new.now k }
-    ensures { result ≡ second_at d.now new.now k start }
-{
-    let kind = description::kind_at(d, k);
-    if 1 < kind {
-        return start;
+    // The header.
+    fn head(&self) -> [u8; 11]
+        ensures { (length result ≡ 11) × Stands (tidy_of (call_of self.now.numbering.types.bytes.now)) result 0 }
+    {
+        let d = self.numbering.types.bytes;
+        let returns = self.return_number();
+        [
+            b'K',
+            b'C',
+            b'B',
+            1,
+            0,
+            self.numbering.count as u8,
+            d[6],
+            d[7],
+            d[8],
+            returns,
+            self.members as u8,
+        ]
     }
-    let a = description::a_at(d, k);
-    if kind == 0 {
-        return a;
+
+    // The second byte of the record of type k, whose run, if it has one, begins at place `start`.
+    fn second_byte(&self, k: usize, start: usize) -> u8
+        requires { (k < types_in self.now.numbering.types.bytes.now) × (start < 256) }
+        ensures { result ≡ second_at self.now.numbering.types.bytes.now self.now.numbering.numbers k start }
+    {
+        let d = self.numbering.types.bytes;
+        let kind = description::kind_at(d, k);
+        if 1 < kind {
+            return start as u8;
+        }
+        let a = description::a_at(d, k);
+        if kind == 0 {
+            return a as u8;
+        }
+        self.numbering.numbers[a]
     }
-    numbering::number_of(new, a)
-}
 
-// One type record, at place `from` of the buffer.
-fn write_record(d: &[u8], k: usize, second: usize, out: &mut [u8], from: usize)
-    requires { AskRecord d.now k second from × Written (tidy_of (call_of d.now)) from out.old }
-    ensures { Written (tidy_of (call_of d.now)) (from + 4) out.new }
-{
-    let kind = description::kind_at(d, k);
-    let count = description::count_at(d, k);
-    out[from] = numbering::narrow(kind);
-    out[from + 1] = numbering::narrow(second);
-    out[from + 2] = numbering::narrow(count % 256);
-    out[from + 3] = numbering::narrow(count / 256);
-}
-
-// The records of all types of the tidy form.
-pub fn write_records(d: &[u8], new: &[u8; 64], old: &[u8; 64], n: usize, out: &mut [u8])
-    requires { AskWrite d.now new.now old.now n × Written (tidy_of (call_of d.now)) 11 out.old }
-    ensures { Written (tidy_of (call_of d.now)) (11 + 4 * n) out.new }
-{
-    let mut start = 0;
-    let mut j = 0;
-    while j < n {
-        let k = numbering::number_of(old, j);
-        let second = second_byte(d, new, k, start);
-        write_record(d, k, second, out, 11 + 4 * j);
-        let run = run_length(d, k);
-        start += run;
-        j += 1;
+    // The record of number j, whose run, if it has one, begins at place `start`.
+    fn record(&self, j: usize, start: usize) -> [u8; 4]
+        requires { (j < self.now.numbering.count) × (start ≡ start_of (table_of (call_of self.now.numbering.types.bytes.now)) j) }
+        ensures { (length result ≡ 4) × Stands (tidy_of (call_of self.now.numbering.types.bytes.now)) result (11 + 4 * j) }
+    {
+        let d = self.numbering.types.bytes;
+        let k = usize::from(self.numbering.originals[j]);
+        let kind = description::kind_at(d, k);
+        let count = description::count_at(d, k);
+        let second = self.second_byte(k, start);
+        [kind as u8, second, (count % 256) as u8, (count / 256) as u8]
     }
-}
 
-// The header of the tidy form.
-pub fn write_head(d: &[u8], out: &mut [u8], n: usize, members: usize, returns: usize)
-    requires { AskHead d.now n members returns (length out.old) }
-    ensures { Written (tidy_of (call_of d.now)) 11 out.new }
-{
-    out[0] = 75;
-    out[1] = 67;
-    out[2] = 66;
-    out[3] = 1;
-    out[4] = 0;
-    out[5] = numbering::narrow(n);
-    out[6] = d[6];
-    out[7] = d[7];
-    out[8] = d[8];
-    out[9] = numbering::narrow(returns);
-    out[10] = numbering::narrow(members);
+    // The records of all types.
+    fn write_records(&self, out: &mut [u8])
+        requires { Written (tidy_of (call_of self.now.numbering.types.bytes.now)) 11 out.old }
+        ensures { Written (tidy_of (call_of self.now.numbering.types.bytes.now)) (11 + 4 * self.now.numbering.count) out.new }
+    {
+        let d = self.numbering.types.bytes;
+        let mut start = 0;
+        for j in 0..self.numbering.count {
+            let record = self.record(j, start);
+            let from = 11 + 4 * j;
+            out[from..from + 4].copy_from_slice(&record);
+            start += run_length(d, usize::from(self.numbering.originals[j]));
+        }
+    }
+
+    // The numbers of the members from place `first` on.
+    fn write_run(&self, first: usize, run: &mut [u8])
+        requires { AskRun self.now.numbering.types.bytes.now first (length run.old) }
+        ensures { (length run.new ≡ length run.old)
+            × ((i : ℕ) → i < length run.old → get_or run.new i 0 ≡ get_or self.now.numbering.numbers (member_at self.now.numbering.types.bytes.now (first + i)) 0) }
+    {
+        let d = self.numbering.types.bytes;
+        for (i, number) in run.iter_mut().enumerate() {
+            *number = self.numbering.numbers[description::member_at(d, first + i)];
+        }
+    }
+
+    // The runs of all types, one after the other, behind the records.
+    fn write_runs(&self, out: &mut [u8])
+        requires { Written (tidy_of (call_of self.now.numbering.types.bytes.now)) (11 + 4 * self.now.numbering.count) out.old }
+        ensures { Written (tidy_of (call_of self.now.numbering.types.bytes.now)) (11 + 4 * self.now.numbering.count + self.now.members) out.new }
+    {
+        let d = self.numbering.types.bytes;
+        let mut from = 11 + 4 * self.numbering.count;
+        for j in 0..self.numbering.count {
+            let k = usize::from(self.numbering.originals[j]);
+            let count = run_length(d, k);
+            self.write_run(description::a_at(d, k), &mut out[from..from + count]);
+            from += count;
+        }
+    }
+
+    // The numbers of the arguments.
+    fn write_arguments(&self, arguments: &mut [u8])
+        requires { length arguments.old ≡ arguments_in self.now.numbering.types.bytes.now }
+        ensures { (length arguments.new ≡ length arguments.old)
+            × ((i : ℕ) → i < length arguments.old → get_or arguments.new i 0 ≡ get_or self.now.numbering.numbers (argument_at self.now.numbering.types.bytes.now i) 0) }
+    {
+        let d = self.numbering.types.bytes;
+        for (i, number) in arguments.iter_mut().enumerate() {
+            *number = self.numbering.numbers[description::argument_at(d, i)];
+        }
+    }
+
+    // The tidy form, to a buffer of its length.
+    pub fn write(&self, out: &mut [u8])
+        requires { length out.old ≡ length (tidy_of (call_of self.now.numbering.types.bytes.now)) }
+        ensures { out.new ≡ tidy_of (call_of self.now.numbering.types.bytes.now) }
+    {
+        let head = self.head();
+        out[..11].copy_from_slice(&head);
+        self.write_records(out);
+        self.write_runs(out);
+        let from = 11 + 4 * self.numbering.count + self.members;
+        self.write_arguments(&mut out[from..]);
+    }
 }

@@ -147,7 +147,7 @@ module _ (P : Paper) (s : Station) (d : List ℕ) (w : Walk) (a : Ask) where
     rest-11 : other_number s w ≡ false → astray P d w ≡ false → at_end P d w ≡ false → other_type P d w a ≡ false → wrong_stack P d a ≡ true → rest_refusal P s d w a ≡ 11
     rest-11 e f g h k = rest-late ∙ rw (e, f, g, h, k)
 
-    rest-right : other_number s w ≡ false → astray P d w ≡ false → at_end P d w ≡ false → other_type P d w a ≡ false → wrong_stack P d a ≡ false → rest_refusal P s d w a ≡ 0
+    pub rest-right : other_number s w ≡ false → astray P d w ≡ false → at_end P d w ≡ false → other_type P d w a ≡ false → wrong_stack P d a ≡ false → rest_refusal P s d w a ≡ 0
     rest-right e f g h k = rest-late ∙ rw (e, f, g, h, k)
 
 -- ---- a standing, check after check, as code makes them

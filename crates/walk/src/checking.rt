@@ -1,29 +1,29 @@
 // Whether a walk goes on where it stands (document 01, "Station and walk"): every check of a step but that of the out buffer.
 ghost use Rattle.std.specs.Prelude.{◌≡◌, []};
-ghost use Rattle.classify.specs.Table.{Tabled};
-ghost use Rattle.uses.specs.Uses.{uses_refusal};
 ghost use Rattle.station.specs.Paper.{kcb};
 ghost use Rattle.station.specs.Attachment.{described};
 ghost use Rattle.walk.specs.Orders.{asking, astray, show_refusal, rest_refusal};
 ghost use Rattle.walk.specs.Asks.{IsStanding};
 
-use crate::{Walk, fetching};
+use crate::Walk;
+use classify::Entry;
 use form::{Reason, Refusal};
-use places::Shape;
+use layout::Described;
+use places::{Argument, Shape};
 use station::Station;
 use units::Bytes;
 
-// 18: "position outside N..A, or offsets not those this description gives there". Only here the walk asks the layout.
-pub fn is_astray(d: &[u8], walk: Walk, table: &[u32; 64]) -> bool
-    requires { (uses_refusal d.now ≡ 0) × Tabled d.now table.now }
-    ensures { result ≡ astray kcb d.now walk }
-{
-    let position = walk.position;
-    if position < description::byte_at(d, 7) || position > description::byte_at(d, 8) {
-        return true;
+impl Walk {
+    // 18: "position outside N..A, or offsets not those this description gives there". Only here the walk asks the layout.
+    pub fn is_astray(self, known: Described) -> bool
+        ensures { result ≡ astray kcb known.entry.bytes.now self }
+    {
+        let position = self.position;
+        if position < known.named() || position > known.arguments() {
+            return true;
+        }
+        self != Walk::standing(self.number, position, known.used_after(position))
     }
-    let used = layout::used_after(d, position, table);
-    walk != fetching::walk_at(walk.number, position, used)
 }
 
 // 1..10, 17, 18, 19, 20, and 11 for a stack image of so many bytes. Whatever the walk stands before is unnamed.
@@ -33,13 +33,17 @@ fn stands(station: Station, d: &[u8], walk: Walk, stack: &[u8], asked: u8) -> Re
 {
     let mut table = [0u32; 64];
     let layout = layout::layout_with(d, &mut table)?;
+    let known = Described {
+        bytes: d,
+        table: &table,
+    };
     if walk.number != station.number {
         return Err(Refusal::from(Reason::OtherAttachment));
     }
-    if is_astray(d, walk, &table) {
+    if walk.is_astray(known) {
         return Err(Refusal::from(Reason::Astray));
     }
-    if walk.position == description::byte_at(d, 8) {
+    if walk.position == known.arguments() {
         return Err(Refusal::from(Reason::AtEnd));
     }
     let ty = description::argument_at(d, walk.position);
@@ -49,7 +53,11 @@ fn stands(station: Station, d: &[u8], walk: Walk, stack: &[u8], asked: u8) -> Re
     if Bytes(stack.len()) != layout.area {
         return Err(Refusal::from(Reason::WrongBuffer));
     }
-    Ok(places::shape_in(&table, ty, false))
+    let argument = Argument {
+        entry: Entry(table[ty]),
+        named: false,
+    };
+    Ok(argument.shape())
 }
 
 // Whether the walk goes on here, by every check of a step but that of the out buffer; and what the next argument asks for.

@@ -12,20 +12,6 @@ use places::{Kind, Kinds, Shape, Used};
 use std::ops::Add;
 use units::{Bytes, Registers};
 
-// The walk before argument `position`, where so much is used.
-pub fn walk_at(number: u32, position: usize, used: Used) -> Walk
-    requires { (used.general.0 ≤ 6) × (used.vector.0 ≤ 8) }
-    ensures { result ≡ with_offsets number position (walk_at used) }
-{
-    Walk {
-        number,
-        position,
-        general: used.general.general_bytes(),
-        vector: Bytes(48) + used.vector.vector_bytes(),
-        overflow: used.stack,
-    }
-}
-
 // ---- num_gp and num_fp: "num_gp and num_fp are registers"
 
 // The registers of one eightbyte.
@@ -80,6 +66,20 @@ impl From<Kinds> for Counts {
 // ---- where the walk stands
 
 impl Walk {
+    // The walk before argument `position`, where so much is used.
+    pub(crate) fn standing(number: u32, position: usize, used: Used) -> Self
+        requires { (used.general.0 ≤ 6) × (used.vector.0 ≤ 8) }
+        ensures { result ≡ with_offsets number position (walk_at used) }
+    {
+        Self {
+            number,
+            position,
+            general: used.general.general_bytes(),
+            vector: Bytes(48) + used.vector.vector_bytes(),
+            overflow: used.stack,
+        }
+    }
+
     // Whether the type is fetched from the register image: "a type that may be in registers, with gp_offset at most 48 - 8 num_gp and
     // fp_offset at most 176 - 16 num_fp".
     fn fits(self, kinds: Kinds) -> bool
@@ -114,48 +114,48 @@ impl Walk {
             Kind::Upper => vector - Bytes(8),
         }
     }
-}
 
-// Where the argument that the walk stands before is fetched.
-pub fn fetch_at(walk: Walk, shape: Shape) -> Fetch
-    requires { InBounds walk × Small (asked_of shape) }
-    ensures { source_of result ≡ read_at eights (offsets_of walk) (asked_of shape) }
-{
-    let none = Counts::from(Kinds::Stack);
-    let offset = walk.raised(shape.align);
-    if !walk.fits(shape.kinds) {
-        return Fetch::Stack(offset);
-    }
-    match shape.kinds {
-        Kinds::Stack => Fetch::Stack(offset),
-        Kinds::One(kind) => Fetch::One(walk.read(none, kind)),
-        Kinds::Two(low, high) => {
-            let first = walk.read(none, low);
-            let second = walk.read(Counts::from(low), high);
-            Fetch::Two(first, second)
+    // Where the argument that the walk stands before is fetched.
+    pub fn fetch(self, shape: Shape) -> Fetch
+        requires { InBounds self × Small (asked_of shape) }
+        ensures { source_of result ≡ read_at eights (offsets_of self) (asked_of shape) }
+    {
+        let none = Counts::from(Kinds::Stack);
+        let offset = self.raised(shape.align);
+        if !self.fits(shape.kinds) {
+            return Fetch::Stack(offset);
+        }
+        match shape.kinds {
+            Kinds::Stack => Fetch::Stack(offset),
+            Kinds::One(kind) => Fetch::One(self.read(none, kind)),
+            Kinds::Two(low, high) => {
+                let first = self.read(none, low);
+                let second = self.read(Counts::from(low), high);
+                Fetch::Two(first, second)
+            }
         }
     }
-}
 
-// The walk behind that argument: "both offsets move on", or "its size is added, and the result is raised to 8".
-pub fn moved_on(walk: Walk, shape: Shape) -> Walk
-    requires { InBounds walk × Small (asked_of shape) }
-    ensures { result ≡ with_offsets walk.number (suc walk.position) (step_offsets eights (offsets_of walk) (asked_of shape)) }
-{
-    let position = walk.position + 1;
-    if walk.fits(shape.kinds) {
-        let needed = Counts::from(shape.kinds);
-        return Walk {
+    // The walk behind that argument: "both offsets move on", or "its size is added, and the result is raised to 8".
+    pub fn behind(self, shape: Shape) -> Self
+        requires { InBounds self × Small (asked_of shape) }
+        ensures { result ≡ with_offsets self.number (suc self.position) (step_offsets eights (offsets_of self) (asked_of shape)) }
+    {
+        let position = self.position + 1;
+        if self.fits(shape.kinds) {
+            let needed = Counts::from(shape.kinds);
+            return Self {
+                position,
+                general: self.general + needed.general.general_bytes(),
+                vector: self.vector + needed.vector.vector_bytes(),
+                ..self
+            };
+        }
+        let end = self.raised(shape.align) + shape.size;
+        Self {
             position,
-            general: walk.general + needed.general.general_bytes(),
-            vector: walk.vector + needed.vector.vector_bytes(),
-            ..walk
-        };
-    }
-    let end = walk.raised(shape.align) + shape.size;
-    Walk {
-        position,
-        overflow: end.raised_to(Bytes(8)),
-        ..walk
+            overflow: end.raised_to(Bytes(8)),
+            ..self
+        }
     }
 }

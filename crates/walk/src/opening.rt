@@ -5,7 +5,7 @@ ghost use Rattle.station.specs.Paper.{kcb};
 ghost use Rattle.walk.specs.Orders.{standing, variadic_order};
 ghost use Rattle.walk.specs.Steps.{opened_if, open_answer};
 
-use crate::{Walk, fetching};
+use crate::Walk;
 use form::{Reason, Refusal};
 use station::Station;
 
@@ -18,7 +18,7 @@ fn open_on(number: u32, d: &[u8]) -> Result<Walk, Refusal>
         return Err(Refusal::from(Reason::NotVariadic));
     }
     let named = description::byte_at(d, 7);
-    Ok(fetching::walk_at(number, named, layout.named))
+    Ok(Walk::standing(number, named, layout.named))
 }
 
 // Opens a walk over the unnamed arguments of the description in the seat.

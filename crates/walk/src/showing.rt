@@ -7,21 +7,21 @@ ghost use Rattle.station.specs.Paper.{kcb, answer_under};
 ghost use Rattle.walk.specs.Orders.{asking, show_refusal};
 ghost use Rattle.station.specs.Attachment.{described};
 
-use crate::{Fetch, Walk, checking, fetching};
+use crate::{Fetch, Walk, checking};
 use form::Refusal;
 use places::{Kind, Kinds, Shape};
 use station::Station;
 use units::Bytes;
 
 // So many bytes of an image, from an offset on.
-#[derive(Clone, Copy)]
+#[derive(Clone, Copy, Debug, PartialEq, Eq)]
 pub struct Part {
     pub offset: Bytes,
     pub length: Bytes,
 }
 
 // Which image an argument lies in, in one part, and where.
-#[derive(Clone, Copy)]
+#[derive(Clone, Copy, Debug, PartialEq, Eq)]
 pub enum Shown {
     Registers(Part),
     Stack(Part),
@@ -96,8 +96,7 @@ pub fn shown_at(
         × Lies result (length registers.now) (length stack.now) }
 {
     let shape = checking::checked(station, seat, walk, registers, stack, asked)?;
-    let fetch = fetching::fetch_at(walk, shape);
-    Ok(part_of(fetch, shape))
+    Ok(part_of(walk.fetch(shape), shape))
 }
 
 // The argument as a part of the register image or of the stack image; the empty part for a refusal, and where it lies in more than one.

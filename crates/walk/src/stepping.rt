@@ -8,23 +8,25 @@ ghost use Rattle.station.specs.Attachment.{described};
 ghost use Rattle.walk.specs.Orders.{asking, step_refusal};
 ghost use Rattle.walk.specs.Steps.{step_walk, step_out};
 
-use crate::{Fetch, Walk, checking, fetching};
+use crate::{Fetch, Walk, checking};
 use form::{Reason, Refusal};
 use station::Station;
 use units::Bytes;
 
-// Copies the argument's bytes into the out buffer, eightbyte after eightbyte or in one piece.
-pub fn copy_out(fetch: Fetch, size: Bytes, registers: &[u8], stack: &[u8], out: &mut [u8])
-    requires { (length registers.now ≡ 176) × (length out.old ≡ size.0) × Within fetch size.0 176 (length stack.now) }
-    ensures { out.new ≡ gather (registers.now ++ stack.now) (bytes_from 176 (source_of fetch) size.0) }
-{
-    match fetch {
-        Fetch::One(offset) => addresses::copy(out, 0, registers, offset.0, size.0),
-        Fetch::Two(low, high) => {
-            addresses::copy(out, 0, registers, low.0, 8);
-            addresses::copy(out, 8, registers, high.0, size.0 - 8);
+impl Fetch {
+    // Copies the argument's bytes into the out buffer, eightbyte after eightbyte or in one piece.
+    pub fn copy_out(self, size: Bytes, registers: &[u8], stack: &[u8], out: &mut [u8])
+        requires { (length registers.now ≡ 176) × (length out.old ≡ size.0) × Within self size.0 176 (length stack.now) }
+        ensures { out.new ≡ gather (registers.now ++ stack.now) (bytes_from 176 (source_of self) size.0) }
+    {
+        match self {
+            Fetch::One(offset) => addresses::copy(out, 0, registers, offset.0, size.0),
+            Fetch::Two(low, high) => {
+                addresses::copy(out, 0, registers, low.0, 8);
+                addresses::copy(out, 8, registers, high.0, size.0 - 8);
+            }
+            Fetch::Stack(offset) => addresses::copy(out, 0, stack, offset.0, size.0),
         }
-        Fetch::Stack(offset) => addresses::copy(out, 0, stack, offset.0, size.0),
     }
 }
 
@@ -47,8 +49,8 @@ pub fn step(
     if Bytes(out.len()) != shape.size {
         return Err(Refusal::from(Reason::WrongBuffer));
     }
-    let fetch = fetching::fetch_at(*walk, shape);
-    copy_out(fetch, shape.size, registers, stack, out);
-    *walk = fetching::moved_on(*walk, shape);
+    let fetch = walk.fetch(shape);
+    fetch.copy_out(shape.size, registers, stack, out);
+    *walk = walk.behind(shape);
     Ok(())
 }

@@ -1,24 +1,38 @@
 -- 1..10 from the layout's answer; then what comes after them, or the bytes and the record at the end.
 -- Assumes nothing.
 use mathlib.Core.Path.{sym, ◌∙◌}
+use native.Mathlib.Omega.{arith}
+use Rattle.std.proofs.lemmas.Result.{err_from_is_err_and}
 use Rattle.finishing.specs.Rest.{asking_rest}
-use Rattle.finishing.proofs.Checks.{laid-tabled, laid-area, left-later, later-judged}
-use Rattle.finishing.proofs.Orders.{seated-early, seated-late, left-refused, left-done}
-use Rattle.station.specs.Paper.{verdict_of, kcb}
-use Rattle.walk.proofs.Checks.{laid-right, laid-uses, refused-right}
+use Rattle.finishing.proofs.Checks.{laid-area, later-judged}
+use Rattle.finishing.proofs.Orders.{seated-early, seated-late, left-at, left-done}
+use Rattle.station.specs.Paper.{kcb}
+use Rattle.station.proofs.Attachments.{under-not, under-ok}
+use Rattle.station.proofs.Kcb.{laid-right, laid-not}
+use Rattle.walk.proofs.Checks.{laid-uses}
 use Rattle.finishing.proofs.finish_seated.Goals as goal
 
-pub returns-in_default : goal.returns-in_default
-returns-in_default c = let z = refused-right c.args.d.now c.layout_with-answer.result c.in_default.field-0 c.refusal_in.result c.layout_with-answer.ensures.0 c.in_default.is c.refusal_in.ensures in left-refused kcb c.args.station c.args.d.now c.args.walk (asking_rest c.args.registers.now c.args.stack.now c.args.asked.now c.args.out.now) _ (verdict_of kcb c.args.d.now) _ (seated-early kcb c.args.station c.args.d.now c.args.walk (asking_rest c.args.registers.now c.args.stack.now c.args.asked.now c.args.out.now) z.1) z.1 z.0
+pub returns-in_err-layout : goal.returns-in_err-layout
+returns-in_err-layout c =
+    let p = err_from_is_err_and c.from_residual.result c.from_residual.ensures.1 in
+    let z = laid-not c.args.d.now _ (sym c.in_err-layout.ensures.0) in
+    rw (p.1, p.2) (left-at kcb c.args.station c.args.d.now c.args.walk.now (asking_rest c.args.registers.now c.args.stack.now c.args.asked.now c.args.out.now) _ _ (under-not kcb _ _ _ _ tt z.0 (omega (arith, z.1)) (seated-early kcb c.args.station c.args.d.now c.args.walk.now (asking_rest c.args.registers.now c.args.stack.now c.args.asked.now c.args.out.now) z.1)))
 
-pub later_number-number-requires : goal.later_number-number-requires
-later_number-number-requires c = (laid-uses c.args.d.now c.layout_with-answer.result c.in-Ok.layout c.layout_with-answer.ensures.0 c.in-Ok.is, laid-tabled c.args.d.now _ c.layout_with-answer.result c.in-Ok.layout c.layout_with-answer.ensures.0 c.in-Ok.is c.layout_with-answer.ensures.2, laid-area c.args.d.now c.layout_with-answer.result c.in-Ok.layout c.layout_with-answer.ensures.0 c.in-Ok.is)
+pub invariant_of-known : goal.invariant_of-known
+invariant_of-known c = let e = c.in_ok-layout.ensures.3 in record { judged = e.2; tabled = e.3 }
 
-pub returns-then-number-ne0 : goal.returns-then-number-ne0
-returns-then-number-ne0 c = left-later c.args.station c.args.d.now c.args.walk (asking_rest c.args.registers.now c.args.stack.now c.args.asked.now c.args.out.now) (laid-right c.args.d.now c.layout_with-answer.result c.in-Ok.layout c.layout_with-answer.ensures.0 c.in-Ok.is).0 c.later_number-number.result c.refusal_of.result c.later_number-number.ensures c.if-number-ne0.true c.refusal_of.ensures
+pub may_finish-requires : goal.may_finish-requires
+may_finish-requires c = laid-area c.args.d.now _ (sym c.in_ok-layout.ensures.0)
 
-pub fetch_all-next-requires : goal.fetch_all-next-requires
-fetch_all-next-requires c = (later-judged c.args.station c.args.d.now c.args.walk (asking_rest c.args.registers.now c.args.stack.now c.args.asked.now c.args.out.now) (laid-uses c.args.d.now c.layout_with-answer.result c.in-Ok.layout c.layout_with-answer.ensures.0 c.in-Ok.is) c.later_number-number.result c.later_number-number.ensures c.if-number-ne0.false c.requires, laid-tabled c.args.d.now _ c.layout_with-answer.result c.in-Ok.layout c.layout_with-answer.ensures.0 c.in-Ok.is c.layout_with-answer.ensures.2)
+pub returns-in_err-may_finish : goal.returns-in_err-may_finish
+returns-in_err-may_finish c =
+    let p = err_from_is_err_and c.from_residual-in_err-may_finish.result c.from_residual-in_err-may_finish.ensures.1 in
+    rw (p.1, p.2) (left-at kcb c.args.station c.args.d.now c.args.walk.now (asking_rest c.args.registers.now c.args.stack.now c.args.asked.now c.args.out.now) _ _ (rw (seated-late kcb c.args.station c.args.d.now c.args.walk.now (asking_rest c.args.registers.now c.args.stack.now c.args.asked.now c.args.out.now) (laid-right c.args.d.now _ (sym c.in_ok-layout.ensures.0)).0) c.in_err-may_finish.ensures))
+
+pub fetch_all-requires : goal.fetch_all-requires
+fetch_all-requires c = later-judged c.args.station c.args.d.now c.args.walk.now (asking_rest c.args.registers.now c.args.stack.now c.args.asked.now c.args.out.now) (laid-uses c.args.d.now _ (sym c.in_ok-layout.ensures.0)) (under-ok kcb c.args.d.now _ tt _ (sym c.in_ok-may_finish.ensures)) c.requires
 
 pub returns : goal.returns
-returns c = left-done kcb c.args.station c.args.d.now c.args.walk (asking_rest c.args.registers.now c.args.stack.now c.args.asked.now c.args.out.now) _ c.refusal_of-2.result _ _ (seated-late kcb c.args.station c.args.d.now c.args.walk (asking_rest c.args.registers.now c.args.stack.now c.args.asked.now c.args.out.now) (laid-right c.args.d.now c.layout_with-answer.result c.in-Ok.layout c.layout_with-answer.ensures.0 c.in-Ok.is).0 ∙ sym c.later_number-number.ensures ∙ c.if-number-ne0.false) c.refusal_of-2.ensures c.fetch_all-next.ensures.0 c.fetch_all-next.ensures.1
+returns c =
+    left-done kcb c.args.station c.args.d.now c.args.walk.now (asking_rest c.args.registers.now c.args.stack.now c.args.asked.now c.args.out.now) _ _ _ (seated-late kcb c.args.station c.args.d.now c.args.walk.now (asking_rest c.args.registers.now c.args.stack.now c.args.asked.now c.args.out.now) (laid-right c.args.d.now _ (sym c.in_ok-layout.ensures.0)).0 ∙ under-ok kcb c.args.d.now _ tt _ (sym c.in_ok-may_finish.ensures))
+    c.fetch_all.ensures.0 c.fetch_all.ensures.1

@@ -1,11 +1,10 @@
 -- The order 11, 14, 15, 1..10, each number by its law.
 -- Assumes nothing.
-use mathlib.Core.Path.{refl, sym, ◌∙◌}
+use mathlib.Core.Path.{sym, ◌∙◌}
 use native.Mathlib.Omega.{arith}
 use Rattle.station.specs.Paper.{kcb}
-use Rattle.station.proofs.Attachments.{attach-wrong, attach-busy, attach-last, attach-judged, under-refused, under-not, under-done}
-use Rattle.std.proofs.lemmas.Result.{err_from_is_err_and}
-use Rattle.station.proofs.Kcb.{laid-right, laid-not}
+use Rattle.station.proofs.Attachments.{attach-wrong, attach-busy, attach-last, attach-judged, under-refused}
+use Rattle.station.proofs.Kcb.{checked-as}
 use Rattle.station.proofs.may_attach.Goals as goal
 
 pub returns-then-wrong_seat : goal.returns-then-wrong_seat
@@ -17,11 +16,5 @@ returns-then-station c = under-refused kcb _ _ 14 _ tt c.from-then-station.ensur
 pub returns-then-station-eq4294967295 : goal.returns-then-station-eq4294967295
 returns-then-station-eq4294967295 c = under-refused kcb _ _ 15 _ tt c.from-then-station-eq4294967295.ensures (omega arith) (attach-last kcb c.args.station c.args.seat.now c.args.d.now (sym c.wrong_seat.ensures ∙ c.if-wrong_seat.false) c.if-station.false (omega (arith, c.if-station-eq4294967295.true)))
 
-pub returns-in_err-layout_of : goal.returns-in_err-layout_of
-returns-in_err-layout_of c =
-    let p = err_from_is_err_and c.from_residual.result c.from_residual.ensures.1 in
-    let z = laid-not c.args.d.now _ (sym c.in_err-layout_of.ensures) in
-    rw (p.1, p.2) (under-not kcb _ _ _ _ tt z.0 (omega (arith, z.1)) (attach-judged kcb c.args.station c.args.seat.now c.args.d.now (sym c.wrong_seat.ensures ∙ c.if-wrong_seat.false) c.if-station.false (omega (arith, c.if-station-eq4294967295.false, c.well_formed))))
-
 pub returns : goal.returns
-returns c = under-done kcb _ _ tt tt (attach-judged kcb c.args.station c.args.seat.now c.args.d.now (sym c.wrong_seat.ensures ∙ c.if-wrong_seat.false) c.if-station.false (omega (arith, c.if-station-eq4294967295.false, c.well_formed)) ∙ (laid-right c.args.d.now _ (sym c.in_ok-layout_of.ensures)).0) refl
+returns c = c.check.ensures ∙ checked-as c.args.d.now _ (attach-judged kcb c.args.station c.args.seat.now c.args.d.now (sym c.wrong_seat.ensures ∙ c.if-wrong_seat.false) c.if-station.false (omega (arith, c.if-station-eq4294967295.false, c.well_formed)))

@@ -1,7 +1,7 @@
 -- `listed` meets its contract: what is left is the members from place i on.
 -- Assumes nothing.
 use mathlib.Core.Path.{◌≡◌}
-use Prim.Native.Nat.{ℕ, ◌+◌, ◌-◌, ◌≤◌, ◌<◌}
+use Prim.Native.Nat.{ℕ, ◌+◌, ◌-◌}
 use native.Mathlib.Omega.{arith}
 use lib.ListN.{replicate, length-replicate}
 use Rattle.classify.proofs.Skips.{listing_none, listing-all, listing-low, listing-skip, listing-room, listing-more}

@@ -1,7 +1,6 @@
 -- `listed` meets its contract. The invariant: the members passed are listed once each, and those that are marked add nothing.
 -- Assumes nothing.
 use Prim.Native.Nat.{◌-◌}
-
 use Rattle.classify.proofs.Skips.{Listing}
 use Rattle.classify.proofs.unions.listed.Given as goal
 

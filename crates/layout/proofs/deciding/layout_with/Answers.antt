@@ -1,4 +1,4 @@
-use mathlib.Core.Path.{refl, sym, ap, ◌∙◌}
+use mathlib.Core.Path.{sym, ◌∙◌}
 use Rattle.std.proofs.lemmas.Result.{IfOk-from_err}
 use Rattle.std.proofs.lemmas.Map.Keys.{le_from_not_gt}
 use Rattle.places.proofs.Orders.{over_from_gt}
@@ -8,7 +8,7 @@ use Rattle.layout.proofs.deciding.layout_with.Goals as goal
 
 pub returns-in_err-judge : goal.returns-in_err-judge
 returns-in_err-judge c = (
-  passed-on _ c.from_residual.ensures.1 ∙ answer-judged c.args.d.now _ (sym c.judge.ensures.0 ∙ c.in_err-judge.was),
+  passed-on _ c.from_residual.ensures.1 ∙ answer-judged c.args.d.now _ (sym c.in_err-judge.was ∙ c.judge.ensures.0),
   c.judge.ensures.1,
   λ e. c.judge.ensures.2 (accepted-uses c.args.d.now e),
   IfOk-from_err _ _ c.from_residual.ensures.0,

@@ -1,15 +1,13 @@
-use mathlib.Core.Path.{◌≡◌, refl, sym, ap, subst, ◌∙◌}
+use mathlib.Core.Path.{◌≡◌, sym, ap, ◌∙◌}
 use Prim.Native.Nat.{ℕ}
 use native.Mathlib.Omega.{arith}
 use lib.ListN.{length}
-use Rattle.layout.specs.Asks.{AskRecord}
 use Rattle.layout.specs.Layout.{layout_of}
 use Rattle.layout.specs.Lists.{list_count, filled}
-use Rattle.layout.specs.Placements.{laying_fresh, step_at, placement_at}
+use Rattle.layout.specs.Placements.{placement_at}
 use Rattle.layout.specs.declared.Layout.{Layout}
-use Rattle.layout.specs.declared.placements.Laying.{Laying}
-use Rattle.layout.proofs.Layouts.{passed-on, record_asks, laying_first, laying_next}
-use Rattle.layout.proofs.Lists.{count-laid, count-refused, record_at}
+use Rattle.layout.proofs.Layouts.{passed-on, laying_first, turn_asked, turn_placed, turn_laid}
+use Rattle.layout.proofs.Lists.{count-laid, count-refused}
 use Rattle.types.proofs.Table.{filled_none, filled_next}
 use Rattle.layout.proofs.lent_list.lay_out.Goals as goal
 
@@ -28,14 +26,14 @@ loop-i-init c =
 pub place_argument-requires : goal.place_argument-requires
 place_argument-requires c =
     let d = c.args.d.now in
-    subst (λ (l : Laying). AskRecord d c.loop-i.i l) (sym c.loop-i.invariant.1) (record_asks d c.in_ok-layout.ensures.3.2 c.loop-i.i (omega (arith, c.arguments-i-end.ensures)))
+    turn_asked d c.loop-i.i _ c.loop-i.invariant.1 c.in_ok-layout.ensures.3.2 (omega (arith, c.arguments-i-end.ensures))
 
 pub loop-i-preserved : goal.loop-i-preserved
 loop-i-preserved c =
     let d = c.args.d.now in
     let i = c.loop-i.i in (
-      rw (c.place_argument.ensures.0, c.loop-i.invariant.1, record_at d i, c.loop-i.invariant.0) (filled_next (placement_at d) i c.args.list.now),
-      c.place_argument.ensures.1 ∙ ap (λ (l : Laying). (step_at d l i).after) c.loop-i.invariant.1 ∙ laying_next d i,
+      rw (turn_placed d i _ c.loop-i.invariant.1 _ c.place_argument.ensures.0, c.loop-i.invariant.0) (filled_next (placement_at d) i c.args.list.now),
+      turn_laid d i _ c.loop-i.invariant.1 _ c.place_argument.ensures.1,
     )
 
 pub returns : goal.returns

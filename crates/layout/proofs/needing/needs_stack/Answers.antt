@@ -5,7 +5,7 @@ use Rattle.layout.proofs.Stacked.{need_refused, need_some, need_none, found-low}
 use Rattle.layout.proofs.needing.needs_stack.Goals as goal
 
 pub returns-in_err-judge : goal.returns-in_err-judge
-returns-in_err-judge c = passed-on _ c.from_residual.ensures.1 ∙ need_refused c.args.d.now _ (sym c.judge.ensures.0 ∙ c.in_err-judge.was)
+returns-in_err-judge c = passed-on _ c.from_residual.ensures.1 ∙ need_refused c.args.d.now _ (sym c.in_err-judge.was ∙ c.judge.ensures.0)
 
 pub overflow_add-result : goal.overflow_add-result
 overflow_add-result c = omega (arith, found-low c.args.d.now c.in_ok-judge.ensures.3.0 c.in-Some.i (sym c.in-Some.is ∙ c.first_stacked.ensures))

@@ -1,6 +1,4 @@
-use mathlib.Core.Path.{sym, ap, ◌∙◌}
-use mathlib.Core.Bool.{Bool, ◌&&◌}
-use lib.Dec.{leb}
+use mathlib.Core.Path.{sym, ◌∙◌}
 use Rattle.places.specs.Places.{enough}
 use Rattle.places.proofs.Orders.{le-leb_test}
 use Rattle.places.proofs.Used.is_enough.Goals as goal

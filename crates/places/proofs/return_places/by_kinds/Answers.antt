@@ -1,7 +1,5 @@
-use Rattle.std.proofs.Common.{[], ◌∷◌, true, false, ap}
-use Rattle.places.specs.Places.{fresh}
-use Rattle.places.specs.Recorded.{listed, place_of}
-use Rattle.places.specs.Steps.{IsFound}
+use Rattle.std.proofs.Common.{[], ◌∷◌, ap}
+use Rattle.places.specs.Recorded.{place_of}
 use Rattle.places.proofs.Returning.{return_outside, return_registers}
 use Rattle.places.proofs.return_places.by_kinds.Goals as goal
 

@@ -1,5 +1,4 @@
--- `count` meets its contract: the table's test is computed.
--- Assumes nothing.
+-- `count` meets its contract: the table's test is computed. Assumes nothing.
 use mathlib.Core.Path.{◌∙◌}
 use native.Mathlib.Omega.{arith}
 use borrow.Author.Rules.{rules}
@@ -9,4 +8,4 @@ use Rattle.reading.proofs.tables.count.Goals as goal
 
 pub returns : goal.returns
 unfolding production_list
-returns c = (c.wide.ensures.0 ∙ (count-right c.args.p (search rules)).0, omega (arith, c.wide.ensures.0, (count-right c.args.p (search rules)).1))
+returns c = (c.from.ensures ∙ (count-right c.args.p (search rules)).0, omega (arith, c.from.ensures, (count-right c.args.p (search rules)).1))

@@ -1,5 +1,4 @@
--- `rule` meets its contract: the table's test is computed.
--- Assumes nothing.
+-- `rule` meets its contract: the table's test is computed. Assumes nothing.
 use mathlib.Core.Path.{sym, ap, ◌∙◌}
 use Prim.Native.Nat.{ℕ}
 use native.Mathlib.Omega.{arith}
@@ -7,12 +6,16 @@ use borrow.Author.Rules.{rules}
 use Rattle.reading.specs.Coded.{rest_at}
 use Rattle.reading.proofs.Lists.{rule_list}
 use Rattle.reading.proofs.Tested.{rule-right, rule-past}
+use Rattle.reading.proofs.Takers.{counted-sub}
 use Rattle.grammar.specs.Prototype.{declarations}
 use Rattle.reading.proofs.tables.rule.Goals as goal
 
-pub returns-then-n-lt86 : goal.returns-then-n-lt86
+pub returns-then-symbol-lt86 : goal.returns-then-symbol-lt86
 unfolding rule_list
-returns-then-n-lt86 c = (ap (λ (z : ℕ). declarations.rule z c.args.k) (sym c.wide-n.ensures.0) ∙ (rule-right c.wide-n.result c.args.k c.if-n-lt86.true (search rules)).0 ∙ ap rest_at (sym c.wide.ensures.0), omega (arith, c.wide.ensures.0, (rule-right c.wide-n.result c.args.k c.if-n-lt86.true (search rules)).1))
+returns-then-symbol-lt86 c =
+    let r = rule-right c.from.result c.args.k (omega (arith, c.from.ensures, c.if-symbol-lt86.true)) (search rules) in
+    let e = counted-sub _ _ c.checked_sub.ensures ∙ c.from-then-symbol-lt86.ensures in
+    (ap (λ (z : ℕ). declarations.rule z c.args.k) (sym c.from.ensures) ∙ r.0 ∙ ap rest_at (sym e), omega (arith, e, r.1))
 
-pub returns : goal.returns
-returns c = (rule-past _ _ (omega (arith, c.wide-n.ensures.0, c.if-n-lt86.false)), omega arith)
+pub returns-else-symbol-lt86 : goal.returns-else-symbol-lt86
+returns-else-symbol-lt86 c = (rule-past _ _ (omega (arith, c.if-symbol-lt86.false)), omega arith)

@@ -1,5 +1,4 @@
--- `spelling_length` meets its contract: the table's test is computed.
--- Assumes nothing.
+-- `spelling_length` meets its contract: the table's test is computed. Assumes nothing.
 use mathlib.Core.Path.{◌∙◌}
 use native.Mathlib.Omega.{arith}
 use borrow.Author.Rules.{rules}
@@ -9,4 +8,4 @@ use Rattle.reading.proofs.tables.spelling_length.Goals as goal
 
 pub returns : goal.returns
 unfolding spelling_list
-returns c = (c.wide.ensures.0 ∙ (length-right c.args.i (search rules)).0, omega (arith, c.wide.ensures.0, (length-right c.args.i (search rules)).1))
+returns c = (c.from.ensures ∙ (length-right c.args.i (search rules)).0, omega (arith, c.from.ensures, (length-right c.args.i (search rules)).1))

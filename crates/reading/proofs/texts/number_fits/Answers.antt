@@ -1,5 +1,4 @@
 -- `number_fits` meets its contract.
--- Assumes nothing.
 use mathlib.Core.Path.{sym, ◌∙◌}
 use Rattle.reading.proofs.Spelling.{not_both, first-true}
 use Rattle.reading.proofs.texts.number_fits.Goals as goal
@@ -7,5 +6,5 @@ use Rattle.reading.proofs.texts.number_fits.Goals as goal
 pub returns-then-number : goal.returns-then-number
 returns-then-number c = c.may_come.ensures ∙ sym (first-true _ _ c.if-number.true)
 
-pub returns : goal.returns
-returns c = sym (not_both _ _ c.if-number.false)
+pub returns-else-number : goal.returns-else-number
+returns-else-number c = c.if-number.false ∙ sym (not_both _ _ c.if-number.false)

@@ -2,7 +2,7 @@
 -- Assumes nothing.
 use mathlib.Core.Path.{◌≡◌}
 use mathlib.Core.List.{[]}
-use Prim.Native.Nat.{◌+◌, ◌-◌, ◌*◌, ◌≤◌}
+use Prim.Native.Nat.{◌+◌, ◌*◌, ◌≤◌}
 use lib.ListN.{length, drop}
 use lib.Seq.{slice}
 use Rattle.reading.specs.Code.{tops, answer_of}
@@ -12,7 +12,4 @@ use Rattle.grammar.specs.Grammar.{is_number}
 use Rattle.reading.proofs.texts.read_on.Given as goal
 
 abbrev pub invariant-loop-i : goal.invariant-loop-i
-invariant-loop-i l = (answer_of (read_from declarations (at (slice l.start l.i l.text) (tops l.stack l.depth) []) l.i (drop l.i l.text)) ≡ answer_of (read_text declarations (tops l.initial.stack l.height) l.text)) × (l.start ≤ l.i) × (l.i ≤ length l.text) × (l.depth ≤ 6 + 4 * l.start) × (l.number ≡ is_number (slice l.start l.i l.text))
-
-abbrev pub decreases-loop-i : goal.decreases-loop-i
-decreases-loop-i l = length l.text - l.i
+invariant-loop-i l = (answer_of (read_from declarations (at (slice l.start l.i l.text) (tops l.symbols.cells l.symbols.depth) []) l.i (drop l.i l.text)) ≡ answer_of (read_text declarations (tops l.initial.symbols.cells l.initial.symbols.depth) l.text)) × (l.start ≤ l.i) × (l.i ≤ length l.text) × (l.symbols.depth ≤ 6 + 4 * l.start) × (l.number ≡ is_number (slice l.start l.i l.text))

@@ -1,8 +1,8 @@
--- `read_types` meets its contract.
--- Assumes nothing.
+-- Too long, or as the grammar answers. Assumes nothing.
 use mathlib.Core.Path.{sym, ◌∙◌}
 use borrow.Author.Rules.{rules}
 use Rattle.grammar.specs.Prototype.{types}
+use Rattle.reading.proofs.Steps.{read_same}
 use Rattle.reading.proofs.Answers.{too_long_lem, short-enough}
 use Rattle.reading.proofs.texts.read_types.Goals as goal
 
@@ -10,4 +10,4 @@ pub returns-then-text-gt4096 : goal.returns-then-text-gt4096
 returns-then-text-gt4096 c = too_long_lem types c.args.text.now (search rules)
 
 pub returns : goal.returns
-returns c = c.types_with.ensures ∙ sym (short-enough types c.args.text.now (search rules))
+returns c = read_same _ _ _ _ c.read_on.ensures c.start_types.ensures.0 ∙ sym (short-enough types c.args.text.now (search rules))

@@ -1,3 +1,4 @@
+-- The fixed tokens that are left say what all did. Assumes nothing.
 use mathlib.Core.Path.{refl, sym, ◌∙◌}
 use native.Mathlib.Omega.{arith}
 use Rattle.reading.proofs.Spelling.{fixed_here, fixed_next, fixed_none}

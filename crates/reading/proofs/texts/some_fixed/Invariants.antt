@@ -1,7 +1,7 @@
 -- `some_fixed` meets its contract: the fixed tokens that are left say what all did.
 -- Assumes nothing.
 use mathlib.Core.Path.{◌≡◌}
-use Prim.Native.Nat.{◌+◌, ◌-◌, ◌≤◌}
+use Prim.Native.Nat.{◌+◌, ◌≤◌}
 use lib.ListN.{drop}
 use lib.Seq.{slice}
 use Rattle.reading.specs.Code.{tops}
@@ -10,7 +10,4 @@ use Rattle.grammar.specs.Prototype.{spellings, declarations}
 use Rattle.reading.proofs.texts.some_fixed.Given as goal
 
 abbrev pub invariant-loop-i : goal.invariant-loop-i
-invariant-loop-i l = (some_fixed declarations (tops l.stack l.depth) (drop l.i spellings) (l.i + 3) (slice l.start l.end l.text) ≡ some_fixed declarations (tops l.stack l.depth) spellings 3 (slice l.start l.end l.text)) × (l.i ≤ 45)
-
-abbrev pub decreases-loop-i : goal.decreases-loop-i
-decreases-loop-i l = 45 - l.i
+invariant-loop-i l = (some_fixed declarations (tops l.symbols.cells l.symbols.depth) (drop l.i spellings) (l.i + 3) (slice l.start l.end l.text) ≡ some_fixed declarations (tops l.symbols.cells l.symbols.depth) spellings 3 (slice l.start l.end l.text)) × (l.i ≤ 45)

@@ -1,18 +1,15 @@
--- `joined` meets its contract: by the class of the first byte.
--- Assumes nothing.
-use mathlib.Core.Path.{◌∙◌}
-use Rattle.reading.proofs.Spelling.{joins-dot, joins-letter, joins-digit, joins-none}
+-- By the class of the first byte. Assumes nothing.
+use mathlib.Core.Path.{refl, sym, ◌∙◌}
+use borrow.Author.Tests.{eqb-true, eqb-false}
+use Rattle.reading.proofs.Spelling.{joins-dot, joins-wordy, joins-none}
 use Rattle.grammar.specs.Tokens.{class_of}
 use Rattle.reading.proofs.tokens.joined.Goals as goal
 
-pub returns-then-c-eq3 : goal.returns-then-c-eq3
-returns-then-c-eq3 c = joins-dot (class_of c.args.a) (class_of c.args.b) _ _ c.class_of-c.ensures c.class_of-d.ensures c.if-c-eq3.true
+pub returns-then-has_class : goal.returns-then-has_class
+returns-then-has_class c = c.has_class-then-has_class.ensures ∙ joins-dot (class_of c.args.a) (class_of c.args.b) _ _ refl refl (eqb-true _ 3 (sym c.has_class.ensures ∙ c.if-has_class.true))
 
-pub returns-then-c-eq1 : goal.returns-then-c-eq1
-returns-then-c-eq1 c = c.wordy.ensures ∙ joins-letter (class_of c.args.a) (class_of c.args.b) _ c.class_of-c.ensures c.if-c-eq1.true
+pub returns-then-wordy : goal.returns-then-wordy
+returns-then-wordy c = c.wordy-then-wordy.ensures ∙ joins-wordy (class_of c.args.a) (class_of c.args.b) (sym c.wordy.ensures ∙ c.if-wordy.true)
 
-pub returns-then-c-eq2 : goal.returns-then-c-eq2
-returns-then-c-eq2 c = c.wordy-then-c-eq2.ensures ∙ joins-digit (class_of c.args.a) (class_of c.args.b) _ c.class_of-c.ensures c.if-c-eq2.true
-
-pub returns : goal.returns
-returns c = joins-none (class_of c.args.a) (class_of c.args.b) _ c.class_of-c.ensures c.if-c-eq3.false c.if-c-eq1.false c.if-c-eq2.false
+pub returns-else-wordy : goal.returns-else-wordy
+returns-else-wordy c = c.if-wordy.false ∙ joins-none (class_of c.args.a) (class_of c.args.b) (sym c.wordy.ensures ∙ c.if-wordy.false) (eqb-false _ 3 (sym c.has_class.ensures ∙ c.if-has_class.false))

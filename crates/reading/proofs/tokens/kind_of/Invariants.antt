@@ -1,7 +1,7 @@
 -- `kind_of` meets its contract: the fixed tokens that are left say what all did.
 -- Assumes nothing.
 use mathlib.Core.Path.{◌≡◌}
-use Prim.Native.Nat.{◌+◌, ◌-◌, ◌≤◌}
+use Prim.Native.Nat.{◌+◌, ◌≤◌}
 use lib.ListN.{drop}
 use lib.Seq.{slice}
 use Rattle.grammar.specs.Grammar.{word_kind}
@@ -10,6 +10,3 @@ use Rattle.reading.proofs.tokens.kind_of.Given as goal
 
 abbrev pub invariant-loop-i : goal.invariant-loop-i
 invariant-loop-i l = (word_kind (drop l.i spellings) (l.i + 3) (slice l.start l.end l.text) ≡ word_kind spellings 3 (slice l.start l.end l.text)) × (l.i ≤ 45)
-
-abbrev pub decreases-loop-i : goal.decreases-loop-i
-decreases-loop-i l = 45 - l.i

@@ -25,13 +25,13 @@ returns-then-variadic_in-ne1 c = under-refused kcb _ _ 16 _ _ c.from.ensures (om
 pub byte_at-named-requires : goal.byte_at-named-requires
 byte_at-named-requires c = omega (arith, headed c.args.d.now (laid-uses c.args.d.now _ (sym c.in_ok-layout.ensures)))
 
-pub walk_at-requires : goal.walk_at-requires
-walk_at-requires c = named-few c.args.d.now _ (laid-right c.args.d.now _ (sym c.in_ok-layout.ensures)).1
+pub standing-requires : goal.standing-requires
+standing-requires c = named-few c.args.d.now _ (laid-right c.args.d.now _ (sym c.in_ok-layout.ensures)).1
 
 pub returns : goal.returns
 returns c =
     let e = sym c.in_ok-layout.ensures in
     let z = laid-right c.args.d.now _ e in
     under-done kcb _ _ _ _ (variadic-right c.args.d.now c.variadic_in.result z.0 c.variadic_in.ensures c.if-variadic_in-ne1.false)
-    (standing-named c.args.d.now c.args.number c.byte_at-named.result _ c.walk_at.result (laid-uses c.args.d.now _ e) z.1 c.byte_at-named.ensures.0 c.walk_at.ensures)
+    (standing-named c.args.d.now c.args.number c.byte_at-named.result _ c.standing.result (laid-uses c.args.d.now _ e) z.1 c.byte_at-named.ensures.0 c.standing.ensures)
     ∙ opened-is kcb _ _ _

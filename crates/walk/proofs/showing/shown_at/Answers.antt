@@ -11,12 +11,12 @@ returns-in_err-shape c =
     let p = err_from_is_err_and c.from_residual.result c.from_residual.ensures.1 in
     rw (p.1, p.2) (shown-refused c.args.station c.args.seat.now c.args.walk (asking c.args.registers.now c.args.stack.now c.args.asked []) _ c.in_err-shape.ensures, tt)
 
-pub fetch_at-fetch-requires : goal.fetch_at-fetch-requires
-fetch_at-fetch-requires c =
+pub fetch-requires : goal.fetch-requires
+fetch-requires c =
     let a = asking c.args.registers.now c.args.stack.now c.args.asked [] in
     (reached-here c.args.station c.args.seat.now c.args.walk a _ c.in_ok-shape.ensures, small-here c.args.station c.args.seat.now c.args.walk a _ c.in_ok-shape.ensures)
 
 pub returns : goal.returns
 returns c =
     shown-there c.args.station c.args.seat.now c.args.walk (asking c.args.registers.now c.args.stack.now c.args.asked []) _ c.in_ok-shape.ensures
-    c.fetch_at-fetch.result c.part_of.result c.fetch_at-fetch.ensures c.part_of.ensures
+    c.fetch.result c.part_of.result c.fetch.ensures c.part_of.ensures

@@ -14,14 +14,14 @@ returns-in_err-shape c =
 pub returns-then-ne : goal.returns-then-ne
 returns-then-ne c = leaves-out c.args.station.now c.args.seat.now c.args.walk.now c.args.registers.now c.args.stack.now c.args.out.now c.args.asked _ c.in_ok-shape.ensures _ c.from.ensures (eqb-false _ _ (not-true _ (sym c.ne.ensures ∙ c.if-ne.true)))
 
-pub fetch_at-fetch-requires : goal.fetch_at-fetch-requires
-fetch_at-fetch-requires c = (reached-here c.args.station.now c.args.seat.now c.args.walk.now c.args.registers.now c.args.stack.now c.args.out.now c.args.asked _ c.in_ok-shape.ensures, small-here c.args.station.now c.args.seat.now c.args.walk.now c.args.registers.now c.args.stack.now c.args.out.now c.args.asked _ c.in_ok-shape.ensures)
+pub fetch-fetch-requires : goal.fetch-fetch-requires
+fetch-fetch-requires c = (reached-here c.args.station.now c.args.seat.now c.args.walk.now c.args.registers.now c.args.stack.now c.args.out.now c.args.asked _ c.in_ok-shape.ensures, small-here c.args.station.now c.args.seat.now c.args.walk.now c.args.registers.now c.args.stack.now c.args.out.now c.args.asked _ c.in_ok-shape.ensures)
 
 pub copy_out-requires : goal.copy_out-requires
-copy_out-requires c = copies_here c.args.station.now c.args.seat.now c.args.walk.now c.args.registers.now c.args.stack.now c.args.out.now c.args.asked _ c.in_ok-shape.ensures (eqb-true _ _ (not-false _ (sym c.ne.ensures ∙ c.if-ne.false))) _ c.fetch_at-fetch.ensures
+copy_out-requires c = copies_here c.args.station.now c.args.seat.now c.args.walk.now c.args.registers.now c.args.stack.now c.args.out.now c.args.asked _ c.in_ok-shape.ensures (eqb-true _ _ (not-false _ (sym c.ne.ensures ∙ c.if-ne.false))) _ c.fetch-fetch.ensures
 
-pub moved_on-requires : goal.moved_on-requires
-moved_on-requires c = (reached-here c.args.station.now c.args.seat.now c.args.walk.now c.args.registers.now c.args.stack.now c.args.out.now c.args.asked _ c.in_ok-shape.ensures, small-here c.args.station.now c.args.seat.now c.args.walk.now c.args.registers.now c.args.stack.now c.args.out.now c.args.asked _ c.in_ok-shape.ensures)
+pub behind-requires : goal.behind-requires
+behind-requires c = (reached-here c.args.station.now c.args.seat.now c.args.walk.now c.args.registers.now c.args.stack.now c.args.out.now c.args.asked _ c.in_ok-shape.ensures, small-here c.args.station.now c.args.seat.now c.args.walk.now c.args.registers.now c.args.stack.now c.args.out.now c.args.asked _ c.in_ok-shape.ensures)
 
 pub returns : goal.returns
-returns c = leaves-moved c.args.station.now c.args.seat.now c.args.walk.now c.args.registers.now c.args.stack.now c.args.out.now c.args.asked _ c.in_ok-shape.ensures (eqb-true _ _ (not-false _ (sym c.ne.ensures ∙ c.if-ne.false))) _ c.fetch_at-fetch.ensures _ _ c.copy_out.ensures c.moved_on.ensures
+returns c = leaves-moved c.args.station.now c.args.seat.now c.args.walk.now c.args.registers.now c.args.stack.now c.args.out.now c.args.asked _ c.in_ok-shape.ensures (eqb-true _ _ (not-false _ (sym c.ne.ensures ∙ c.if-ne.false))) _ c.fetch-fetch.ensures _ _ c.copy_out.ensures c.behind.ensures

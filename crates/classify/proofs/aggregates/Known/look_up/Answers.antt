@@ -1,10 +1,10 @@
 -- `look_up` meets its contract.
 -- Assumes nothing.
-use mathlib.Core.Path.{◌≡◌, refl, ap, ◌∙◌}
-use Prim.Native.Nat.{ℕ, ◌+◌, ◌*◌, ◌≤◌, ◌%◌}
+use mathlib.Core.Path.{refl, ap, ◌∙◌}
+use Prim.Native.Nat.{ℕ, ◌+◌, ◌*◌, ◌%◌}
 use native.Mathlib.Omega.{arith}
 use lib.ListN.{get_or}
-use Rattle.classify.specs.Table.{pair_in, Ready}
+use Rattle.classify.specs.Table.{pair_in}
 use Rattle.classify.proofs.Known.{ready_less, look_first, look_low, look_high, look_finished}
 use Rattle.classify.proofs.aggregates.Known.look_up.Goals as goal
 

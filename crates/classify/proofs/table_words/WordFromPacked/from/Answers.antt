@@ -1,8 +1,7 @@
 -- The word of two classes meets its contract.
 -- Assumes nothing.
-use mathlib.Core.Path.{◌∙◌, ap}
 use native.Mathlib.Omega.{arith}
-use Rattle.classify.specs.Table.{pair_in, word_of}
+use Rattle.classify.specs.Table.{word_of}
 use Rattle.classify.proofs.Table.{asks-small, packed-range}
 use Rattle.classify.proofs.table_words.WordFromPacked.from.Goals as goal
 

@@ -1,12 +1,10 @@
-use mathlib.Core.Path.{◌≡◌, sym, ap, subst, ◌∙◌}
+use mathlib.Core.Path.{◌≡◌, sym, ◌∙◌}
 use native.Mathlib.Omega.{arith}
 use Rattle.std.proofs.lemmas.Map.Keys.{le_from_not_gt}
 use Rattle.description.specs.Description.{arguments_in}
-use Rattle.layout.specs.Asks.{AskRecord}
-use Rattle.layout.specs.declared.placements.Laying.{Laying}
 use Rattle.places.proofs.Orders.{over_from_gt}
-use Rattle.layout.proofs.Layouts.{record_asks}
-use Rattle.layout.proofs.Stacked.{Looking, looking_first, looking_found, looking_on, looking_end}
+use Rattle.layout.proofs.Layouts.{turn_asked}
+use Rattle.layout.proofs.Stacked.{looking_first, looking_found, looking_on, looking_end}
 use Rattle.layout.proofs.Steps.{named_by}
 use Rattle.layout.proofs.described.Described.first_stacked.Goals as goal
 
@@ -16,7 +14,7 @@ loop-i-init c = looking_first c.args.self.bytes.now _ c.hidden.ensures _ c.fresh
 pub pass_argument-requires : goal.pass_argument-requires
 pass_argument-requires c =
     let d = c.args.self.bytes.now in
-    (subst (λ (l : Laying). AskRecord d c.loop-i.i l) (sym c.loop-i.invariant.laying) (record_asks d c.args.self.judged c.loop-i.i (omega (arith, c.arguments-i-end.ensures))), named_by d c.loop-i.i _ c.named-named.ensures)
+    (turn_asked d c.loop-i.i _ c.loop-i.invariant.laying c.args.self.judged (omega (arith, c.arguments-i-end.ensures)), named_by d c.loop-i.i _ c.named-named.ensures)
 
 pub returns-then-gt : goal.returns-then-gt
 returns-then-gt c = looking_found c.args.self.bytes.now c.args.self.judged c.loop-i.i _ c.loop-i.invariant (omega (arith, c.arguments-i-end.ensures)) _ c.pass_argument.ensures (over_from_gt _ _ (sym c.gt.ensures ∙ c.if-gt.true))

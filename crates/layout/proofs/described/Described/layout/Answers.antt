@@ -1,7 +1,5 @@
 use mathlib.Core.Path.{refl, sym, ap, ◌∙◌}
-use Prim.Native.Nat.{◌≤◌}
 use native.Mathlib.Omega.{arith}
-use Rattle.description.specs.Description.{named_in, arguments_in}
 use Rattle.layout.specs.Placements.{laying_at}
 use Rattle.layout.proofs.Layouts.{named-alike, unnamed-alike, laying_first, laying-small, layout_is}
 use Rattle.uses.proofs.Uses.{accepted-typed}

@@ -6,8 +6,11 @@ use Rattle.layout.proofs.described.Described.pass_argument.Goals as goal
 pub argument_at-ty-requires : goal.argument_at-ty-requires
 argument_at-ty-requires c = ((accepted-typed c.args.self.bytes.now c.args.self.judged).whole, c.requires.0.argument.there)
 
-pub invariant_of-argument : goal.invariant_of-argument
-invariant_of-argument c = record { low = turn_low c.args.self.bytes.now c.args.self.table.now c.args.self.tabled c.args.laying.now.used c.args.i c.requires.0.argument _ c.argument_at-ty.ensures c.args.named c.requires.1 }
+pub offset_bounds-self-ty : goal.offset_bounds-self-ty
+offset_bounds-self-ty c = omega (arith, turn_low c.args.self.bytes.now c.args.self.table.now c.args.self.tabled c.args.laying.now.used c.args.i c.requires.0.argument _ c.argument_at-ty.ensures c.args.named c.requires.1)
+
+pub bounds-self-ty : goal.bounds-self-ty
+bounds-self-ty c = turn_low c.args.self.bytes.now c.args.self.table.now c.args.self.tabled c.args.laying.now.used c.args.i c.requires.0.argument _ c.argument_at-ty.ensures c.args.named c.requires.1
 
 pub add-laying-requires : goal.add-laying-requires
 add-laying-requires c = omega (arith, values-room c.args.self.bytes.now c.args.self.table.now c.args.self.tabled c.args.laying.now c.args.i c.requires.0 _ c.argument_at-ty.ensures c.args.named c.requires.1 c.extent.result c.extent.ensures)

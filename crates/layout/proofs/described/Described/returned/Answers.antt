@@ -1,4 +1,4 @@
-use mathlib.Core.Path.{sym, ◌∙◌}
+use mathlib.Core.Path.{◌∙◌}
 use native.Mathlib.Omega.{arith}
 use Rattle.uses.proofs.Uses.{accepted-typed}
 use Rattle.layout.proofs.Steps.{return_known}

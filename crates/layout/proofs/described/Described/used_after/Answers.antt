@@ -1,6 +1,5 @@
-use mathlib.Core.Path.{sym, ap, ◌∙◌}
+use mathlib.Core.Path.{ap}
 use native.Mathlib.Omega.{arith}
-use Rattle.description.specs.Description.{named_in}
 use Rattle.layout.specs.declared.placements.Laying.{Laying}
 use Rattle.layout.specs.Placements.{laying_at}
 use Rattle.layout.proofs.Layouts.{named-alike, unnamed-alike, laying_first}

@@ -1,9 +1,0 @@
-pub mod Outcome
-pub mod TypeCalls
-pub mod LayoutCalls
-pub mod StackCalls
-pub mod TidyingCalls
-pub mod MovingCalls
-pub mod ReturningCalls
-pub mod StationCalls
-pub mod WalkCalls

@@ -1,7 +1,0 @@
--- `prototype_with` meets its contract.
--- Assumes nothing.
-use Rattle.reading.proofs.Steps.{read_same}
-use Rattle.reading.proofs.texts.prototype_with.Goals as goal
-
-pub returns : goal.returns
-returns c = read_same _ _ _ _ c.read_on.ensures c.start_prototype-height.ensures.0
