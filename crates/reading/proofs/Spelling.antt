@@ -1,6 +1,6 @@
 -- Tokens, byte by byte. Assumes nothing.
 use mathlib.Core.Path.{◌≡◌, refl, sym, ap, ◌∙◌}
-use mathlib.Core.Bool.{Bool, true, false, ◌&&◌, ◌||◌}
+use mathlib.Core.Bool.{Bool, true, false, true≢false, ◌&&◌, ◌||◌}
 use mathlib.Core.List.{List, [], ◌∷◌}
 use Prim.Native.Nat.{ℕ, suc, ◌+◌, ◌-◌, ◌≤◌, ◌<◌}
 use native.Mathlib.Omega.{arith}
@@ -185,26 +185,19 @@ joins-dot c d x y p q h = rw q (by c d (sym p ∙ h))
     by dot alone h = refl
     by alone d h = absurd (omega arith)
 
-pub joins-letter : (c d : Class) (x : ℕ) → x ≡ class_code c → x ≡ 1 → (is_letter d || is_digit d) ≡ joins c d
-joins-letter blank d x p h = absurd (omega arith)
-joins-letter letter d x p h = refl
-joins-letter digit d x p h = absurd (omega arith)
-joins-letter dot d x p h = absurd (omega arith)
-joins-letter alone d x p h = absurd (omega arith)
+pub joins-wordy : (c d : Class) → (is_letter c || is_digit c) ≡ true → (is_letter d || is_digit d) ≡ joins c d
+joins-wordy blank d h = absurd (true≢false (sym h))
+joins-wordy letter d h = refl
+joins-wordy digit d h = refl
+joins-wordy dot d h = absurd (true≢false (sym h))
+joins-wordy alone d h = absurd (true≢false (sym h))
 
-pub joins-digit : (c d : Class) (x : ℕ) → x ≡ class_code c → x ≡ 2 → (is_letter d || is_digit d) ≡ joins c d
-joins-digit blank d x p h = absurd (omega arith)
-joins-digit letter d x p h = absurd (omega arith)
-joins-digit digit d x p h = refl
-joins-digit dot d x p h = absurd (omega arith)
-joins-digit alone d x p h = absurd (omega arith)
-
-pub joins-none : (c d : Class) (x : ℕ) → x ≡ class_code c → (x ≡ 3 → ⊥) → (x ≡ 1 → ⊥) → (x ≡ 2 → ⊥) → false ≡ joins c d
-joins-none blank d x p f h k = refl
-joins-none letter d x p f h k = absurd (h p)
-joins-none digit d x p f h k = absurd (k p)
-joins-none dot d x p f h k = absurd (f p)
-joins-none alone d x p f h k = refl
+pub joins-none : (c d : Class) → (is_letter c || is_digit c) ≡ false → (class_code c ≡ 3 → ⊥) → false ≡ joins c d
+joins-none blank d h k = refl
+joins-none letter d h k = absurd (true≢false h)
+joins-none digit d h k = absurd (true≢false h)
+joins-none dot d h k = absurd (k refl)
+joins-none alone d h k = refl
 
 pub wordy_letter : (d : Class) (x : ℕ) → x ≡ class_code d → x ≡ 1 → true ≡ (is_letter d || is_digit d)
 wordy_letter d x p h = rw (is-letter d (sym p ∙ h)) refl

@@ -2,6 +2,8 @@
 use Rattle.std.specs.Prelude.{Bool, true, false, [], ℕ, zero, suc, get_or, Option, None, Some}
 use Rattle.grammar.specs.Tokens.{Class, blank, letter, digit, dot, alone}
 use Rattle.grammar.specs.Grammar.{Rest, stop, goes, Absence, required, optional}
+use Rattle.reading.specs.declared.tables.Class.{Class as Coding}
+use Rattle.reading.specs.declared.tables.Class.TheVariants.{Blank, Letter, Digit, Dot, Alone}
 use Rattle.reading.specs.Productions.{productions}
 
 abbrev pub class_code : Class → ℕ
@@ -10,6 +12,13 @@ class_code letter = 1
 class_code digit = 2
 class_code dot = 3
 class_code alone = 4
+
+abbrev pub number_of : Coding → ℕ
+number_of Blank = 0
+number_of Letter = 1
+number_of Digit = 2
+number_of Dot = 3
+number_of Alone = 4
 
 -- 0 is no alternative, 1 and up the productions
 unfoldable pub rest_at : ℕ → Rest

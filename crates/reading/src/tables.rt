@@ -1,15 +1,34 @@
 // The grammar of C prototypes as tables of bytes: classes, alternatives, symbols, fixed tokens.
-ghost use Rattle.std.specs.Prelude.{◌≡◌, [], ◌≤◌, ◌<◌, length, get_or};
+ghost use Rattle.std.specs.Prelude.{◌≡◌, eqb, [], ◌≤◌, ◌<◌, length, get_or};
 ghost use Rattle.grammar.specs.Tokens.{class_of};
 ghost use Rattle.grammar.specs.Prototype.{declarations, spellings};
 ghost use Rattle.reading.specs.Productions.{productions};
-ghost use Rattle.reading.specs.Coded.{class_code, rest_at, may_lack, counted};
+ghost use Rattle.reading.specs.Coded.{class_code, number_of, rest_at, may_lack, counted};
 
-// The class of a byte.
-pub fn class_of(b: u8) -> u8
-    ensures { result ≡ class_code (class_of b) }
+// What a byte is in a text.
+#[derive(Clone, Copy, Debug, PartialEq, Eq)]
+pub enum Class {
+    Blank = 0,
+    Letter = 1,
+    Digit = 2,
+    Dot = 3,
+    Alone = 4,
+}
+
+impl Class {
+    // What the table has for it.
+    fn number(self) -> u8
+        ensures { result ≡ number_of self }
+    {
+        self as u8
+    }
+}
+
+// Whether the byte is of this class.
+pub fn has_class(b: u8, class: Class) -> bool
+    ensures { result ≡ eqb (class_code (class_of b)) (number_of class) }
 {
-    CLASS[usize::from(b)]
+    CLASS[usize::from(b)] == class.number()
 }
 
 // The production of a symbol's alternative that begins with a token of kind k.

@@ -7,6 +7,7 @@ ghost use Rattle.grammar.specs.Prototype.{declarations, prototype, types, spelli
 ghost use Rattle.reading.specs.Code.{tops, LeadsTo, Holds, answer_of, reading_of};
 
 use crate::symbols::Symbols;
+use crate::tables::Class;
 use crate::{ReadError, tables, tokens};
 
 // Whether they begin the fixed token number i, and this may come next.
@@ -41,7 +42,7 @@ fn name_fits(symbols: &Symbols, text: &[u8], start: usize, end: usize) -> bool
     requires { (start < end) × (end ≤ length text.now) }
     ensures { result ≡ (is_name (slice start end text.now) && live (feed declarations (tops symbols.now.cells symbols.now.depth) 1)) }
 {
-    tables::class_of(text[start]) == 1 && symbols.may_come(1)
+    tables::has_class(text[start], Class::Letter) && symbols.may_come(1)
 }
 
 // Whether they begin a token that may come next, where it is told whether they are a number.
@@ -81,7 +82,7 @@ fn read_byte(
     if !end_token(symbols, text, start, i) {
         return None;
     }
-    if tables::class_of(text[i]) == 0 {
+    if tables::has_class(text[i], Class::Blank) {
         return Some(i + 1);
     }
     let digit = tokens::number_on(text, i, i, false);

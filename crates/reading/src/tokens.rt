@@ -7,6 +7,7 @@ ghost use Rattle.grammar.specs.Machine.{begins, joins_run};
 ghost use Rattle.grammar.specs.Prototype.{spellings};
 
 use crate::tables;
+use crate::tables::Class;
 
 // Whether the bytes from start to end begin the fixed token number i.
 pub fn begins_token(text: &[u8], start: usize, end: usize, i: usize) -> bool
@@ -39,11 +40,11 @@ pub fn is_number(text: &[u8], start: usize, end: usize) -> bool
     ensures { result ≡ is_number (slice start end text.now) }
 {
     let first = text[start];
-    if tables::class_of(first) != 2 {
+    if !tables::has_class(first, Class::Digit) {
         return false;
     }
     for j in start + 1..end {
-        if tables::class_of(text[j]) != 2 {
+        if !tables::has_class(text[j], Class::Digit) {
             return false;
         }
     }
@@ -55,7 +56,7 @@ pub fn number_on(text: &[u8], start: usize, i: usize, number: bool) -> bool
     requires { (start ≤ i) × (i < length text.now) × (number ≡ is_number (slice start i text.now)) }
     ensures { result ≡ is_number (slice start (i + 1) text.now) }
 {
-    if tables::class_of(text[i]) != 2 {
+    if !tables::has_class(text[i], Class::Digit) {
         return false;
     }
     start == i || (number && text[start] != b'0')
@@ -85,7 +86,7 @@ pub fn kind_of(text: &[u8], start: usize, end: usize) -> usize
             return i + 3;
         }
     }
-    if tables::class_of(text[start]) == 1 {
+    if tables::has_class(text[start], Class::Letter) {
         1
     } else {
         2
@@ -96,10 +97,10 @@ pub fn kind_of(text: &[u8], start: usize, end: usize) -> usize
 fn joined(a: u8, b: u8) -> bool
     ensures { result ≡ joins (class_of a) (class_of b) }
 {
-    match tables::class_of(a) {
-        1 | 2 => wordy(b),
-        3 => tables::class_of(b) == 3,
-        _ => false,
+    if tables::has_class(a, Class::Dot) {
+        tables::has_class(b, Class::Dot)
+    } else {
+        wordy(a) && wordy(b)
     }
 }
 
@@ -107,8 +108,7 @@ fn joined(a: u8, b: u8) -> bool
 fn wordy(b: u8) -> bool
     ensures { result ≡ (is_letter (class_of b) || is_digit (class_of b)) }
 {
-    let d = tables::class_of(b);
-    d == 1 || d == 2
+    tables::has_class(b, Class::Letter) || tables::has_class(b, Class::Digit)
 }
 
 // Whether the byte at i joins the token that begins at start.

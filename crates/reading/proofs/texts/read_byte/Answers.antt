@@ -1,4 +1,6 @@
 -- Branch by branch. Assumes nothing.
+use mathlib.Core.Path.{refl, sym, ◌∙◌}
+use borrow.Author.Tests.{eqb-true, eqb-false}
 use native.Mathlib.Omega.{arith}
 use borrow.Author.Rules.{rules}
 use Rattle.reading.proofs.Digits.{none_number}
@@ -11,11 +13,11 @@ returns-then-joins_on c = rw c.then_some.ensures (step-joined c.args.text.now c.
 pub returns-then-not-end_token : goal.returns-then-not-end_token
 returns-then-not-end_token c = step-lost c.args.text.now c.args.start c.args.i c.args.symbols.now.depth _ _ c.joins_on.ensures c.if-joins_on.false _ _ _ c.end_token.ensures.0 c.if-not-end_token.true
 
-pub returns-then-class_of-eq0 : goal.returns-then-class_of-eq0
-returns-then-class_of-eq0 c = step-blank c.args.text.now c.args.start c.args.i c.args.symbols.now.depth _ _ c.joins_on.ensures c.if-joins_on.false _ _ _ _ c.end_token.ensures.0 c.if-not-end_token.false c.class_of.ensures c.if-class_of-eq0.true (omega (arith, c.end_token.ensures.1))
+pub returns-then-has_class : goal.returns-then-has_class
+returns-then-has_class c = step-blank c.args.text.now c.args.start c.args.i c.args.symbols.now.depth _ _ c.joins_on.ensures c.if-joins_on.false _ _ _ _ c.end_token.ensures.0 c.if-not-end_token.false refl (eqb-true _ 0 (sym c.has_class.ensures ∙ c.if-has_class.true)) (omega (arith, c.end_token.ensures.1))
 
 pub number_on-digit-requires : goal.number_on-digit-requires
 number_on-digit-requires c = (omega arith, search rules, none_number c.args.text.now c.args.i)
 
 pub returns : goal.returns
-returns c = rw c.then_some-2.ensures (step-begin c.args.text.now c.args.start c.args.i c.args.symbols.now.depth _ _ c.joins_on.ensures c.if-joins_on.false _ _ _ _ _ (search rules) c.end_token.ensures.0 c.if-not-end_token.false c.class_of.ensures c.if-class_of-eq0.false (omega (arith, c.end_token.ensures.1)) c.could-2.ensures)
+returns c = rw c.then_some-2.ensures (step-begin c.args.text.now c.args.start c.args.i c.args.symbols.now.depth _ _ c.joins_on.ensures c.if-joins_on.false _ _ _ _ _ (search rules) c.end_token.ensures.0 c.if-not-end_token.false refl (eqb-false _ 0 (sym c.has_class.ensures ∙ c.if-has_class.false)) (omega (arith, c.end_token.ensures.1)) c.could-2.ensures)

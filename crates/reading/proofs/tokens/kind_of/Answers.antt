@@ -1,4 +1,5 @@
 use mathlib.Core.Path.{refl, sym, ◌∙◌}
+use borrow.Author.Tests.{eqb-true, eqb-false}
 use mathlib.Core.Bool.{true}
 use native.Mathlib.Omega.{arith}
 use borrow.Author.Rules.{rules}
@@ -17,8 +18,8 @@ returns-then-is_token c = (kind-here _ _ c.loop-i-test.true true _ c.loop-i.inva
 pub loop-i-preserved : goal.loop-i-preserved
 loop-i-preserved c = (kind-next _ _ c.loop-i-test.true _ c.loop-i.invariant.0 c.is_token.ensures c.if-is_token.false, omega arith)
 
-pub returns-then-class_of-eq1 : goal.returns-then-class_of-eq1
-returns-then-class_of-eq1 c = (kind-name c.args.text.now c.args.start c.args.end c.loop-i.i _ (search rules) (search rules) c.loop-i.invariant.0 (omega arith) (sym c.is_number.ensures ∙ c.if-is_number.false) c.class_of.ensures c.if-class_of-eq1.true, omega arith)
+pub returns-then-has_class : goal.returns-then-has_class
+returns-then-has_class c = (kind-name c.args.text.now c.args.start c.args.end c.loop-i.i _ (search rules) (search rules) c.loop-i.invariant.0 (omega arith) (sym c.is_number.ensures ∙ c.if-is_number.false) refl (eqb-true _ 1 (sym c.has_class.ensures ∙ c.if-has_class.true)), omega arith)
 
-pub returns-else-class_of-eq1 : goal.returns-else-class_of-eq1
-returns-else-class_of-eq1 c = (kind-none c.args.text.now c.args.start c.args.end c.loop-i.i _ (search rules) (search rules) c.loop-i.invariant.0 (omega arith) (sym c.is_number.ensures ∙ c.if-is_number.false) c.class_of.ensures c.if-class_of-eq1.false, omega arith)
+pub returns-else-has_class : goal.returns-else-has_class
+returns-else-has_class c = (kind-none c.args.text.now c.args.start c.args.end c.loop-i.i _ (search rules) (search rules) c.loop-i.invariant.0 (omega arith) (sym c.is_number.ensures ∙ c.if-is_number.false) refl (eqb-false _ 1 (sym c.has_class.ensures ∙ c.if-has_class.false)), omega arith)

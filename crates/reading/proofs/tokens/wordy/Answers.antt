@@ -1,13 +1,12 @@
--- `wordy` meets its contract.
--- Assumes nothing.
-use mathlib.Core.Path.{◌∙◌}
-use borrow.Author.Tests.{eq-eqb}
+-- A letter, or else a digit. Assumes nothing.
+use mathlib.Core.Path.{refl, sym, ◌∙◌}
+use borrow.Author.Tests.{eqb-true, eqb-false}
 use Rattle.reading.proofs.Spelling.{wordy_letter, wordy_digit}
 use Rattle.grammar.specs.Tokens.{class_of}
 use Rattle.reading.proofs.tokens.wordy.Goals as goal
 
-pub returns-then-d-eq1 : goal.returns-then-d-eq1
-returns-then-d-eq1 c = eq-eqb _ _ c.if-d-eq1.true ∙ wordy_letter (class_of c.args.b) _ c.class_of-d.ensures c.if-d-eq1.true
+pub returns-then-has_class : goal.returns-then-has_class
+returns-then-has_class c = c.if-has_class.true ∙ wordy_letter (class_of c.args.b) _ refl (eqb-true _ 1 (sym c.has_class.ensures ∙ c.if-has_class.true))
 
-pub returns-else-d-eq1 : goal.returns-else-d-eq1
-returns-else-d-eq1 c = wordy_digit (class_of c.args.b) _ c.class_of-d.ensures c.if-d-eq1.false
+pub returns-else-has_class : goal.returns-else-has_class
+returns-else-has_class c = c.has_class-else-has_class.ensures ∙ wordy_digit (class_of c.args.b) _ refl (eqb-false _ 1 (sym c.has_class.ensures ∙ c.if-has_class.false))
