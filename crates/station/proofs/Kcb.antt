@@ -9,7 +9,6 @@ use lib.ListN.{length, get_or, take}
 use Rattle.description.specs.Description.{arguments_in, argument_at, IsBytes}
 use Rattle.addresses.specs.Addresses.{run}
 use Rattle.form.specs.declared.Refusal.{Refusal}
-use Rattle.form.specs.Reading.{judgment}
 use Rattle.form.proofs.Form.{accepted-length}
 use Rattle.form.proofs.Order.{never}
 use Rattle.types.specs.Wrong.{refusal_for}
@@ -17,7 +16,7 @@ use Rattle.types.proofs.Large.{accepted-form}
 use Rattle.uses.proofs.Uses.{accepted-types}
 use Rattle.layout.specs.Arguments.{shape_at as layout_shape, shapes_from, used_at as layout_used, area_of as layout_area}
 use Rattle.layout.specs.declared.Layout.{Layout}
-use Rattle.layout.specs.Layout.{layout_of, layout_answer}
+use Rattle.layout.specs.Layout.{layout_of, layout_answer, check_answer}
 use Rattle.layout.specs.Verdict.{check_order, verdict}
 use Rattle.layout.proofs.Layouts.{laid-accepted, refused-verdict, refused-nonzero}
 use Rattle.layout.proofs.Arguments.{length-shapes, shapes-split}
@@ -43,8 +42,8 @@ laid-not d r e =
     (refused-verdict d r e ∙ sym (kcb-refusal d (verdict d)) ∙ ap (refusal_under kcb d) (sym (kcb-verdict d)), λ v. refused-nonzero d r e (sym (kcb-verdict d) ∙ v))
 
 -- the verdict's answer, under the number that it is
-pub checked-as : (d : List ℕ) (n : ℕ) → n ≡ verdict_of kcb d → judgment (verdict d) (refusal_for d (verdict d)) ≡ answer_under kcb d n tt
-unfolding answer_under
+pub checked-as : (d : List ℕ) (n : ℕ) → n ≡ verdict_of kcb d → check_answer d ≡ answer_under kcb d n tt
+unfolding check_answer answer_under
 checked-as d n e = rw (e, kcb-verdict d, kcb-refusal)
 
 pub kcb-registers : kcb.registers ≡ 176
