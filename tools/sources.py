@@ -17,6 +17,7 @@ class Function(typing.NamedTuple):
     result: str  # its type, or '' for none
     clauses: dict  # `requires` and `ensures` -> the texts of these clauses, in their order
     home: str  # the way to it in the crate's contracts and proofs
+    parameter: str = ''  # what it is generic in: one `number`, or one type that is `Copy`
 
     @property
     def pair(self):
@@ -26,6 +27,27 @@ class Function(typing.NamedTuple):
     def alias(self):
         """What a file of theorems calls the module of its contract."""
         return self.name.replace('::', '_')
+
+    @property
+    def given(self):
+        """What its contract is given in a theorem, for what it is generic in."""
+        return GIVEN[self.parameter][0]
+
+    @property
+    def ended(self):
+        return '(%s.ended %s)' % (self.alias, self.given) if self.given else self.alias + '.ended'
+
+    @property
+    def clauses_of(self):
+        return 'λ M 𝓤 𝓛. %s.clauses %s𝓛' % (self.alias, self.given + ' ' * bool(self.given))
+
+
+# of what a function is generic in: what a theorem calls it, how it introduces it, and which of the forms of `Meets` the function has
+GIVEN = {
+    '': ('', '', 'Meets'),
+    'number': ('N', '(N : RattleType) → ', 'MeetsNumber'),
+    'Copy': ('A g d', '(A : RattleType) (g : Ghosts A.Denot) (d : Dict) → ', 'MeetsCopy'),
+}
 
 
 def read(path):
@@ -113,14 +135,22 @@ def public_functions(crates=None):
         for module in modules(crate):
             text = code(crate, module)
             blocks = impls(text)
-            for match in re.finditer(r'\bpub\s+(?:extern\s+"C"\s+)?fn\s+(\w+)\s*(?:<[^>]*>)?\s*\(', text):
+            for match in re.finditer(r'\bpub\s+(?:extern\s+"C"\s+)?fn\s+(\w+)\s*(?:<([^>]*)>)?\s*\(', text):
                 inside = [block for block in blocks if block.start <= match.start() < block.end]
                 if not inside and module in passed and (passed[module] is None or match.group(1) in passed[module]):
-                    found[crate, match.group(1)] = function(crate, module, match.group(1), match.group(1), match.end(), text)
+                    made = function(crate, module, match.group(1), match.group(1), match.end(), text)
+                    found[made.pair] = made._replace(parameter=generic_in(match.group(2) or ''))
             for block in blocks:
                 for made in methods(crate, module, block, text, passed):
                     found[made.pair] = made
     return found
+
+
+def generic_in(text):
+    """What a function with these parameters in angle brackets is generic in; lifetimes are none."""
+    parameters = [part for part in apart(text) if not part.startswith("'")]
+    kinds = ['number' if re.fullmatch(r'const \w+: usize', part) else part.partition(': ')[2] for part in parameters]
+    return ' '.join(kinds)
 
 
 def modules(crate):
@@ -150,7 +180,10 @@ def spelled(kind):
     if kind.startswith('('):
         parts = apart(kind[1:-1])
         return 'Tuple%d%s' % (len(parts), ''.join(map(spelled, parts)))
-    path, _, arguments = kind.partition('<')
+    array = re.fullmatch(r'\[(.*); (\w+)\]', kind)
+    if array:
+        return 'Array%s%s' % (spelled(array.group(1)), spelled(array.group(2)))
+    path, _, arguments = re.sub(r"<(?:'\w+(?:, )?)+>", '', kind).partition('<')
     words = ''.join(word[:1].upper() + word[1:] for word in re.findall(r'\w+', re.sub(r"&|'\w+", '', path)))
     return words + ''.join(map(spelled, apart(arguments.removesuffix('>')))) if arguments else words
 
@@ -324,17 +357,18 @@ def symbol(pair):
     return pair[1].replace('::', '_') + '_symbol'
 
 
-def statement_of(kind, pair, result):
+def statement_of(kind, function):
     """What the theorem must say."""
-    alias = pair[1].replace('::', '_')
-    about = '%s.ended (λ M 𝓤 𝓛. %s.clauses 𝓛)' % (alias, alias)
-    if kind == 'total':
-        return 'Total ' + about
+    _, introduced, meets = GIVEN[function.parameter]
     if kind == 'meets':
-        return 'Meets %s %s.name %s.code' % (about, symbol(pair), symbol(pair))
-    if result.startswith('&'):
-        return 'TightPart ' + about.replace('.ended ', '.ended (λ c r. r.now) ')
-    return 'Tight ' + about
+        code = '%s.name %s.code' % ((symbol(function.pair),) * 2)
+        return '%s %s.ended (%s) %s' % (meets, function.alias, function.clauses_of.replace('λ', 'λ %s' % function.given).replace('λ  ', 'λ '), code)
+    about = '%s (%s)' % (function.ended, function.clauses_of)
+    if kind == 'total':
+        return introduced + 'Total ' + about
+    if function.result.startswith('&'):
+        return introduced + 'TightPart ' + about.replace('.ended ', '.ended (λ c r. r.now) ', 1)
+    return introduced + 'Tight ' + about
 
 
 def theorems(path):

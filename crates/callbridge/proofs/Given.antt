@@ -8,6 +8,7 @@ use native.Mathlib.Omega.{arith}
 use borrow.Author.Tests.{ne_eqb}
 use lib.Dec.{eqb}
 use Rattle.form.specs.declared.Refusal.{Refusal}
+use Rattle.form.specs.Reading.{refusal_in}
 use Rattle.types.specs.Wrong.{refusal_for}
 use Rattle.types.proofs.Wrong.{no_type}
 use Rattle.station.specs.declared.Station.{Station}
@@ -17,7 +18,7 @@ use Rattle.station.specs.Attachment.{attach_seat, detach_refusal, detach_station
 use Rattle.flat.specs.declared.Station.{Station as FlatStation}
 use Rattle.flat.specs.Stations.{station_meant, flat_station}
 use Rattle.flat.proofs.Kept.{station-means}
-use Rattle.callbridge.specs.Outcome.{refusal_in, left_in}
+use Rattle.callbridge.specs.Outcome.{left_in}
 use Rattle.callbridge.specs.StationCalls.{attach_given, detach_given, freed_station, change_given}
 
 -- what is given where there is no refusal, and where there is one

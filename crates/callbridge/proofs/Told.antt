@@ -10,7 +10,7 @@ use lib.Dec.{ltb, eqb}
 use lib.ListN.{length}
 use Rattle.description.specs.Description.{arguments_in, kind_at, a_at, count_at, member_start}
 use Rattle.form.specs.declared.Refusal.{Refusal}
-use Rattle.form.specs.Reading.{refusal_of}
+use Rattle.form.specs.Reading.{refusal_of, refusal_in}
 use Rattle.types.specs.Wrong.{refusal_for}
 use Rattle.types.proofs.Wrong.{no_type}
 use Rattle.questions.specs.Questions.{question_refusal, extent_answer}
@@ -43,7 +43,7 @@ use Rattle.flat.specs.declared.Part.{Part}
 use Rattle.flat.specs.declared.Station.{Station}
 use Rattle.flat.specs.Parts.{nowhere}
 use Rattle.flat.specs.Stations.{station_meant, flat_station, walk_meant, flat_walk}
-use Rattle.callbridge.specs.Outcome.{refusal_in, left_in}
+use Rattle.callbridge.specs.Outcome.{left_in}
 use Rattle.callbridge.specs.TypeCalls.{extent_given, classes_given, run_part, run_refusal}
 use Rattle.callbridge.specs.LayoutCalls.{layout_given, list_given}
 use Rattle.callbridge.specs.StackCalls.{need_given}

@@ -3,7 +3,7 @@
 use Rattle.std.specs.Prelude.{◌≡◌, cond, List, Result, ◌++◌, ℕ, ◌+◌, ◌<◌, ltb, length, get_or}
 use Rattle.description.specs.Description.{arguments_in, kind_at, a_at, count_at, member_start, model_in}
 use Rattle.form.specs.declared.Refusal.{Refusal}
-use Rattle.form.specs.Reading.{refusal_of}
+use Rattle.form.specs.Reading.{refusal_of, refusal_in}
 use Rattle.types.specs.Wrong.{refusal_for}
 use Rattle.types.specs.Decode.{ty_at}
 use Rattle.uses.specs.Uses.{uses_refusal}
@@ -45,7 +45,7 @@ use Rattle.flat.specs.Parts.{nowhere, of_description}
 use Rattle.flat.specs.Stations.{station_meant, flat_station, walk_meant, flat_walk}
 use Rattle.flat.specs.Meanings.{placement_meant, layout_meant, summary_of}
 use Rattle.flat.specs.StackNeeds.{flat_need}
-use Rattle.callbridge.specs.Outcome.{refusal_in, left_in}
+use Rattle.callbridge.specs.Outcome.{left_in}
 use Rattle.callbridge.specs.TypeCalls.{extent_given, classes_given, run_part, run_refusal}
 use Rattle.callbridge.specs.LayoutCalls.{layout_given, flat_at, list_given}
 use Rattle.callbridge.specs.StackCalls.{need_given}

@@ -4,6 +4,7 @@
 
 ghost use Rattle.std.specs.Prelude.{◌≡◌, [], ◌++◌, ◌≤◌, length, drop};
 ghost use Rattle.description.specs.Description.{arguments_in};
+ghost use Rattle.form.specs.Reading.{refusal_in};
 ghost use Rattle.types.specs.Wrong.{refusal_for};
 ghost use Rattle.questions.specs.Questions.{extent_answer};
 ghost use Rattle.questions.specs.Runs.{classes_answer, run_answer};
@@ -24,7 +25,7 @@ ghost use Rattle.finishing.specs.Rest.{asking_rest, finish_out};
 ghost use Rattle.walk.specs.Show.{shown_answer};
 ghost use Rattle.listing.specs.Listing.{listing};
 ghost use Rattle.flat.specs.Stations.{station_meant, flat_station, walk_meant};
-ghost use Rattle.callbridge.specs.Outcome.{refusal_in, left_in};
+ghost use Rattle.callbridge.specs.Outcome.{left_in};
 ghost use Rattle.callbridge.specs.TypeCalls.{extent_given, classes_given, run_part, run_refusal};
 ghost use Rattle.callbridge.specs.LayoutCalls.{layout_given, list_given, flat_at};
 ghost use Rattle.callbridge.specs.StackCalls.{need_given};
@@ -43,14 +44,8 @@ use types::Extent;
 use units::Bytes;
 use walk::Shown;
 
-// What a call answers: number 0 where the library refuses nothing.
-fn refusal_in<T: Copy>(answer: Result<T, Refusal>) -> Refusal
-    ensures { result ≡ refusal_in answer }
-{
-    answer.err().unwrap_or(form::refusal_of(0))
-}
-
-// The same, and what is given is stored: "A refusal returns its number only and writes nothing" (document 01).
+// The refusal that a call answers, number 0 for none; and what is given is stored: "A refusal returns its number only and writes nothing"
+// (document 01).
 fn give<T: Copy>(answer: Result<T, Refusal>, lent: &mut T) -> Refusal
     ensures { (result ≡ refusal_in answer) × (lent.new ≡ left_in answer lent.old) }
 {
@@ -70,7 +65,8 @@ fn arguments_of(d: &[u8]) -> usize
     d.get(8).map_or(0, |&count| usize::from(count))
 }
 
-// The flat record of each argument into the list, and that of the call as a whole.
+// The flat record of each argument into the list, and that of the call as a whole. No generic function does this and `layout::lay_out`: its
+// contract would have to speak of any conversion of a record.
 fn lay_out(d: &[u8], list: &mut [Placement]) -> Result<Layout, Refusal>
     ensures { (result ≡ list_given d.now (length list.old))
         × (list.new ≡ filled (flat_at d.now) (list_count d.now (length list.old)) list.old) }
@@ -100,7 +96,7 @@ pub fn cb_version() -> u32
 pub fn cb_check(d: &[u8]) -> Refusal
     ensures { result ≡ refusal_for d.now (verdict d.now) }
 {
-    refusal_in(layout::check(d))
+    form::refusal_in(layout::check(d))
 }
 
 // Size and alignment of a type.
@@ -139,7 +135,7 @@ pub fn cb_member_offsets(d: &[u8], asked: u8, offsets: &mut [usize]) -> Refusal
     ensures { (result ≡ refusal_for d.now (offsets_refusal d.now asked (length offsets.old)))
         × (offsets.new ≡ offsets_after d.now asked offsets.old) }
 {
-    questions::member_offsets(d, asked, offsets)
+    form::refusal_in(questions::member_offsets(d, asked, offsets))
 }
 
 // The call as a whole.
@@ -195,7 +191,7 @@ pub fn cb_tidy(d: &[u8], out: &mut [u8]) -> Refusal
     ensures { (result ≡ refusal_for d.now (tidy_refusal d.now (length out.old)))
         × (out.new ≡ tidy_after d.now out.old) }
 {
-    refusal_in(tidying::tidy(d, out))
+    form::refusal_in(tidying::tidy(d, out))
 }
 
 // Values into the three images.
@@ -247,7 +243,7 @@ pub fn cb_put_returned(
         × ((image.new ≡ image_after d.now hidden value.now image.old upper.old)
         × (upper.new ≡ returned_upper d.now hidden value.now image.old upper.old)) }
 {
-    refusal_in(returning::put_returned(d, hidden, value, image, upper))
+    form::refusal_in(returning::put_returned(d, hidden, value, image, upper))
 }
 
 // A returned value out of the two return images.

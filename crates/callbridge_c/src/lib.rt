@@ -4,6 +4,7 @@
 
 ghost use Rattle.std.specs.Prelude.{◌≡◌, [], ◌++◌, ◌≤◌, length, drop};
 ghost use Rattle.description.specs.Description.{arguments_in};
+ghost use Rattle.form.specs.Reading.{refusal_in};
 ghost use Rattle.types.specs.Wrong.{refusal_for};
 ghost use Rattle.questions.specs.Questions.{extent_answer};
 ghost use Rattle.questions.specs.Runs.{classes_answer, run_answer};
@@ -24,7 +25,7 @@ ghost use Rattle.finishing.specs.Rest.{asking_rest, finish_out};
 ghost use Rattle.walk.specs.Show.{shown_answer};
 ghost use Rattle.listing.specs.Listing.{listing};
 ghost use Rattle.flat.specs.Stations.{station_meant, flat_station, walk_meant};
-ghost use Rattle.callbridge.specs.Outcome.{refusal_in, left_in};
+ghost use Rattle.callbridge.specs.Outcome.{left_in};
 ghost use Rattle.callbridge.specs.TypeCalls.{extent_given, classes_given, run_part, run_refusal};
 ghost use Rattle.callbridge.specs.LayoutCalls.{layout_given, list_given, flat_at};
 ghost use Rattle.callbridge.specs.StackCalls.{need_given};

@@ -8,7 +8,7 @@ use classes::Class;
 pub struct Packed(pub u8);
 
 impl Packed {
-    ghost use Rattle.std.specs.Prelude.{◌≡◌, ◌+◌, ◌*◌, ◌/◌, ◌%◌, eqb, ltb, ◌&&◌, ◌||◌};
+    ghost use Rattle.std.specs.Prelude.{◌≡◌, ◌/◌, ◌%◌, ◌<◌, eqb, ltb, ◌&&◌, ◌||◌};
     ghost use Rattle.classes.specs.Classes.{merge_of, merge_all};
     ghost use Rattle.classes.specs.CleanUp.{clean_up};
     ghost use Rattle.classify.specs.Vectors.{fits_vector};
@@ -33,15 +33,30 @@ impl Packed {
         self.0 / 8 % 8
     }
 
+    // The class with a number below 8.
+    #[tactic(auto, unfolding(crate::specs::Table::class_by))]
+    fn class_by(number: u8) -> Class
+        requires { number < 8 }
+        ensures { result ≡ class_by number }
+    {
+        match number {
+            0 => Class::NoClass,
+            1 => Class::Integer,
+            2 => Class::Sse,
+            3 => Class::SseUp,
+            4 => Class::X87,
+            5 => Class::X87Up,
+            6 => Class::ComplexX87,
+            _ => Class::Memory,
+        }
+    }
+
     // The two classes, the first two of a vector's.
-    #[tactic(auto, unfolding(crate::specs::Table::pair_in, crate::specs::Table::class_by))]
+    #[tactic(auto, unfolding(crate::specs::Table::pair_in))]
     pub fn classes(self) -> [Class; 2]
         ensures { result ≡ pair_in self.0 }
     {
-        [
-            Class::ALL[usize::from(self.first())],
-            Class::ALL[usize::from(self.second())],
-        ]
+        [Self::class_by(self.first()), Self::class_by(self.second())]
     }
 
     // Whether a class with the number `class` changes nothing in an eightbyte of class `merged`: "equal; one NO_CLASS gives the other".

@@ -163,7 +163,7 @@ impl Entry {
     ghost use Rattle.classify.specs.Table.{pair_in, wide_in, unpacked_of};
 
     // With a word in place of the one that is there.
-    pub fn with_word(self, word: Word) -> Entry
+    pub(crate) fn with_word(self, word: Word) -> Entry
         requires { word.0 < 8192 }
         ensures { result.0 ≡ self.0 % 524288 + 524288 * word.0 }
     {
@@ -172,7 +172,7 @@ impl Entry {
 
     // Its classes.
     #[tactic(auto, using(crate::proofs::Known::seven_unpacked))]
-    pub fn packed(self) -> Packed
+    pub(crate) fn packed(self) -> Packed
         ensures number { result.0 ≡ self.0 / 524288 % 128 }
         ensures classes { unpacked_of result.0 ≡ unpacked_of (self.0 / 524288) }
     {

@@ -14,10 +14,10 @@ impl From<(Class, Class, Class, Class)> for Classes {
 
     fn from((first, second, third, fourth): (Class, Class, Class, Class)) -> Self {
         Classes {
-            first: classes::code_of(first),
-            second: classes::code_of(second),
-            third: classes::code_of(third),
-            fourth: classes::code_of(fourth),
+            first: u8::from(first),
+            second: u8::from(second),
+            third: u8::from(third),
+            fourth: u8::from(fourth),
         }
     }
 }

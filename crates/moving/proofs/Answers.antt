@@ -3,23 +3,21 @@ use Rattle.std.specs.Prelude.{Err, Ok, Result}
 use mathlib.Core.Path.{◌≡◌, refl, sym, ap, ◌∙◌}
 use mathlib.Core.Bool.{Bool, true, false, cond}
 use mathlib.Core.List.{List, ◌++◌}
-use Prim.Native.Nat.{ℕ, ◌≤◌, ◌<◌}
+use Prim.Native.Nat.{ℕ, ◌<◌}
 use native.Mathlib.Omega.{arith}
 use borrow.Author.Tests.{eq-eqb, ne_eqb}
 use lib.ListN.{length, take, drop}
 use lib.Seq.{take_at, drop_at}
 use Rattle.addresses.proofs.Runs.{all-run}
 use Rattle.addresses.proofs.Parts.{gather-left}
-use Rattle.description.specs.Description.{arguments_in, model_in}
+use Rattle.description.specs.Description.{model_in}
 use Rattle.form.specs.declared.Refusal.{Refusal}
 use Rattle.form.specs.Order.{first}
 use Rattle.form.specs.Reading.{refusal_of}
 use Rattle.types.specs.Wrong.{refusal_for}
 use Rattle.types.proofs.Wrong.{no_type}
 use Rattle.layout.specs.declared.Layout.{Layout}
-use Rattle.layout.specs.declared.placements.Laying.{Laying}
 use Rattle.layout.specs.Arguments.{hidden}
-use Rattle.layout.specs.Placements.{laying_fresh}
 use Rattle.layout.specs.Layout.{layout_of, layout_answer}
 use Rattle.layout.specs.Verdict.{verdict}
 use Rattle.layout.proofs.Layouts.{laid-accepted, refused-verdict, refused-nonzero}
@@ -27,10 +25,10 @@ use Rattle.images.specs.Words.{number, rdi, address_in}
 use Rattle.moving.specs.Address.{wrong_address}
 use Rattle.moving.specs.Images.{frame_of, amd64}
 use Rattle.moving.specs.Frames.{placed_in, gathered_in, own_address}
-use Rattle.moving.specs.Orders.{wrong_length, first_broken, wrong_bool, place_refusal, gather_refusal}
+use Rattle.moving.specs.Orders.{wrong_length, wrong_bool, place_refusal, gather_refusal}
 use Rattle.moving.specs.Answers.{place_answer, registers_after, upper_after, stack_after, gather_answer, values_after}
 use Rattle.moving.specs.Asks.{Lent}
-use Rattle.moving.proofs.Orders.{gather-before, gather-behind, place-before, place-behind, place-stopped, broken-holds, broken-none}
+use Rattle.moving.proofs.Orders.{gather-before, gather-behind, place-before, place-behind, place-stopped}
 use Rattle.moving.proofs.Amd64.{amd64-ordered, right-lent, own-used, own-unused}
 use Rattle.units.specs.declared.Registers.{Registers}
 
@@ -97,19 +95,18 @@ module _ (d : List ℕ) (h : ℕ) (vals r y s : List ℕ) where
             place-refused x 27 (e ∙ sym (no_type d 27 refl refl))
             (place-stopped amd64 amd64-ordered d h vals (length r) (length y) (length s) lengths-right (λ z. omega (arith, stops, z)) ∙ stops) (λ z. omega arith)
 
-      module _ (a : Bool) (wide : a ≡ wrong_address (model_in d) l.hidden h) (narrow : a ≡ false) (n m : ℕ) (found : n ≡ first_broken amd64 d vals) (all : m ≡ arguments_in d) where
+      module _ (a : Bool) (wide : a ≡ wrong_address (model_in d) l.hidden h) (narrow : a ≡ false) (t : Bool) (found : t ≡ wrong_bool amd64 d vals) where
         place-late : (b : Bool) → wrong_bool amd64 d vals ≡ b → place_refusal amd64 d h vals (length r) (length y) (length s) ≡ cond b 12 0
         place-late b e = place-behind amd64 amd64-ordered d h vals (length r) (length y) (length s) lengths-right (address_is a wide ∙ narrow, tt) b e
 
-        pub place-wrong_bool : (x : Refusal) → x ≡ refusal_of 12 → n < m → PlaceEnd (Err x) r y s
-        place-wrong_bool x e t =
-            place-refused x 12 (e ∙ sym (no_type d 12 refl refl)) (place-late true (broken-holds amd64 d vals (omega (arith, found, all)))) (λ z. omega arith)
+        pub place-wrong_bool : (x : Refusal) → x ≡ refusal_of 12 → t ≡ true → PlaceEnd (Err x) r y s
+        place-wrong_bool x e b = place-refused x 12 (e ∙ sym (no_type d 12 refl refl)) (place-late true (sym found ∙ b)) (λ z. omega arith)
 
-        pub place-done : (r'' y'' s'' : List ℕ) → m ≤ n → length r'' ≡ length r → length y'' ≡ length y → r'' ++ (y'' ++ s'') ≡ placed_in (frame_of d) h vals
+        pub place-done : (r'' y'' s'' : List ℕ) → t ≡ false → length r'' ≡ length r → length y'' ≡ length y → r'' ++ (y'' ++ s'') ≡ placed_in (frame_of d) h vals
             → PlaceEnd (Ok l.used.vector) r'' y'' s''
         unfolding place_answer registers_after upper_after stack_after layout_of
-        place-done r'' y'' s'' t k o img =
-            let none = place-late false (broken-none amd64 d vals (omega (arith, found, all))) in
+        place-done r'' y'' s'' b k o img =
+            let none = place-late false (sym found ∙ b) in
             let q = eq-eqb (place_refusal amd64 d h vals (length r) (length y) (length s)) 0 none in
             let long : length r'' ≡ 176 = k ∙ place-lengths.registers in
             let above : length y'' ≡ 128 = o ∙ place-lengths.upper in
@@ -149,10 +146,6 @@ module _ (d r y s v : List ℕ) where
     module _ (w : wrong_length l (length v) (length r) (length y) (length s) ≡ false) where
       pub gather-lengths : Lent d (length v) (length r) (length y) (length s)
       gather-lengths = right-lent d (length v) (length r) (length y) (length s) (laid-accepted d l laid).0 (same-lengths_2 false w)
-
-      pub gather-first : (b : Bool) (t : Laying) → b ≡ l.hidden → t ≡ laying_fresh b → t ≡ laying_fresh (hidden d)
-      unfolding layout_of
-      gather-first b t e f = f ∙ ap laying_fresh (e ∙ ap (λ (x : Layout). x.hidden) (laid-accepted d l laid).1)
 
       gather-done : (x : ℕ) (v' : List ℕ) → x ≡ own_address (frame_of d) (r ++ (y ++ s)) → v' ≡ gathered_in (frame_of d) (r ++ (y ++ s)) → GatherEnd (Ok x) v'
       unfolding gather_answer values_after

@@ -18,9 +18,8 @@ use Rattle.places.specs.Recorded.{place_of}
 use Rattle.places.proofs.Apart.{length-bytes, length-addresses}
 use Rattle.layout.specs.Arguments.{shape_at, shapes_from, shapes, hidden, used_first}
 use Rattle.layout.specs.Layout.{values_of}
-use Rattle.layout.specs.Placements.{laying_fresh, step_at}
+use Rattle.layout.specs.Placements.{Step, laying_fresh, step_at}
 use Rattle.layout.specs.declared.placements.Laying.{Laying}
-use Rattle.layout.specs.declared.placements.Step.{Step}
 use Rattle.layout.proofs.Arguments.{shapes-cons, shapes-end}
 use Rattle.layout.proofs.Bounds.{argument-shaped, all-shaped}
 use Rattle.moving.specs.Images.{addresses_of, frame_of}

@@ -10,7 +10,7 @@ use lib.Dec.{ltb}
 use lib.ListN.{length, get_or}
 use Rattle.description.specs.Description.{types_in, arguments_in, argument_at, model_in}
 use Rattle.form.specs.Search.{first_from}
-use Rattle.form.proofs.Search.{search_stop, search_on, search_end, first-bound, first_holds, first-least}
+use Rattle.form.proofs.Search.{search_stop, search_on, search_end, first_holds, first-least}
 use Rattle.types.specs.Size.{size_ty}
 use Rattle.types.specs.Decode.{ty_at}
 use Rattle.layout.specs.Arguments.{shape_at, value_start}
@@ -18,7 +18,8 @@ use Rattle.layout.specs.Layout.{values_of}
 use Rattle.layout.specs.Verdict.{verdict}
 use Rattle.layout.proofs.Arguments.{start_none, start-next}
 use Rattle.moving.specs.Images.{amd64}
-use Rattle.moving.specs.Orders.{is_bool, broken_byte, broken_bool, first_broken}
+use Rattle.moving.specs.Orders.{is_bool, broken_byte, broken_bool, first_broken, wrong_bool}
+use Rattle.moving.proofs.Orders.{broken-holds, broken-none}
 use Rattle.moving.proofs.Turns.{known, size_is, value-some, value-inside, values-small}
 
 module _ (d vals : List ℕ) where
@@ -48,8 +49,8 @@ module _ (d vals : List ℕ) where
         same_test : broken_byte d k byte ≡ broken_bool amd64 d vals i
         same_test = ap₂ (broken_byte d) e (f ∙ ap (λ (n : ℕ). get_or vals n 0) h.begins)
 
-        pub searching_stop : broken_byte d k byte ≡ true → i ≡ first_broken amd64 d vals
-        searching_stop t = sym (search_stop (broken_bool amd64 d vals) i (arguments_in d) l (sym same_test ∙ t)) ∙ h.same
+        pub searching_stop : broken_byte d k byte ≡ true → true ≡ wrong_bool amd64 d vals
+        searching_stop t = sym (broken-holds amd64 d vals (omega (arith, search_stop (broken_bool amd64 d vals) i (arguments_in d) l (sym same_test ∙ t), h.same)))
 
         module _ (size : ℕ) (g : size ≡ size_ty (model_in d) (ty_at d k)) where
           size-right : size ≡ (shape_at d i).size
@@ -67,21 +68,21 @@ module _ (d vals : List ℕ) where
             same = search_on (broken_bool amd64 d vals) i (arguments_in d) l (sym same_test ∙ t) ∙ h.same;
           }
 
-    pub searching_end : arguments_in d ≤ i → i ≡ first_broken amd64 d vals
-    searching_end l = sym (search_end (broken_bool amd64 d vals) i (arguments_in d) l) ∙ h.same
+    pub searching_end : arguments_in d ≤ i → false ≡ wrong_bool amd64 d vals
+    searching_end l = sym (broken-none amd64 d vals (omega (arith, search_end (broken_bool amd64 d vals) i (arguments_in d) l, h.same)))
 
 -- ---- no type is _Bool
 
-quiet : (d : List ℕ) → first_from (is_bool d) 0 (types_in d) ≡ types_in d → (k byte : ℕ) → k < types_in d → broken_byte d k byte ≡ false
+quiet : (d : List ℕ) → types_in d ≤ first_from (is_bool d) 0 (types_in d) → (k byte : ℕ) → k < types_in d → broken_byte d k byte ≡ false
 unfolding broken_byte
 quiet d e k byte l = rw (first-least (is_bool d) 0 (types_in d) k (omega arith) (omega (arith, e)))
 
-pub none-broken : (d vals : List ℕ) → verdict d ≡ 0 → (r t a : ℕ) → r ≡ first_from (is_bool d) 0 (types_in d) → t ≡ types_in d → r ≡ t → a ≡ arguments_in d → a ≡ first_broken amd64 d vals
-none-broken d vals ok r t a f g e h = by (ltb (first_broken amd64 d vals) (arguments_in d)) refl
+pub none_broken : (d vals : List ℕ) → verdict d ≡ 0 → types_in d ≤ first_from (is_bool d) 0 (types_in d) → false ≡ wrong_bool amd64 d vals
+none_broken d vals ok e = by (ltb (first_broken amd64 d vals) (arguments_in d)) refl
   where
-    by : (b : Bool) → ltb (first_broken amd64 d vals) (arguments_in d) ≡ b → a ≡ first_broken amd64 d vals
+    by : (b : Bool) → ltb (first_broken amd64 d vals) (arguments_in d) ≡ b → false ≡ wrong_bool amd64 d vals
     by true x =
         let l = ltb-true (first_broken amd64 d vals) (arguments_in d) x in
         absurd (true≢false (sym (first_holds (broken_bool amd64 d vals) 0 (arguments_in d) (omega (arith, l)))
-        ∙ quiet d (sym f ∙ e ∙ g) (argument_at d (first_broken amd64 d vals)) _ (known d ok (first_broken amd64 d vals) l)))
-    by false x = omega (arith, h, ltb-false (first_broken amd64 d vals) (arguments_in d) x, first-bound (broken_bool amd64 d vals) 0 (arguments_in d))
+        ∙ quiet d e (argument_at d (first_broken amd64 d vals)) _ (known d ok (first_broken amd64 d vals) l)))
+    by false x = sym (broken-none amd64 d vals (ltb-false (first_broken amd64 d vals) (arguments_in d) x))

@@ -1,5 +1,5 @@
 -- Where a loop over the arguments stands: what is laid out, and which argument is next. Assumes nothing.
-use mathlib.Core.Path.{◌≡◌, refl, sym, ap, ◌∙◌}
+use mathlib.Core.Path.{◌≡◌, refl, sym, ap, ap₂, ◌∙◌}
 use mathlib.Core.List.{List}
 use Prim.Native.Nat.{ℕ, zero, suc, ◌+◌, ◌*◌, ◌-◌, ◌^◌, ◌≤◌, ◌<◌}
 use native.Mathlib.Numerals.{add-one}
@@ -23,10 +23,10 @@ use Rattle.places.proofs.Offsets.{area-rounded}
 use Rattle.layout.specs.Arguments.{shape_at, shapes_from, shapes, hidden, used_first, used_at, value_start, area_of}
 use Rattle.layout.specs.Asks.{AskRecord}
 use Rattle.layout.specs.Layout.{values_of}
-use Rattle.layout.specs.Placements.{laying_fresh, laying_at, step_at}
+use Rattle.layout.specs.Placements.{Step, laying_fresh, laying_at, step_at}
 use Rattle.layout.specs.Verdict.{verdict}
 use Rattle.layout.specs.declared.placements.Laying.{Laying}
-use Rattle.layout.specs.declared.placements.Step.{Step}
+use Rattle.layout.specs.declared.placements.Placement.{Placement}
 use Rattle.layout.proofs.Arguments.{shapes-split, used-next, used-split, start_none, start-next}
 use Rattle.layout.proofs.Verdict.{accepted-uses}
 use Rattle.layout.proofs.Bounds.{arguments-few, argument-known, argument-small, argument-shaped}
@@ -113,6 +113,9 @@ module _ (d : List ℕ) where
   pub turn_start : (l : Laying) (i : ℕ) → Turn l i → l.values.0 ≡ value_start d i
   unfolding laying_at
   turn_start l i t = ap (λ (x : Laying). x.values.0) t.laid
+
+  pub step_pair : (l : Laying) (i : ℕ) (p : Placement) (x : Laying) → p ≡ (step_at d l i).placement → x ≡ (step_at d l i).after → ◌≡◌ {A = Step} (record { placement = p; after = x }) (step_at d l i)
+  step_pair l i p x e f = ap₂ (λ (q : Placement) (y : Laying). record { placement = q; after = y }) e f
 
   module _ (l : Laying) (i : ℕ) (h : i < arguments_in d) (t : Turn l i) where
     pub turn_asks : verdict d ≡ 0 → AskRecord d i l

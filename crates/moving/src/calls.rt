@@ -4,8 +4,9 @@ ghost use Rattle.moving.specs.Images.{amd64};
 ghost use Rattle.moving.specs.Answers.{place_answer, registers_after, upper_after, stack_after, gather_answer, values_after};
 
 use crate::{filling, refusals};
-use form::Refusal;
-use units::{Bytes, Registers};
+use form::{Reason, Refusal};
+use layout::Described;
+use units::Registers;
 
 // Places packed values: every byte of the three images is written, or none.
 pub fn place_values(
@@ -26,37 +27,28 @@ pub fn place_values(
         ≡ stack_after amd64 d.now hidden values.now registers.old upper.old stack.old))) }
 {
     let mut table = [0u32; 64];
-    let answer = layout::layout_with(d, &mut table);
-    let Ok(layout) = answer else {
-        return Err(layout::refusal_in(answer));
+    let layout = layout::layout_with(d, &mut table)?;
+    let described = Described {
+        bytes: d,
+        table: &table,
     };
     if refusals::wrong_length(
         layout,
-        Bytes(values.len()),
-        Bytes(registers.len()),
-        Bytes(upper.len()),
-        Bytes(stack.len()),
+        values.len(),
+        registers.len(),
+        upper.len(),
+        stack.len(),
     ) {
-        return Err(form::refusal_of(11));
+        return Err(Refusal::from(Reason::WrongBuffer));
     }
     if refusals::wrong_address(d, layout.hidden, hidden) {
-        return Err(form::refusal_of(27));
+        return Err(Refusal::from(Reason::HiddenTooWide));
     }
-    if refusals::first_broken(d, values, &table) < description::byte_at(d, 8) {
-        return Err(form::refusal_of(12));
+    if refusals::wrong_bool(described, values) {
+        return Err(Refusal::from(Reason::WrongBool));
     }
-    let count = layout.used.vector;
-    filling::fill_images(
-        d,
-        layout.hidden,
-        hidden,
-        values,
-        registers,
-        upper,
-        stack,
-        &table,
-    );
-    Ok(count)
+    filling::fill_images(described, hidden, values, registers, upper, stack);
+    Ok(layout.used.vector)
 }
 
 // Gathers the values again, packed, and answers the hidden address.
@@ -72,31 +64,24 @@ pub fn gather_values(
         ≡ values_after amd64 d.now registers.now upper.now stack.now values.old) }
 {
     let mut table = [0u32; 64];
-    let answer = layout::layout_with(d, &mut table);
-    let Ok(layout) = answer else {
-        return Err(layout::refusal_in(answer));
+    let layout = layout::layout_with(d, &mut table)?;
+    let described = Described {
+        bytes: d,
+        table: &table,
     };
     if refusals::wrong_length(
         layout,
-        Bytes(values.len()),
-        Bytes(registers.len()),
-        Bytes(upper.len()),
-        Bytes(stack.len()),
+        values.len(),
+        registers.len(),
+        upper.len(),
+        stack.len(),
     ) {
-        return Err(form::refusal_of(11));
+        return Err(Refusal::from(Reason::WrongBuffer));
     }
-    let passed = layout.hidden;
-    filling::gather_all(
-        d,
-        layout::laying_fresh(passed),
-        registers,
-        upper,
-        stack,
-        values,
-        &table,
-    );
-    if !passed {
-        return Ok(0);
-    }
-    Ok(images::address_in(registers))
+    filling::gather_all(described, registers, upper, stack, values);
+    Ok(if layout.hidden {
+        images::address_in(registers)
+    } else {
+        0
+    })
 }

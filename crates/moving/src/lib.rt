@@ -2,7 +2,7 @@
 #![tactic(auto)]
 
 pub use calls::{gather_values, place_values};
-pub use refusals::{broken_byte, wrong_address};
+pub use refusals::{broken_byte, is_bool, wrong_address};
 
 mod filling; // the images filled, and the values gathered
 mod refusals; // 11, 27 and 12

@@ -1,41 +1,35 @@
 // Refusals 11, 27 and 12 of placing and gathering (document 01, "Refusal numbers"; request 2026-11): the lengths of the lent buffers, the hidden address,
 // and the bytes of _Bool arguments.
-ghost use Rattle.std.specs.Prelude.{◌≡◌, ◌<◌, ◌≤◌, length};
-ghost use Rattle.moving.specs.Orders.{wrong_length, is_bool, broken_byte, first_broken};
+ghost use Rattle.std.specs.Prelude.{◌≡◌, ◌<◌, ◌≤◌, ltb, length};
+ghost use Rattle.moving.specs.Orders.{wrong_length, is_bool, broken_byte, wrong_bool};
 ghost use Rattle.moving.specs.Images.{amd64};
 ghost use Rattle.moving.specs.Address.{wrong_address};
 ghost use Rattle.description.specs.Description.{types_in, model_in, Whole};
-ghost use Rattle.classify.specs.Table.{Tabled};
 ghost use Rattle.layout.specs.Layout.{values_of};
 ghost use Rattle.layout.specs.Verdict.{verdict};
 ghost use Rattle.form.specs.Search.{first_from};
 
 use description::Model;
-use layout::Layout;
+use layout::{Described, Layout};
 use units::Bytes;
 
 // ---- 11
 
 // 11: whether a lent buffer has not exactly the length that the layout says.
+#[tactic(auto, unfolding(crate::specs::Orders::wrong_length))]
 pub fn wrong_length(
     layout: Layout,
-    values: Bytes,
-    registers: Bytes,
-    upper: Bytes,
-    stack: Bytes,
+    values: usize,
+    registers: usize,
+    upper: usize,
+    stack: usize,
 ) -> bool
-    ensures { result ≡ wrong_length layout values.0 registers.0 upper.0 stack.0 }
+    ensures { result ≡ wrong_length layout values registers upper stack }
 {
-    if !units::same(values, layout.values) {
-        return true;
-    }
-    if !units::same(registers, Bytes(176)) {
-        return true;
-    }
-    if !units::same(upper, Bytes(128)) {
-        return true;
-    }
-    !units::same(stack, layout.area)
+    Bytes(values) != layout.values
+        || registers != 176
+        || upper != 128
+        || Bytes(stack) != layout.area
 }
 
 // ---- 27
@@ -45,8 +39,7 @@ pub fn wrong_address(d: &[u8], used: bool, address: u64) -> bool
     requires { 11 ≤ length d.now }
     ensures { result ≡ wrong_address (model_in d.now) used address }
 {
-    let model = description::model_of(d);
-    match model {
+    match description::model_of(d) {
         Model::Lp64 => false,
         Model::Ilp32 => used && 4294967296 <= address,
     }
@@ -55,72 +48,59 @@ pub fn wrong_address(d: &[u8], used: bool, address: u64) -> bool
 // ---- 12: the byte of one _Bool
 
 // Whether type k is _Bool, by its own record.
-fn is_bool(d: &[u8], k: usize) -> bool
+#[tactic(auto, unfolding(crate::specs::Orders::is_bool))]
+pub fn is_bool(d: &[u8], k: usize) -> bool
     requires { Whole d.now × (k < types_in d.now) }
     ensures { result ≡ is_bool d.now k }
 {
-    if description::kind_at(d, k) != 0 {
-        return false;
-    }
-    description::a_at(d, k) == 0
+    description::kind_at(d, k) == 0 && description::a_at(d, k) == 0
 }
 
 // Whether type k is _Bool, and the byte is not 0 or 1.
+#[tactic(auto, unfolding(crate::specs::Orders::broken_byte))]
 pub fn broken_byte(d: &[u8], k: usize, byte: usize) -> bool
     requires { Whole d.now × (k < types_in d.now) }
     ensures { result ≡ broken_byte d.now k byte }
 {
-    if !is_bool(d, k) {
-        return false;
-    }
-    1 < byte
+    is_bool(d, k) && 1 < byte
 }
 
-// ---- 12: the first argument that breaks it
+// ---- 12: whether an argument breaks it
 
-// The first type that is _Bool, by its own record, or the number of types.
-fn first_bool(d: &[u8]) -> usize
+// Whether there is a type that is _Bool, by its own record.
+fn has_bool(d: &[u8]) -> bool
     requires { Whole d.now }
-    ensures { result ≡ first_from (is_bool d.now) 0 (types_in d.now) }
+    ensures { result ≡ ltb (first_from (is_bool d.now) 0 (types_in d.now)) (types_in d.now) }
 {
-    let types = description::byte_at(d, 5);
-    let mut k = 0;
-    while k < types {
+    for k in 0..description::byte_at(d, 5) {
         if is_bool(d, k) {
-            return k;
+            return true;
         }
-        k += 1;
     }
-    k
+    false
 }
 
-// The first _Bool argument whose byte is not 0 or 1, or the number of arguments, argument by argument.
-fn search_broken(d: &[u8], values: &[u8], table: &[u32; 64]) -> usize
-    requires { (verdict d.now ≡ 0) × (length values.now ≡ values_of d.now) × Tabled d.now table.now }
-    ensures { result ≡ first_broken amd64 d.now values.now }
+// Whether a _Bool argument's byte is not 0 or 1, argument by argument.
+fn some_broken(described: Described, values: &[u8]) -> bool
+    requires { (verdict described.bytes.now ≡ 0) × (length values.now ≡ values_of described.bytes.now) }
+    ensures { result ≡ wrong_bool amd64 described.entry.bytes.now values.now }
 {
-    let arguments = description::byte_at(d, 8);
+    let d = described.bytes;
     let mut start = Bytes(0);
-    let mut i = 0;
-    while i < arguments {
+    for i in 0..described.arguments() {
         let k = description::argument_at(d, i);
-        let byte = description::byte_at(values, start.0);
-        if broken_byte(d, k, byte) {
-            return i;
+        if broken_byte(d, k, description::byte_at(values, start.0)) {
+            return true;
         }
-        start = units::plus(start, types::extent_in(table, k).size);
-        i += 1;
+        start = start + types::extent_in(described.table, k).size;
     }
-    i
+    false
 }
 
-// The first _Bool argument whose byte is not 0 or 1, or the number of arguments. Where no type is _Bool there is none to search for.
-pub fn first_broken(d: &[u8], values: &[u8], table: &[u32; 64]) -> usize
-    requires { (verdict d.now ≡ 0) × (length values.now ≡ values_of d.now) × Tabled d.now table.now }
-    ensures { result ≡ first_broken amd64 d.now values.now }
+// Whether a _Bool argument's byte is not 0 or 1. Where no type is _Bool there is none to search for.
+pub fn wrong_bool(described: Described, values: &[u8]) -> bool
+    requires { (verdict described.bytes.now ≡ 0) × (length values.now ≡ values_of described.bytes.now) }
+    ensures { result ≡ wrong_bool amd64 described.entry.bytes.now values.now }
 {
-    if first_bool(d) == description::byte_at(d, 5) {
-        return description::byte_at(d, 8);
-    }
-    search_broken(d, values, table)
+    has_bool(described.bytes) && some_broken(described, values)
 }

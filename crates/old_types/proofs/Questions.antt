@@ -1,18 +1,22 @@
 -- The refusals of a question about one type of the 386 kind: which number, exactly, and what an answered question is sure of. Assumes nothing.
-use mathlib.Core.Path.{◌≡◌, ◌∙◌}
+use mathlib.Core.Path.{◌≡◌, refl, ◌∙◌}
 use mathlib.Core.Bool.{true, false}
 use mathlib.Core.List.{List, [], ◌∷◌}
 use mathlib.Core.Logic.{◌↔◌, ◌≢◌}
 use Prim.Native.Nat.{ℕ, ◌+◌, ◌≤◌, ◌<◌}
 use lib.ListN.{length}
 use native.Mathlib.Omega.{arith}
-use borrow.Author.Tests.{leb-false}
+use borrow.Author.Tests.{leb-false, le-leb, lt-leb}
 use Rattle.description.specs.Description.{types_in, kind_at, a_at, count_at, member_start}
+use Rattle.std.specs.Prelude.{Err}
+use Rattle.form.specs.declared.Refusal.{Refusal}
+use Rattle.form.specs.Reading.{refusal_of, judgment}
+use Rattle.form.proofs.Judgment.{refused}
 use Rattle.form.specs.Order.{rule, NoneHolds, Answers, Positive}
 use Rattle.form.proofs.Order.{refuses-exactly, accepts-exactly, first-before, first-behind, first-both, positive-append}
-use Rattle.old_types.specs.Conditions.{types_order, types_refusal, Judged}
+use Rattle.old_types.specs.Conditions.{types_order, types_refusal, refusal_for}
 use Rattle.old_types.specs.Asks.{Sized, IsExtent}
-use Rattle.old_types.proofs.Judged.{judged}
+use Rattle.old_types.proofs.Judged.{no_type}
 use Rattle.types.specs.declared.Extent.{Extent}
 use Rattle.types.specs.Decode.{ty_at}
 use Rattle.old_types.proofs.Orders.{accepted-sized, types-positive}
@@ -32,23 +36,26 @@ pub question-none_exactly : (d : List ℕ) (t : ℕ) → (question_refusal d t �
 unfolding question_refusal
 question-none_exactly d t = accepts-exactly (question_order d t) (question-positive d t)
 
--- 6 and 7 among them are judged in order
-pub question-judged : (d : List ℕ) (t n : ℕ) → n ≡ question_refusal d t → Judged d n
-unfolding question_refusal
-question-judged d t n e = judged d (rule 8 (not_below d t) ∷ []) n ((λ z. omega arith), tt) e
-
 module _ (d : List ℕ) (t : ℕ) where
-  pub question-types : (types_refusal d ≡ 0 → ⊥) → question_refusal d t ≡ types_refusal d
+  -- what is answered, by what the types are and by whether t is one of them
+  types-behind : (types_refusal d ≡ 0 → ⊥) → question_refusal d t ≡ types_refusal d
   unfolding question_refusal types_refusal
-  question-types h = first-before (types_order d) (rule 8 (not_below d t) ∷ []) h
+  types-behind h = first-before (types_order d) (rule 8 (not_below d t) ∷ []) h
 
-  pub question-eight : types_refusal d ≡ 0 → not_below d t ≡ true → question_refusal d t ≡ 8
-  unfolding question_refusal types_refusal
-  question-eight a h = first-behind (types_order d) (rule 8 (not_below d t) ∷ []) (types-positive d) a ∙ rw h
+  pub judged-types : (found : Refusal) → Err found ≡ judgment (types_refusal d) (refusal_for d (types_refusal d)) → Err found ≡ judgment (question_refusal d t) (refusal_for d (question_refusal d t))
+  judged-types found e = rw (types-behind (refused _ _ found e).0) e
 
-  pub question-right : types_refusal d ≡ 0 → not_below d t ≡ false → question_refusal d t ≡ 0
-  unfolding question_refusal types_refusal
-  question-right a h = first-behind (types_order d) (rule 8 (not_below d t) ∷ []) (types-positive d) a ∙ rw h
+  module _ (right : types_refusal d ≡ 0) where
+    question-eight : types_in d ≤ t → question_refusal d t ≡ 8
+    unfolding question_refusal types_refusal not_below
+    question-eight past = first-behind (types_order d) (rule 8 (not_below d t) ∷ []) (types-positive d) right ∙ rw (le-leb (types_in d) t past)
+
+    pub judged-eight : types_in d ≤ t → Err (refusal_of 8) ≡ judgment (question_refusal d t) (refusal_for d (question_refusal d t))
+    judged-eight past = rw (question-eight past, no_type d 8 refl refl)
+
+    pub question-right : t < types_in d → question_refusal d t ≡ 0
+    unfolding question_refusal types_refusal not_below
+    question-right below = first-behind (types_order d) (rule 8 (not_below d t) ∷ []) (types-positive d) right ∙ rw (lt-leb (types_in d) t below)
 
   module _ (answered : question_refusal d t ≡ 0) where
     pub answered-types : types_refusal d ≡ 0

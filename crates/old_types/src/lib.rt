@@ -3,7 +3,7 @@
 #![tactic(auto)]
 
 pub use asking::{old_extent, old_member_run, old_run_at};
-pub use refusals::{kept_refusal, refusal_for, types_refusal_with};
+pub use refusals::{judge, kept_refusal};
 
 mod conditions; // bit 1 of byte 6, and the codes that are left out
 mod extents; // the size and alignment of one type

@@ -3,7 +3,7 @@ use mathlib.Core.Path.{refl, sym, ap, subst, ◌∙◌}
 use mathlib.Core.List.{List}
 use Prim.Native.Nat.{ℕ}
 use Rattle.tightness.proofs.Laws.{result, told, bytes}
-use Rattle.form.specs.Reading.{refusal_by, refusal_at}
+use Rattle.form.specs.Reading.{refusal_by, refusal_at, refusal_in}
 use Rattle.station.specs.declared.Station.{Station as Attached}
 use Rattle.station.specs.Paper.{kcb, refusal_under}
 use Rattle.station.specs.Attachment.{described}
@@ -21,7 +21,7 @@ use Rattle.flat.specs.declared.Walk.{Walk}
 use Rattle.flat.specs.Stations.{station_meant, walk_meant}
 use Rattle.flat.proofs.Kept.{walk-means}
 use Rattle.flat.specs.contracts.Walk as walk
-use Rattle.callbridge.specs.Outcome.{refusal_in, left_in}
+use Rattle.callbridge.specs.Outcome.{left_in}
 use Rattle.callbridge.specs.WalkCalls.{finish_given}
 use Rattle.callbridge.proofs.Told.{finish-told}
 use Rattle.callbridge.specs.contracts.cb_finish_walk

@@ -15,7 +15,7 @@ use Rattle.addresses.specs.Addresses.{gather}
 use Rattle.description.specs.Description.{named_in, arguments_in, kind_at, a_at, count_at, member_start, IsBytes, model_in}
 use Rattle.form.specs.declared.Refusal.{Refusal}
 use Rattle.form.specs.Order.{Rule}
-use Rattle.form.specs.Reading.{refusal_at, refusal_by, refusal_of}
+use Rattle.form.specs.Reading.{refusal_at, refusal_by, refusal_of, refusal_in}
 use Rattle.types.specs.Size.{size_ty, align_ty}
 use Rattle.types.specs.Decode.{ty_at}
 use Rattle.types.specs.Wrong.{refusal_for}
@@ -72,7 +72,7 @@ use Rattle.flat.specs.Parts.{nowhere, of_description}
 use Rattle.flat.specs.Stations.{station_meant, flat_station, walk_meant, flat_walk}
 use Rattle.flat.proofs.Meant.{class_meant_lem}
 use Rattle.flat.proofs.Kept.{layout-means, station-means, walk-means}
-use Rattle.callbridge.specs.Outcome.{refusal_in, left_in}
+use Rattle.callbridge.specs.Outcome.{left_in}
 use Rattle.callbridge.specs.TypeCalls.{extent_given, classes_given, run_part, run_refusal}
 use Rattle.callbridge.specs.LayoutCalls.{layout_given, list_given, flat_at}
 use Rattle.callbridge.specs.MovingCalls.{placed_given, gathered_given}

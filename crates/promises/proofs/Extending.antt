@@ -7,6 +7,7 @@ use lib.ListN.{length}
 use Rattle.tightness.proofs.Laws.{result, told}
 use Rattle.description.specs.Description.{arguments_in}
 use Rattle.form.specs.declared.Refusal.{Refusal}
+use Rattle.form.specs.Reading.{refusal_in}
 use Rattle.layout.specs.declared.placements.Placement.{Placement as Record}
 use Rattle.layout.specs.Layout.{layout_of}
 use Rattle.layout.specs.Lists.{list_refusal}
@@ -21,7 +22,7 @@ use Rattle.station.proofs.Orders.{kept}
 use Rattle.flat.specs.declared.Layout.{Layout}
 use Rattle.flat.specs.Records.{layout_of as flat_layout}
 use Rattle.flat.specs.contracts.Layout as layout-record
-use Rattle.callbridge.specs.Outcome.{refusal_in, left_in}
+use Rattle.callbridge.specs.Outcome.{left_in}
 use Rattle.callbridge.specs.LayoutCalls.{list_given}
 use Rattle.callbridge.proofs.Told.{list_told}
 use Rattle.callbridge.specs.contracts.cb_lay_out

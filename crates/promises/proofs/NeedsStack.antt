@@ -10,7 +10,7 @@ use lib.Dec.{ltb, eqb}
 use Rattle.tightness.proofs.Laws.{result, told}
 use Rattle.description.specs.Description.{arguments_in}
 use Rattle.form.specs.declared.Refusal.{Refusal}
-use Rattle.form.specs.Reading.{refusal_by, refusal_at}
+use Rattle.form.specs.Reading.{refusal_by, refusal_at, refusal_in}
 use Rattle.form.proofs.Order.{accepts-exactly}
 use Rattle.types.specs.Wrong.{refusal_for}
 use Rattle.uses.specs.Uses.{uses_refusal}
@@ -30,7 +30,7 @@ use Rattle.flat.specs.StackNeeds.{flat_need, need_meant}
 use Rattle.flat.proofs.Needed.{need_means}
 use Rattle.flat.specs.contracts.StackNeed as need-record
 use Rattle.flat.specs.contracts.Layout as layout-record
-use Rattle.callbridge.specs.Outcome.{refusal_in, left_in}
+use Rattle.callbridge.specs.Outcome.{left_in}
 use Rattle.callbridge.specs.StackCalls.{need_given}
 use Rattle.callbridge.specs.LayoutCalls.{layout_given}
 use Rattle.callbridge.proofs.Told.{need_told, layout-told}

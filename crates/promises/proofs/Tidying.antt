@@ -9,6 +9,7 @@ use Rattle.tightness.proofs.Laws.{result, bytes, told}
 use Rattle.form.specs.declared.Refusal.{Refusal}
 use Rattle.form.specs.Conditions.{wrong_record}
 use Rattle.description.specs.Description.{model_in}
+use Rattle.form.specs.Reading.{refusal_in}
 use Rattle.types.specs.Large.{too_large}
 use Rattle.types.specs.Wrong.{refusal_for}
 use Rattle.station.proofs.Orders.{kept}
@@ -21,7 +22,7 @@ use Rattle.tidying.proofs.Tidied.{same_exactly, tidy-form}
 use Rattle.tidying.proofs.Wellformed.{tidy-table}
 use Rattle.tidying.proofs.EachByte.{tidy-bytes}
 use Rattle.tidying.proofs.Cases.{tidy-cases, wide_case}
-use Rattle.callbridge.specs.Outcome.{refusal_in, left_in}
+use Rattle.callbridge.specs.Outcome.{left_in}
 use Rattle.callbridge.specs.TidyingCalls.{tidied_given}
 use Rattle.callbridge.proofs.Told.{tidied-told}
 use Rattle.callbridge.specs.contracts.cb_tidy_length

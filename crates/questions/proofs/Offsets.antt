@@ -10,7 +10,10 @@ use lib.Dec.{eqb}
 use lib.ListN.{length, get_or}
 use Rattle.description.specs.Description.{types_in, kind_at, a_at, count_at, member_at, model_in}
 use Rattle.form.specs.Order.{rule, NoneHolds, Answers}
-use Rattle.form.specs.Reading.{refusal_of}
+use Rattle.std.specs.Prelude.{Result, Ok, Err}
+use Rattle.form.specs.declared.Refusal.{Refusal}
+use Rattle.form.specs.Reading.{refusal_of, judgment}
+use Rattle.form.proofs.Judgment.{refused, judgment-none}
 use Rattle.form.proofs.Order.{refuses-exactly, accepts-exactly, first-before, first-behind, first-both, positive-append}
 use Rattle.types.specs.Size.{size_ty, align_ty, offset_after, end_after}
 use Rattle.types.specs.Decode.{tys_from, ty_at}
@@ -99,31 +102,33 @@ module _ (d : List ℕ) (t : ℕ) (list : List ℕ) where
   list_filled e = ap (λ (n : ℕ). filled (OffsetAt d t) n list) (count-all d t (length list) e)
 
   -- the four ways in which `member_offsets` ends
-  pub ends-refused : (n : ℕ) → n ≡ question_refusal d t → n ≢ 0 → (refusal_for d n ≡ refusal_for d (offsets_refusal d t (length list))) × (list ≡ offsets_after d t list)
-  ends-refused n e h =
-      let z : question_refusal d t ≢ 0 = λ q. h (e ∙ q) in
-      let same = offsets-question d t (length list) z in
-      (ap (refusal_for d) (e ∙ sym same), sym (list_kept (λ q. z (sym same ∙ q))))
+  abbrev answer : Result (Unit {0}) Refusal
+  answer = judgment (offsets_refusal d t (length list)) (refusal_for d (offsets_refusal d t (length list)))
+
+  pub ends-refused : (found : Refusal) → Err found ≡ judgment (question_refusal d t) (refusal_for d (question_refusal d t)) → (Err found ≡ answer) × (list ≡ offsets_after d t list)
+  ends-refused found e =
+      let wrong = (refused _ _ found e).0 in
+      let same = offsets-question d t (length list) wrong in
+      (rw same e, sym (list_kept (λ q. wrong (sym same ∙ q))))
 
   module _ (answered : question_refusal d t ≡ 0) (s : Sized (model_in d) d t) where
-    pub ends-other : kind_at d t < 2 → (refusal_of 0 ≡ refusal_for d (offsets_refusal d t (length list))) × (list ≡ offsets_after d t list)
+    pub ends-other : kind_at d t < 2 → (Ok (tt {0}) ≡ answer) × (list ≡ offsets_after d t list)
     unfolding filled
     ends-other less =
         let none = other-count d t s less in
         let z : offsets_refusal d t (length list) ≡ 0 = no_eleven d t (length list) answered (omega (arith, none)) in
-        (sym (no_type d 0 refl refl) ∙ ap (refusal_for d) (sym z), sym (list_filled z ∙ ap (λ (n : ℕ). filled (OffsetAt d t) n list) none))
+        (judgment-none _ _ z, sym (list_filled z ∙ ap (λ (n : ℕ). filled (OffsetAt d t) n list) none))
 
-    pub ends-short : 2 ≤ kind_at d t → length list < count_at d t → (refusal_of 11 ≡ refusal_for d (offsets_refusal d t (length list))) × (list ≡ offsets_after d t list)
+    pub ends-short : 2 ≤ kind_at d t → length list < count_at d t → (Err (refusal_of 11) ≡ answer) × (list ≡ offsets_after d t list)
     ends-short two less =
         let e : offsets_refusal d t (length list) ≡ 11 = eleven d t (length list) answered (omega (arith, group-count d t s two)) in
-        (sym (no_type d 11 refl refl) ∙ ap (refusal_for d) (sym e), sym (list_kept (λ q. omega (arith, q, e))))
+        (rw (e, no_type d 11 refl refl), sym (list_kept (λ q. omega (arith, q, e))))
 
-    pub ends-filled : 2 ≤ kind_at d t → count_at d t ≤ length list
-        → (refusal_of 0 ≡ refusal_for d (offsets_refusal d t (length list))) × (filled (OffsetAt d t) (count_at d t) list ≡ offsets_after d t list)
+    pub ends-filled : 2 ≤ kind_at d t → count_at d t ≤ length list → (Ok (tt {0}) ≡ answer) × (filled (OffsetAt d t) (count_at d t) list ≡ offsets_after d t list)
     ends-filled two room =
         let all = group-count d t s two in
         let z : offsets_refusal d t (length list) ≡ 0 = no_eleven d t (length list) answered (omega (arith, all)) in
-        (sym (no_type d 0 refl refl) ∙ ap (refusal_for d) (sym z), sym (list_filled z ∙ ap (λ (n : ℕ). filled (OffsetAt d t) n list) all))
+        (judgment-none _ _ z, sym (list_filled z ∙ ap (λ (n : ℕ). filled (OffsetAt d t) n list) all))
 
 -- where the loop stands before member i of n from place a on, those before it ending at x: the offsets of those that are left are the rest of all
 pub record Before (d : List ℕ) (k a n : ℕ) (u : Bool) (i x : ℕ) : Type 0 where

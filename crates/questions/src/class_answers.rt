@@ -11,17 +11,12 @@ pub fn type_classes(d: &[u8], t: u8) -> Result<(Class, Class, Class, Class), Ref
     ensures { result ≡ classes_answer d.now t }
 {
     let mut table = [0u32; 64];
-    let number = refusals::question_refusal_with(d, t, &mut table);
-    if number != 0 {
-        return Err(types::refusal_for(d, number));
-    }
+    refusals::judge(d, t, &mut table)?;
     classify::fill_classes(d, &mut table);
     let k = t as usize;
     if classify::is_wide(&table, k) {
         return Ok((Class::Sse, Class::SseUp, Class::SseUp, Class::SseUp));
     }
     let classes = classify::classes_in(&table, k);
-    let first = classes[0];
-    let second = classes[1];
-    Ok((first, second, Class::NoClass, Class::NoClass))
+    Ok((classes[0], classes[1], Class::NoClass, Class::NoClass))
 }

@@ -1,43 +1,11 @@
 // Size and alignment of a type, both or one (document 01, "A question about one type").
 ghost use Rattle.std.specs.Prelude.{◌≡◌};
-ghost use Rattle.questions.specs.Questions.{size_answer, align_answer, refusal_in, extent_answer};
+ghost use Rattle.questions.specs.Questions.{size_answer, align_answer, extent_answer};
 
 use crate::refusals;
 use form::Refusal;
 use types::Extent;
 use units::Bytes;
-
-// The refusal that an answer carries, for a caller that passes it on.
-pub fn refusal_in(answer: Result<Extent, Refusal>) -> Refusal
-    ensures { result ≡ refusal_in answer }
-{
-    match answer {
-        Ok(_) => form::refusal_of(0),
-        Err(refusal) => refusal,
-    }
-}
-
-// How many bytes the type has, or the refusal.
-fn size_in(answer: Result<Extent, Refusal>) -> Result<Bytes, Refusal>
-    ensures { result ≡ size_answer answer }
-{
-    let Ok(extent) = answer else {
-        return Err(refusal_in(answer));
-    };
-    let size = extent.size;
-    Ok(size)
-}
-
-// What the type's offset must be a multiple of, or the refusal.
-fn align_in(answer: Result<Extent, Refusal>) -> Result<Bytes, Refusal>
-    ensures { result ≡ align_answer answer }
-{
-    let Ok(extent) = answer else {
-        return Err(refusal_in(answer));
-    };
-    let align = extent.align;
-    Ok(align)
-}
 
 // ---- both
 
@@ -46,10 +14,7 @@ pub fn type_extent(d: &[u8], t: u8) -> Result<Extent, Refusal>
     ensures { result ≡ extent_answer d.now t }
 {
     let mut table = [0u32; 64];
-    let number = refusals::question_refusal_with(d, t, &mut table);
-    if number != 0 {
-        return Err(types::refusal_for(d, number));
-    }
+    refusals::judge(d, t, &mut table)?;
     Ok(types::extent_in(&table, t as usize))
 }
 
@@ -59,12 +24,12 @@ pub fn type_extent(d: &[u8], t: u8) -> Result<Extent, Refusal>
 pub fn type_size(d: &[u8], t: u8) -> Result<Bytes, Refusal>
     ensures { result ≡ size_answer (extent_answer d.now t) }
 {
-    size_in(type_extent(d, t))
+    Ok(type_extent(d, t)?.size)
 }
 
 // What type t's offset must be a multiple of.
 pub fn type_align(d: &[u8], t: u8) -> Result<Bytes, Refusal>
     ensures { result ≡ align_answer (extent_answer d.now t) }
 {
-    align_in(type_extent(d, t))
+    Ok(type_extent(d, t)?.align)
 }

@@ -3,47 +3,31 @@ ghost use Rattle.std.specs.Prelude.{◌≡◌, length};
 ghost use Rattle.questions.specs.Runs.{RunFits, run_in, run_answer};
 
 use crate::refusals;
+use description::TypeRecord;
 use form::Refusal;
 use units::Bytes;
 
-// The part that an answer names; empty for a refusal or another kind.
-fn part_in(run: Result<Option<(Bytes, usize)>, Refusal>, d: &[u8]) -> &[u8]
-    requires { RunFits run (length d.now) }
-    ensures { result.now ≡ run_in run d.now }
-{
-    match run {
-        Ok(Some((offset, count))) => {
-            let start = offset.0;
-            let end = start + count;
-            &d[start..end]
-        }
-        Ok(None) => &d[..0],
-        Err(_) => &d[..0],
-    }
-}
-
-// Where type t's run of members lies in the description.
+// Where type t's run of members lies in the description: its offset, and how many there are. A basic type and an array have none.
 pub fn run_at(d: &[u8], t: u8) -> Result<Option<(Bytes, usize)>, Refusal>
     ensures { (result ≡ run_answer d.now t) × RunFits result (length d.now) }
 {
-    let number = refusals::question_refusal(d, t);
-    if number != 0 {
-        return Err(types::refusal_for(d, number));
+    let mut table = [0u32; 64];
+    refusals::judge(d, t, &mut table)?;
+    match description::record_at(d, t as usize) {
+        TypeRecord::Group { first, count, .. } => {
+            let types = usize::from(d[5]);
+            Ok(Some((Bytes(11 + 4 * types + first), count)))
+        }
+        _ => Ok(None),
     }
-    let k = t as usize;
-    let kind = description::kind_at(d, k);
-    if kind < 2 {
-        return Ok(None);
-    }
-    let first = description::a_at(d, k);
-    let count = description::count_at(d, k);
-    let types = description::byte_at(d, 5);
-    Ok(Some((Bytes(11 + 4 * types + first), count)))
 }
 
 // The part of the description that holds type t's run; empty for a refusal or another kind.
 pub fn member_run(d: &[u8], t: u8) -> &[u8]
     ensures { result.now ≡ run_in (run_answer d.now t) d.now }
 {
-    part_in(run_at(d, t), d)
+    match run_at(d, t) {
+        Ok(Some((offset, count))) => &d[offset.0..offset.0 + count],
+        _ => &d[..0],
+    }
 }

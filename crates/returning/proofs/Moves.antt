@@ -5,8 +5,6 @@ use mathlib.Core.Logic.{◌⊎◌, inl, inr}
 use mathlib.Core.List.{List, ◌++◌}
 use Prim.Native.Nat.{ℕ, ◌+◌, ◌*◌, ◌-◌, ◌≤◌, ◌<◌}
 use native.Mathlib.Omega.{arith}
-use borrow.Author.Tests.{ltb-true, ltb-false}
-use lib.Dec.{ltb}
 use lib.ListN.{length, get_or, length-map}
 use Rattle.units.specs.declared.Registers.{Registers}
 use Rattle.addresses.specs.Addresses.{run, gather, scatter}
@@ -43,13 +41,10 @@ module _ (place : ReturnPlace) (n : ℕ) (h : Returnable place n) where
       single-returning (Upper m) g = g
       single-returning (Wide m) g = absurd g
 
-pub parts-void : (place : ReturnPlace) (n : ℕ) (low high : Part) → place ≡ Void → low ≡ no_part → high ≡ no_part → record { low = low; high = high } ≡ parts_of place n
+pub parts-none : (place : ReturnPlace) (n : ℕ) (low high : Part) → (place ≡ Void) ⊎ (place ≡ Memory) → low ≡ no_part → high ≡ no_part → record { low = low; high = high } ≡ parts_of place n
 unfolding parts_of
-parts-void place n low high e l h = rw (e, l, h)
-
-pub parts-memory : (place : ReturnPlace) (n : ℕ) (low high : Part) → place ≡ Memory → low ≡ no_part → high ≡ no_part → record { low = low; high = high } ≡ parts_of place n
-unfolding parts_of
-parts-memory place n low high e l h = rw (e, l, h)
+parts-none place n low high (inl e) l h = rw (e, l, h)
+parts-none place n low high (inr e) l h = rw (e, l, h)
 
 pub parts-st0 : (place : ReturnPlace) (n : ℕ) (low high : Part) → place ≡ St0 → low ≡ ten 0 48 → high ≡ no_part → record { low = low; high = high } ≡ parts_of place n
 unfolding parts_of
@@ -74,14 +69,12 @@ alone-returning (Wide k) n h = omega (arith, h.0)
 pub wide-asks : (a : Register) (k : Registers) (n : ℕ) → Alone a n → a ≡ Wide k → (k.0 < 1) × (16 ≤ n)
 wide-asks a k n h e = let w : Alone (Wide k) n = rw e at h in (w.0, w.1.0)
 
-pub row_general : (a : Register) (k : Registers) (n : ℕ) (p : Parts) → a ≡ General k → p ≡ one_part a n → p ≡ parts_in a n
-row_general a k n p e f = f ∙ rw e
-
-pub row_vector : (a : Register) (k : Registers) (n : ℕ) (p : Parts) → a ≡ Vector k → p ≡ one_part a n → p ≡ parts_in a n
-row_vector a k n p e f = f ∙ rw e
-
-pub row_upper : (a : Register) (k : Registers) (n : ℕ) (p : Parts) → a ≡ Upper k → p ≡ one_part a n → p ≡ parts_in a n
-row_upper a k n p e f = f ∙ rw e
+-- an eightbyte of any of the three
+pub row-eightbyte : (a : Register) (n : ℕ) (p : Parts) → ((k : Registers) × (a ≡ General k)) ⊎ (((k : Registers) × (a ≡ Vector k)) ⊎ ((k : Registers) × (a ≡ Upper k)))
+    → p ≡ one_part a n → p ≡ parts_in a n
+row-eightbyte a n p (inl w) f = f ∙ rw w.1
+row-eightbyte a n p (inr (inl w)) f = f ∙ rw w.1
+row-eightbyte a n p (inr (inr w)) f = f ∙ rw w.1
 
 pub parts-row : (a : Register) (n to : ℕ) (low high : Part) → to ≡ return_address a → low ≡ moved 0 to n → high ≡ no_part → record { low = low; high = high } ≡ one_part a n
 parts-row a n to low high f l h = rw (l, h, f)
@@ -108,31 +101,28 @@ module _ (h : ℕ) (img y jmg z : List ℕ) (l : length img ≡ 80) (m : length 
 
 -- ---- one part, in the image that it stands in
 
-module _ (p : Part) (value image upper : ℕ) (h : AskPart p value image upper) (b : Bool) (e : b ≡ ltb p.to.0 upper_at) where
-  pub part-below : b ≡ true → (p.to.0 + p.count.0 ≤ image) × (p.from.0 + p.count.0 ≤ value)
+module _ (p : Part) (value image upper : ℕ) (h : AskPart p value image upper) where
+  pub part-below : p.to.0 < upper_at → (p.to.0 + p.count.0 ≤ image) × (p.from.0 + p.count.0 ≤ value)
   part-below t = by h.within
     where
       by : (p.to.0 + p.count.0 ≤ upper_at) ⊎ (upper_at ≤ p.to.0) → (p.to.0 + p.count.0 ≤ image) × (p.from.0 + p.count.0 ≤ value)
       by (inl l) = omega (arith, h.whole, h.source)
-      by (inr l) = absurd (omega (arith, ltb-true p.to.0 upper_at (sym e ∙ t)))
+      by (inr l) = absurd (omega arith)
 
-  pub part-behind : b ≡ false → upper_at ≤ p.to.0
-  part-behind t = ltb-false p.to.0 upper_at (sym e ∙ t)
+  pub part-above : upper_at ≤ p.to.0 → (o : ℕ) → o ≡ p.to.0 - upper_at → (o + p.count.0 ≤ upper) × (p.from.0 + p.count.0 ≤ value)
+  part-above t o q = omega (arith, t, h.target, h.above, h.source)
 
-  pub part-above : b ≡ false → (o : ℕ) → o ≡ p.to.0 - upper_at → (o + p.count.0 ≤ upper) × (p.from.0 + p.count.0 ≤ value)
-  part-above t o q = omega (arith, part-behind t, h.target, h.above, h.source)
-
-module _ (p : Part) (v img y : List ℕ) (h : AskPart p (length v) (length img) (length y)) (b : Bool) (e : b ≡ ltb p.to.0 upper_at) where
+module _ (p : Part) (v img y : List ℕ) (h : AskPart p (length v) (length img) (length y)) where
   -- where the part stands in both, once it stands in the upper image
-  from-above : b ≡ false → (o : ℕ) → o ≡ p.to.0 - upper_at → upper_at + o ≡ p.to.0
-  from-above t o q = omega (arith, q, part-behind p _ _ _ h b e t)
+  from-above : upper_at ≤ p.to.0 → (o : ℕ) → o ≡ p.to.0 - upper_at → upper_at + o ≡ p.to.0
+  from-above t o q = omega (arith, q, t)
 
-  pub put-below : b ≡ true → (img' : List ℕ) → img' ≡ copied img p.to.0 v p.from.0 p.count.0
+  pub put-below : p.to.0 < upper_at → (img' : List ℕ) → img' ≡ copied img p.to.0 v p.from.0 p.count.0
       → img' ++ y ≡ copied (img ++ y) p.to.0 v p.from.0 p.count.0
   unfolding copied
-  put-below t img' f = ap (λ (x : List ℕ). x ++ y) f ∙ copied-left img y v p.to.0 p.from.0 p.count.0 (part-below p _ _ _ h b e t).0
+  put-below t img' f = ap (λ (x : List ℕ). x ++ y) f ∙ copied-left img y v p.to.0 p.from.0 p.count.0 (part-below p _ _ _ h t).0
 
-  pub put-above : b ≡ false → (o : ℕ) → o ≡ p.to.0 - upper_at → (y' : List ℕ) → y' ≡ copied y o v p.from.0 p.count.0
+  pub put-above : upper_at ≤ p.to.0 → (o : ℕ) → o ≡ p.to.0 - upper_at → (y' : List ℕ) → y' ≡ copied y o v p.from.0 p.count.0
       → img ++ y' ≡ copied (img ++ y) p.to.0 v p.from.0 p.count.0
   unfolding copied
   put-above t o q y' f =
@@ -140,12 +130,12 @@ module _ (p : Part) (v img y : List ℕ) (h : AskPart p (length v) (length img) 
       ∙ copied-right upper_at img y v o p.from.0 p.count.0 h.whole
       ∙ ap (λ (to : ℕ). scatter (img ++ y) (run to p.count.0) (gather v (run p.from.0 p.count.0))) (from-above t o q)
 
-  pub take_below : b ≡ true → (w : List ℕ) → w ≡ copied v p.from.0 img p.to.0 p.count.0 → w ≡ copied v p.from.0 (img ++ y) p.to.0 p.count.0
+  pub take_below : p.to.0 < upper_at → (w : List ℕ) → w ≡ copied v p.from.0 img p.to.0 p.count.0 → w ≡ copied v p.from.0 (img ++ y) p.to.0 p.count.0
   unfolding copied
   take_below t w f =
-      f ∙ ap (scatter v (run p.from.0 p.count.0)) (gather-left_run img y p.to.0 p.count.0 (part-below p _ _ _ h b e t).0)
+      f ∙ ap (scatter v (run p.from.0 p.count.0)) (gather-left_run img y p.to.0 p.count.0 (part-below p _ _ _ h t).0)
 
-  pub take-above : b ≡ false → (o : ℕ) → o ≡ p.to.0 - upper_at → (w : List ℕ) → w ≡ copied v p.from.0 y o p.count.0
+  pub take-above : upper_at ≤ p.to.0 → (o : ℕ) → o ≡ p.to.0 - upper_at → (w : List ℕ) → w ≡ copied v p.from.0 y o p.count.0
       → w ≡ copied v p.from.0 (img ++ y) p.to.0 p.count.0
   unfolding copied
   take-above t o q w f =

@@ -3,8 +3,7 @@ ghost use Rattle.std.specs.Prelude.{◌≡◌, length};
 ghost use Rattle.returning.specs.Answers.{put_answer, image_after, upper_after, take_answer, value_after};
 
 use crate::{refusals, return_image};
-use form::Refusal;
-use units::Bytes;
+use form::{Reason, Refusal};
 
 // Puts a returned value into the return images: every byte of them is written, or none. The hidden address is looked at only where
 // the value is in memory.
@@ -19,25 +18,17 @@ pub fn put_returned(
         × ((image.new ≡ image_after d.now hidden value.now image.old upper.old)
         × (upper.new ≡ upper_after d.now hidden value.now image.old upper.old)) }
 {
-    let answer = layout::layout_of(d);
-    let Ok(layout) = answer else {
-        return Err(layout::refusal_in(answer));
-    };
+    let layout = layout::layout_of(d)?;
     let place = layout.returns;
     let right = return_image::length_for(place, layout.returned);
-    if refusals::wrong_length(
-        right,
-        Bytes(value.len()),
-        Bytes(image.len()),
-        Bytes(upper.len()),
-    ) {
-        return Err(form::refusal_of(11));
+    if refusals::wrong_length(right.0, value.len(), image.len(), upper.len()) {
+        return Err(Refusal::from(Reason::WrongBuffer));
     }
     if moving::wrong_address(d, layout.hidden, hidden) {
-        return Err(form::refusal_of(27));
+        return Err(Refusal::from(Reason::HiddenTooWide));
     }
     if refusals::wrong_bool(d, value) {
-        return Err(form::refusal_of(12));
+        return Err(Refusal::from(Reason::WrongBool));
     }
     return_image::put_value(place, hidden, value, image, upper);
     Ok(())
@@ -48,19 +39,11 @@ pub fn take_returned(d: &[u8], image: &[u8], upper: &[u8], value: &mut [u8]) -> 
     ensures { (result ≡ take_answer d.now image.now upper.now (length value.old))
         × (value.new ≡ value_after d.now image.now upper.now value.old) }
 {
-    let answer = layout::layout_of(d);
-    let Ok(layout) = answer else {
-        return Err(layout::refusal_in(answer));
-    };
+    let layout = layout::layout_of(d)?;
     let place = layout.returns;
     let right = return_image::length_for(place, layout.returned);
-    if refusals::wrong_length(
-        right,
-        Bytes(value.len()),
-        Bytes(image.len()),
-        Bytes(upper.len()),
-    ) {
-        return Err(form::refusal_of(11));
+    if refusals::wrong_length(right.0, value.len(), image.len(), upper.len()) {
+        return Err(Refusal::from(Reason::WrongBuffer));
     }
     return_image::take_value(place, image, upper, value);
     Ok(return_image::returned_address(place, image))

@@ -30,23 +30,20 @@ fn return_address(register: Register) -> Bytes
     ensures { result.0 ≡ return_address register }
 {
     match register {
-        Register::General(n) => units::general_bytes(n),
-        Register::Vector(n) => units::plus(Bytes(16), units::vector_bytes(n)),
-        Register::Upper(n) => units::plus(Bytes(24), units::vector_bytes(n)),
-        Register::Wide(n) => units::plus(Bytes(16), units::vector_bytes(n)),
+        Register::General(n) => n.general_bytes(),
+        Register::Vector(n) => Bytes(16) + n.vector_bytes(),
+        Register::Upper(n) => Bytes(24) + n.vector_bytes(),
+        Register::Wide(n) => Bytes(16) + n.vector_bytes(),
     }
 }
 
 fn moved(from: Bytes, to: Bytes, count: Bytes) -> Part
     ensures { result ≡ moved from.0 to.0 count.0 }
 {
-    Part {
-        from: from,
-        to: to,
-        count: count,
-    }
+    Part { from, to, count }
 }
 
+// A part of no bytes, and no Option: the numbers of a plan say it so (plans/specs/Returned.antt).
 fn no_part() -> Part
     ensures { result ≡ no_part }
 {
@@ -67,12 +64,8 @@ pub fn length_for(place: ReturnPlace, size: Bytes) -> Bytes
     ensures { result.0 ≡ length_for place size.0 }
 {
     match place {
-        ReturnPlace::Void => Bytes(0),
-        ReturnPlace::Memory => Bytes(0),
-        ReturnPlace::One(_) => size,
-        ReturnPlace::Two(_, _) => size,
-        ReturnPlace::St0 => size,
-        ReturnPlace::St0St1 => size,
+        ReturnPlace::Void | ReturnPlace::Memory => Bytes(0),
+        _ => size,
     }
 }
 
@@ -80,14 +73,7 @@ pub fn length_for(place: ReturnPlace, size: Bytes) -> Bytes
 fn in_memory(place: ReturnPlace) -> bool
     ensures { result ≡ in_memory place }
 {
-    match place {
-        ReturnPlace::Void => false,
-        ReturnPlace::Memory => true,
-        ReturnPlace::One(_) => false,
-        ReturnPlace::Two(_, _) => false,
-        ReturnPlace::St0 => false,
-        ReturnPlace::St0St1 => false,
-    }
+    matches!(place, ReturnPlace::Memory)
 }
 
 // A value of `size` bytes in one register, in a row.
@@ -107,16 +93,10 @@ fn parts_in(register: Register, size: Bytes) -> Parts
     ensures { result ≡ parts_in register size.0 }
 {
     match register {
-        Register::General(_) => one_part(register, size),
-        Register::Vector(_) => one_part(register, size),
-        Register::Upper(_) => one_part(register, size),
+        Register::General(_) | Register::Vector(_) | Register::Upper(_) => one_part(register, size),
         Register::Wide(n) => Parts {
             low: moved(Bytes(0), return_address(register), Bytes(16)),
-            high: moved(
-                Bytes(16),
-                units::plus(Bytes(80), units::vector_bytes(n)),
-                units::minus(size, Bytes(16)),
-            ),
+            high: moved(Bytes(16), Bytes(80) + n.vector_bytes(), size - Bytes(16)),
         },
     }
 }
@@ -129,22 +109,14 @@ pub fn parts_of(place: ReturnPlace, size: Bytes) -> Parts
     ensures { result ≡ parts_of place size.0 }
 {
     match place {
-        ReturnPlace::Void => Parts {
-            low: no_part(),
-            high: no_part(),
-        },
-        ReturnPlace::Memory => Parts {
+        ReturnPlace::Void | ReturnPlace::Memory => Parts {
             low: no_part(),
             high: no_part(),
         },
         ReturnPlace::One(only) => parts_in(only, size),
         ReturnPlace::Two(first, second) => Parts {
             low: moved(Bytes(0), return_address(first), Bytes(8)),
-            high: moved(
-                Bytes(8),
-                return_address(second),
-                units::minus(size, Bytes(8)),
-            ),
+            high: moved(Bytes(8), return_address(second), size - Bytes(8)),
         },
         ReturnPlace::St0 => Parts {
             low: ten(Bytes(0), Bytes(48)),
@@ -164,44 +136,41 @@ fn blank_images(memory: bool, hidden: u64, image: &mut [u8], upper: &mut [u8])
 {
     addresses::clear(image);
     addresses::clear(upper);
-    if !memory {
-        return;
+    if memory {
+        images::put_address(image, hidden);
     }
-    images::put_address(image, hidden);
 }
 
-// Puts a part into the image that it stands in.
-fn put_part(part: Part, value: &[u8], image: &mut [u8], upper: &mut [u8])
-    requires { AskPart part (length value.now) (length image.old) (length upper.old) }
-    ensures { image.new ++ upper.new
-        ≡ copied (image.old ++ upper.old) part.to.0 value.now part.from.0 part.count.0 }
-{
-    let from = part.from;
-    let to = part.to;
-    let count = part.count;
-    if units::over(Bytes(80), to) {
-        addresses::copy(image, to.0, value, from.0, count.0);
-        return;
+impl Part {
+    // Puts a part into the image that it stands in.
+    fn put(self, value: &[u8], image: &mut [u8], upper: &mut [u8])
+        requires { AskPart self (length value.now) (length image.old) (length upper.old) }
+        ensures { image.new ++ upper.new
+            ≡ copied (image.old ++ upper.old) self.to.0 value.now self.from.0 self.count.0 }
+    {
+        let Part { from, to, count } = self;
+        if to < Bytes(80) {
+            addresses::copy(image, to.0, value, from.0, count.0);
+        } else {
+            let above = to - Bytes(80);
+            addresses::copy(upper, above.0, value, from.0, count.0);
+        }
     }
-    let above = units::minus(to, Bytes(80));
-    addresses::copy(upper, above.0, value, from.0, count.0);
-}
 
-// Takes a part out of the image that it stands in.
-fn take_part(part: Part, image: &[u8], upper: &[u8], value: &mut [u8])
-    requires { AskPart part (length value.old) (length image.now) (length upper.now) }
-    ensures { value.new
-        ≡ copied value.old part.from.0 (image.now ++ upper.now) part.to.0 part.count.0 }
-{
-    let from = part.from;
-    let to = part.to;
-    let count = part.count;
-    if units::over(Bytes(80), to) {
-        addresses::copy(value, from.0, image, to.0, count.0);
-        return;
+    // Takes a part out of the image that it stands in.
+    fn take(self, image: &[u8], upper: &[u8], value: &mut [u8])
+        requires { AskPart self (length value.old) (length image.now) (length upper.now) }
+        ensures { value.new
+            ≡ copied value.old self.from.0 (image.now ++ upper.now) self.to.0 self.count.0 }
+    {
+        let Part { from, to, count } = self;
+        if to < Bytes(80) {
+            addresses::copy(value, from.0, image, to.0, count.0);
+        } else {
+            let above = to - Bytes(80);
+            addresses::copy(value, from.0, upper, above.0, count.0);
+        }
     }
-    let above = units::minus(to, Bytes(80));
-    addresses::copy(value, from.0, upper, above.0, count.0);
 }
 
 // Puts a value into the images, every byte of which is written.
@@ -209,12 +178,10 @@ pub fn put_value(place: ReturnPlace, hidden: u64, value: &[u8], image: &mut [u8]
     requires { Returnable place (length value.now) × (length image.old ≡ 80) × (length upper.old ≡ 16) }
     ensures { image.new ++ upper.new ≡ return_image place hidden value.now }
 {
-    let parts = parts_of(place, Bytes(value.len()));
-    let low = parts.low;
-    let high = parts.high;
+    let Parts { low, high } = parts_of(place, Bytes(value.len()));
     blank_images(in_memory(place), hidden, image, upper);
-    put_part(low, value, image, upper);
-    put_part(high, value, image, upper);
+    low.put(value, image, upper);
+    high.put(value, image, upper);
 }
 
 // Takes a value out of the images: every byte of the value is written.
@@ -222,12 +189,10 @@ pub fn take_value(place: ReturnPlace, image: &[u8], upper: &[u8], value: &mut [u
     requires { Returnable place (length value.old) × (length image.now ≡ 80) × (length upper.now ≡ 16) }
     ensures { value.new ≡ return_value place (length value.old) (image.now ++ upper.now) }
 {
-    let parts = parts_of(place, Bytes(value.len()));
-    let low = parts.low;
-    let high = parts.high;
+    let Parts { low, high } = parts_of(place, Bytes(value.len()));
     addresses::clear(value);
-    take_part(low, image, upper, value);
-    take_part(high, image, upper, value);
+    low.take(image, upper, value);
+    high.take(image, upper, value);
 }
 
 // The hidden address in rax; 0 where the value is not in memory.
@@ -235,8 +200,9 @@ pub fn returned_address(place: ReturnPlace, image: &[u8]) -> u64
     requires { length image.now ≡ 80 }
     ensures { result ≡ returned_address place image.now }
 {
-    if !in_memory(place) {
-        return 0;
+    if in_memory(place) {
+        images::address_in(image)
+    } else {
+        0
     }
-    images::address_in(image)
 }

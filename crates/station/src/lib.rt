@@ -13,7 +13,7 @@ use units::Bytes;
 // What the host keeps of a seat: whether a description is attached there, how long it is, and the number of the last attachment.
 // A flag beside the length, and no Option: a length over 586 is refused under 11, attached or not (`wrong_seat` of specs/Attachment).
 #[repr(C)]
-#[derive(Clone, Copy)]
+#[derive(Clone, Copy, Debug, PartialEq, Eq)]
 pub struct Station {
     pub attached: bool,
     pub length: Bytes,

@@ -33,16 +33,11 @@ use Rattle.by_plan.specs.contracts.put_by_plan
 use Rattle.by_plan.specs.contracts.take_by_plan
 use Rattle.station.specs.contracts.new_station
 use Rattle.station.specs.contracts.attach
-use Rattle.station.specs.contracts.attach_by_value
 use Rattle.station.specs.contracts.detach
-use Rattle.station.specs.contracts.detach_by_value
 use Rattle.station.specs.contracts.change
-use Rattle.station.specs.contracts.change_by_value
 use Rattle.walk.specs.contracts.open_walk
 use Rattle.walk.specs.contracts.step
-use Rattle.walk.specs.contracts.step_by_value
 use Rattle.finishing.specs.contracts.finish_walk
-use Rattle.finishing.specs.contracts.finish_by_value
 use Rattle.walk.specs.contracts.shown_at
 use Rattle.walk.specs.contracts.show
 use Rattle.walk.specs.contracts.show_number
@@ -168,20 +163,11 @@ total_station_new_station c g = refl
 pub total_station_attach : Total attach.ended (λ M 𝓤 𝓛. attach.clauses 𝓛)
 total_station_attach c g = refl
 
-pub total_station_attach_by_value : Total attach_by_value.ended (λ M 𝓤 𝓛. attach_by_value.clauses 𝓛)
-total_station_attach_by_value c g = refl
-
 pub total_station_detach : Total detach.ended (λ M 𝓤 𝓛. detach.clauses 𝓛)
 total_station_detach c g = refl
 
-pub total_station_detach_by_value : Total detach_by_value.ended (λ M 𝓤 𝓛. detach_by_value.clauses 𝓛)
-total_station_detach_by_value c g = refl
-
 pub total_station_change : Total change.ended (λ M 𝓤 𝓛. change.clauses 𝓛)
 total_station_change c g = refl
-
-pub total_station_change_by_value : Total change_by_value.ended (λ M 𝓤 𝓛. change_by_value.clauses 𝓛)
-total_station_change_by_value c g = refl
 
 pub total_walk_open_walk : Total open_walk.ended (λ M 𝓤 𝓛. open_walk.clauses 𝓛)
 total_walk_open_walk c g = refl
@@ -189,14 +175,8 @@ total_walk_open_walk c g = refl
 pub total_walk_step : Total step.ended (λ M 𝓤 𝓛. step.clauses 𝓛)
 total_walk_step c g = refl
 
-pub total_walk_step_by_value : Total step_by_value.ended (λ M 𝓤 𝓛. step_by_value.clauses 𝓛)
-total_walk_step_by_value c g = refl
-
 pub total_finishing_finish_walk : Total finish_walk.ended (λ M 𝓤 𝓛. finish_walk.clauses 𝓛)
 total_finishing_finish_walk c g = refl
-
-pub total_finishing_finish_by_value : Total finish_by_value.ended (λ M 𝓤 𝓛. finish_by_value.clauses 𝓛)
-total_finishing_finish_by_value c g = refl
 
 pub total_walk_shown_at : Total shown_at.ended (λ M 𝓤 𝓛. shown_at.clauses 𝓛)
 total_walk_shown_at c g = refl

@@ -25,7 +25,6 @@ pub mod OfListing
 pub mod OfReading
 pub mod OfWriting
 pub mod OfFlat
-pub mod OfCCalls
 pub mod OfCallbridge
 pub mod OfOldTypes
 pub mod OfOldLayout

@@ -27,6 +27,9 @@ use Rattle.description.proofs.a_at.Symbol as a_at_symbol
 use Rattle.description.specs.contracts.count_at
 use Rattle.description.proofs.count_at.Met as count_at_met
 use Rattle.description.proofs.count_at.Symbol as count_at_symbol
+use Rattle.description.specs.contracts.record_at
+use Rattle.description.proofs.record_at.Met as record_at_met
+use Rattle.description.proofs.record_at.Symbol as record_at_symbol
 use Rattle.description.specs.contracts.member_at
 use Rattle.description.proofs.member_at.Met as member_at_met
 use Rattle.description.proofs.member_at.Symbol as member_at_symbol
@@ -81,6 +84,12 @@ meets_description_count_at M = count_at_met.met
 
 pub tight_description_count_at : Tight count_at.ended (λ M 𝓤 𝓛. count_at.clauses 𝓛)
 tight_description_count_at c r q w v a b = (settle (result count_at.ended c) a.ensured b.ensured (λ e f. e.0 ∙ sym f.0), refl)
+
+pub meets_description_record_at : Meets record_at.ended (λ M 𝓤 𝓛. record_at.clauses 𝓛) record_at_symbol.name record_at_symbol.code
+meets_description_record_at M = record_at_met.met
+
+pub tight_description_record_at : Tight record_at.ended (λ M 𝓤 𝓛. record_at.clauses 𝓛)
+tight_description_record_at c r q w v a b = (settle (result record_at.ended c) a.ensured b.ensured (λ e f. e.0 ∙ sym f.0), refl)
 
 pub meets_description_member_at : Meets member_at.ended (λ M 𝓤 𝓛. member_at.clauses 𝓛) member_at_symbol.name member_at_symbol.code
 meets_description_member_at M = member_at_met.met

@@ -4,21 +4,9 @@ use mathlib.Core.Path.{sym, ◌∙◌}
 use Rattle.tightness.specs.Tight.{Meets, Tight}
 use Rattle.tightness.proofs.Laws.{bytes, result, settle}
 use Rattle.walk.specs.contracts.Walk as walk_Walk
-use Rattle.finishing.specs.contracts.finish_by_value
-use Rattle.finishing.proofs.finish_by_value.Met as finish_by_value_met
-use Rattle.finishing.proofs.finish_by_value.Symbol as finish_by_value_symbol
 use Rattle.finishing.specs.contracts.finish_walk
 use Rattle.finishing.proofs.finish_walk.Met as finish_walk_met
 use Rattle.finishing.proofs.finish_walk.Symbol as finish_walk_symbol
-
-pub meets_finishing_finish_by_value : Meets finish_by_value.ended (λ M 𝓤 𝓛. finish_by_value.clauses 𝓛) finish_by_value_symbol.name finish_by_value_symbol.code
-meets_finishing_finish_by_value M = finish_by_value_met.met
-
-pub tight_finishing_finish_by_value : Tight finish_by_value.ended (λ M 𝓤 𝓛. finish_by_value.clauses 𝓛)
-tight_finishing_finish_by_value c r q w v a b = (settle (result finish_by_value.ended c) a.ensured b.ensured (λ e f i. record { walk = (e.1 ∙ sym f.1) i; refusal = (e.0 ∙ sym f.0) i }), λ i. (tt, (tt, (tt, (tt, (tt, (tt, (same_out i, tt))))))))
-  where
-    same_out : w.1.1.1.1.1.1.0 ≡ v.1.1.1.1.1.1.0
-    same_out = settle bytes a.ensured b.ensured (λ e f. e.2 ∙ sym f.2)
 
 pub meets_finishing_finish_walk : Meets finish_walk.ended (λ M 𝓤 𝓛. finish_walk.clauses 𝓛) finish_walk_symbol.name finish_walk_symbol.code
 meets_finishing_finish_walk M = finish_walk_met.met

@@ -4,11 +4,15 @@ use mathlib.Core.Path.{sym, ◌∙◌}
 use mathlib.Core.Logic.{∥∥₁_prop, ∥∥₁_elim, ∥∥₁_map}
 use denote.Triple.Entry.{Res}
 use denote.Triple.Clauses.{Lasts}
-use Rattle.tightness.specs.Tight.{Meets, Tight, Admits}
+use denote.RattleType.{RattleType}
+use Rattle.tightness.specs.Tight.{Meets, MeetsNumber, Tight, Admits}
 use Rattle.tightness.proofs.Laws.{bytes, equal, result, settle, settle_parts}
 use Rattle.images.specs.contracts.address_of
 use Rattle.images.proofs.address_of.Met as address_of_met
 use Rattle.images.proofs.address_of.Symbol as address_of_symbol
+use Rattle.images.specs.contracts.copy_word
+use Rattle.images.proofs.copy_word.Met as copy_word_met
+use Rattle.images.proofs.copy_word.Symbol as copy_word_symbol
 use Rattle.images.specs.contracts.place_one
 use Rattle.images.proofs.place_one.Met as place_one_met
 use Rattle.images.proofs.place_one.Symbol as place_one_symbol
@@ -27,6 +31,15 @@ meets_images_address_of M = address_of_met.met
 
 pub tight_images_address_of : Tight address_of.ended (λ M 𝓤 𝓛. address_of.clauses 𝓛)
 tight_images_address_of c r q w v a b = (settle (result address_of.ended c) a.ensured b.ensured (λ e f i. record { 0 = (e ∙ sym f) i }), refl)
+
+pub meets_images_copy_word : MeetsNumber copy_word.ended (λ N M 𝓤 𝓛. copy_word.clauses N 𝓛) copy_word_symbol.name copy_word_symbol.code
+meets_images_copy_word M = copy_word_met.met
+
+pub tight_images_copy_word : (N : RattleType) → Tight (copy_word.ended N) (λ M 𝓤 𝓛. copy_word.clauses N 𝓛)
+tight_images_copy_word N c r q w v a b = (refl, λ i. (same_dst i, (tt, (tt, (tt, tt)))))
+  where
+    same_dst : w.0 ≡ v.0
+    same_dst = equal bytes a.ensured b.ensured
 
 pub meets_images_place_one : Meets place_one.ended (λ M 𝓤 𝓛. place_one.clauses 𝓛) place_one_symbol.name place_one_symbol.code
 meets_images_place_one M = place_one_met.met

@@ -10,21 +10,12 @@ use Rattle.station.proofs.new_station.Symbol as new_station_symbol
 use Rattle.station.specs.contracts.wrong_seat
 use Rattle.station.proofs.wrong_seat.Met as wrong_seat_met
 use Rattle.station.proofs.wrong_seat.Symbol as wrong_seat_symbol
-use Rattle.station.specs.contracts.attach_by_value
-use Rattle.station.proofs.attach_by_value.Met as attach_by_value_met
-use Rattle.station.proofs.attach_by_value.Symbol as attach_by_value_symbol
 use Rattle.station.specs.contracts.attach
 use Rattle.station.proofs.attach.Met as attach_met
 use Rattle.station.proofs.attach.Symbol as attach_symbol
-use Rattle.station.specs.contracts.detach_by_value
-use Rattle.station.proofs.detach_by_value.Met as detach_by_value_met
-use Rattle.station.proofs.detach_by_value.Symbol as detach_by_value_symbol
 use Rattle.station.specs.contracts.detach
 use Rattle.station.proofs.detach.Met as detach_met
 use Rattle.station.proofs.detach.Symbol as detach_symbol
-use Rattle.station.specs.contracts.change_by_value
-use Rattle.station.proofs.change_by_value.Met as change_by_value_met
-use Rattle.station.proofs.change_by_value.Symbol as change_by_value_symbol
 use Rattle.station.specs.contracts.change
 use Rattle.station.proofs.change.Met as change_met
 use Rattle.station.proofs.change.Symbol as change_symbol
@@ -41,15 +32,6 @@ meets_station_wrong_seat M = wrong_seat_met.met
 pub tight_station_wrong_seat : Tight wrong_seat.ended (λ M 𝓤 𝓛. wrong_seat.clauses 𝓛)
 tight_station_wrong_seat c r q w v a b = (equal (result wrong_seat.ended c) a.ensured b.ensured, refl)
 
-pub meets_station_attach_by_value : Meets attach_by_value.ended (λ M 𝓤 𝓛. attach_by_value.clauses 𝓛) attach_by_value_symbol.name attach_by_value_symbol.code
-meets_station_attach_by_value M = attach_by_value_met.met
-
-pub tight_station_attach_by_value : Tight attach_by_value.ended (λ M 𝓤 𝓛. attach_by_value.clauses 𝓛)
-tight_station_attach_by_value c r q w v a b = (settle (result attach_by_value.ended c) a.ensured b.ensured (λ e f i. record { station = (e.1 ∙ sym f.1) i; refusal = (e.0 ∙ sym f.0) i }), λ i. (tt, (same_seat i, (tt, tt))))
-  where
-    same_seat : w.1.0 ≡ v.1.0
-    same_seat = settle bytes a.ensured b.ensured (λ e f. e.2 ∙ sym f.2)
-
 pub meets_station_attach : Meets attach.ended (λ M 𝓤 𝓛. attach.clauses 𝓛) attach_symbol.name attach_symbol.code
 meets_station_attach M = attach_met.met
 
@@ -62,15 +44,6 @@ tight_station_attach c r q w v a b = (settle (result attach.ended c) a.ensured b
     same_seat : w.1.0 ≡ v.1.0
     same_seat = settle bytes a.ensured b.ensured (λ e f. e.2 ∙ sym f.2)
 
-pub meets_station_detach_by_value : Meets detach_by_value.ended (λ M 𝓤 𝓛. detach_by_value.clauses 𝓛) detach_by_value_symbol.name detach_by_value_symbol.code
-meets_station_detach_by_value M = detach_by_value_met.met
-
-pub tight_station_detach_by_value : Tight detach_by_value.ended (λ M 𝓤 𝓛. detach_by_value.clauses 𝓛)
-tight_station_detach_by_value c r q w v a b = (settle (result detach_by_value.ended c) a.ensured b.ensured (λ e f i. record { station = (e.1 ∙ sym f.1) i; refusal = (e.0 ∙ sym f.0) i }), λ i. (tt, (same_seat i, tt)))
-  where
-    same_seat : w.1.0 ≡ v.1.0
-    same_seat = settle bytes a.ensured b.ensured (λ e f. e.2 ∙ sym f.2)
-
 pub meets_station_detach : Meets detach.ended (λ M 𝓤 𝓛. detach.clauses 𝓛) detach_symbol.name detach_symbol.code
 meets_station_detach M = detach_met.met
 
@@ -80,15 +53,6 @@ tight_station_detach c r q w v a b = (settle (result detach.ended c) a.ensured b
     same_station : w.0 ≡ v.0
     same_station = settle (station_Station.the_row).coded a.ensured b.ensured (λ e f. e.1 ∙ sym f.1)
 
-    same_seat : w.1.0 ≡ v.1.0
-    same_seat = settle bytes a.ensured b.ensured (λ e f. e.2 ∙ sym f.2)
-
-pub meets_station_change_by_value : Meets change_by_value.ended (λ M 𝓤 𝓛. change_by_value.clauses 𝓛) change_by_value_symbol.name change_by_value_symbol.code
-meets_station_change_by_value M = change_by_value_met.met
-
-pub tight_station_change_by_value : Tight change_by_value.ended (λ M 𝓤 𝓛. change_by_value.clauses 𝓛)
-tight_station_change_by_value c r q w v a b = (settle (result change_by_value.ended c) a.ensured b.ensured (λ e f i. record { station = (e.1 ∙ sym f.1) i; refusal = (e.0 ∙ sym f.0) i }), λ i. (tt, (same_seat i, (tt, tt))))
-  where
     same_seat : w.1.0 ≡ v.1.0
     same_seat = settle bytes a.ensured b.ensured (λ e f. e.2 ∙ sym f.2)
 

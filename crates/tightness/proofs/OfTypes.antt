@@ -6,9 +6,9 @@ use Rattle.tightness.proofs.Laws.{bytes, equal, result, settle}
 use Rattle.types.specs.contracts.offset_after
 use Rattle.types.proofs.offset_after.Met as offset_after_met
 use Rattle.types.proofs.offset_after.Symbol as offset_after_symbol
-use Rattle.types.specs.contracts.types_refusal_with
-use Rattle.types.proofs.types_refusal_with.Met as types_refusal_with_met
-use Rattle.types.proofs.types_refusal_with.Symbol as types_refusal_with_symbol
+use Rattle.types.specs.contracts.judge
+use Rattle.types.proofs.judge.Met as judge_met
+use Rattle.types.proofs.judge.Symbol as judge_symbol
 use Rattle.types.specs.contracts.refusal_for
 use Rattle.types.proofs.refusal_for.Met as refusal_for_met
 use Rattle.types.proofs.refusal_for.Symbol as refusal_for_symbol
@@ -18,6 +18,9 @@ use Rattle.types.proofs.entries.Symbol as entries_symbol
 use Rattle.types.specs.contracts.wide
 use Rattle.types.proofs.wide.Met as wide_met
 use Rattle.types.proofs.wide.Symbol as wide_symbol
+use Rattle.types.specs.contracts.extent_by
+use Rattle.types.proofs.extent_by.Met as extent_by_met
+use Rattle.types.proofs.extent_by.Symbol as extent_by_symbol
 use Rattle.types.specs.contracts.extent_in
 use Rattle.types.proofs.extent_in.Met as extent_in_met
 use Rattle.types.proofs.extent_in.Symbol as extent_in_symbol
@@ -28,11 +31,11 @@ meets_types_offset_after M = offset_after_met.met
 pub tight_types_offset_after : Tight offset_after.ended (λ M 𝓤 𝓛. offset_after.clauses 𝓛)
 tight_types_offset_after c r q w v a b = (settle (result offset_after.ended c) a.ensured b.ensured (λ e f i. record { 0 = (e ∙ sym f) i }), refl)
 
-pub meets_types_types_refusal_with : Meets types_refusal_with.ended (λ M 𝓤 𝓛. types_refusal_with.clauses 𝓛) types_refusal_with_symbol.name types_refusal_with_symbol.code
-meets_types_types_refusal_with M = types_refusal_with_met.met
+pub meets_types_judge : Meets judge.ended (λ M 𝓤 𝓛. judge.clauses 𝓛) judge_symbol.name judge_symbol.code
+meets_types_judge M = judge_met.met
 
-pub tight_types_types_refusal_with : Tight types_refusal_with.ended (λ M 𝓤 𝓛. types_refusal_with.clauses 𝓛)
-tight_types_types_refusal_with c r q w v a b = (settle (result types_refusal_with.ended c) a.ensured b.ensured (λ e f. e.0 ∙ sym f.0), λ i. (tt, (same_table i, tt)))
+pub tight_types_judge : Tight judge.ended (λ M 𝓤 𝓛. judge.clauses 𝓛)
+tight_types_judge c r q w v a b = (settle (result judge.ended c) a.ensured b.ensured (λ e f. e.0 ∙ sym f.0), λ i. (tt, (same_table i, tt)))
   where
     same_table : w.1.0 ≡ v.1.0
     same_table = settle bytes a.ensured b.ensured (λ e f. e.1 ∙ sym f.1)
@@ -54,6 +57,12 @@ meets_types_wide M = wide_met.met
 
 pub tight_types_wide : Tight wide.ended (λ M 𝓤 𝓛. wide.clauses 𝓛)
 tight_types_wide c r q w v a b = (equal (result wide.ended c) a.ensured b.ensured, refl)
+
+pub meets_types_extent_by : Meets extent_by.ended (λ M 𝓤 𝓛. extent_by.clauses 𝓛) extent_by_symbol.name extent_by_symbol.code
+meets_types_extent_by M = extent_by_met.met
+
+pub tight_types_extent_by : Tight extent_by.ended (λ M 𝓤 𝓛. extent_by.clauses 𝓛)
+tight_types_extent_by c r q w v a b = (settle (result extent_by.ended c) a.ensured b.ensured (λ e f i. record { size = record { 0 = (e.size ∙ sym f.size) i }; align = record { 0 = (e.align ∙ sym f.align) i } }), refl)
 
 pub meets_types_extent_in : Meets extent_in.ended (λ M 𝓤 𝓛. extent_in.clauses 𝓛) extent_in_symbol.name extent_in_symbol.code
 meets_types_extent_in M = extent_in_met.met

@@ -1,14 +1,20 @@
 -- What it means that a contract leaves no room: document 01, "it determines result, station and all lent bytes at exit, for accepted and refused
 -- input alike. Any two outcomes it admits are proved equal". The contract is the very one that the function is proved to meet, `clauses` of its
 -- module, and no copy of it. Assumes nothing: these are definitions.
-use Rattle.std.specs.Prelude.{◌≡◌, List, ℕ}
+use Rattle.std.specs.Prelude.{◌≡◌, List, [], ◌∷◌, ℕ}
 use seplogic.Ra.Ura.{Ura}
 use base.Logic.{SProp, emp}
 use prog.Memory.{Memory}
 use prog.Model.{Model}
 use prog.Routine.{Routine}
 use prog.Wired.{Wired, Code}
-use mir.Syntax.{Callee}
+use mir.Syntax.{Args as Arguments, Callee, Dict, a_number, a_type, dcons, dnil, w64}
+use mir.Val.{Fits}
+use denote.RattleType.{RattleType}
+use denote.Param.{bounded, layouts, number}
+use denote.Param.Laws.{IsCopy, Laws}
+use Rattle.std.specs.declared.clone.Clone.{Ghosts}
+use Rattle.std.specs.contracts.clone.Clone.TheBound.{Met}
 use types.Logic.{Logic, sem}
 use contract.Lifetimes.{Lfts}
 use contract.Monad.{Fun}
@@ -63,6 +69,20 @@ TightPart T read C =
 -- "Each public call accepts all inputs": the contract asks nothing of a call
 abbrev pub Total : (T : Ended) → Contract T → Type 2
 Total T C = (c : Call T) (g : (contract_at T C c).ghost) → (contract_at T C c).requires g ≡ emp c.model
+
+-- ---- the same of a function with a parameter: any number of 64 bits, or any type that is Copy, may stand for it
+
+abbrev pub MeetsNumber : (T : RattleType → Ended) → ((N : RattleType) → Contract (T N)) → (Arguments → Callee) → Code → Type 2
+MeetsNumber T C name code =
+    (M : Type 1) (𝓤 : Ura M) (𝓛 : Logic 𝓤) (𝓜 : Model 𝓤 𝓛.H) (𝓡 : Running 𝓤 𝓛.H 𝓜)
+    → Wired 𝓡.env code → (N : ℕ) → Fits w64 N
+    → MeetsSpec 𝓛 (T (number N)).signature (𝓡.run (𝓡.env (name (layouts (a_number ∷ []) (number N, tt))))) (closing 𝓛 (T (number N)) (C (number N) M 𝓤 𝓛 𝓜.mem 𝓡.returns))
+
+abbrev pub MeetsCopy : (T : (A : RattleType) → Ghosts A.Denot → Dict → Ended) → ((A : RattleType) (g : Ghosts A.Denot) (d : Dict) → Contract (T A g d)) → (Arguments → Callee) → Code → Type 2
+MeetsCopy T C name code =
+    (M : Type 1) (𝓤 : Ura M) (𝓛 : Logic 𝓤) (𝓜 : Model 𝓤 𝓛.H) (𝓡 : Running 𝓤 𝓛.H 𝓜)
+    → Wired 𝓡.env code → (A : RattleType) → Laws A → IsCopy A → (g : Ghosts A.Denot) (d : Dict) → Met 𝓛 𝓜 𝓡 𝓡.env A g d
+    → MeetsSpec 𝓛 (T A g d).signature (𝓡.run (𝓡.env (name (bounded (a_type ∷ []) (A, tt) (dcons d dnil))))) (closing 𝓛 (T A g d) (C A g d M 𝓤 𝓛 𝓜.mem 𝓡.returns))
 
 -- the function of this name, with this code, is proved to meet this contract, in any model of a machine in which the name means the code
 abbrev pub Meets : (T : Ended) → Contract T → Callee → Code → Type 2

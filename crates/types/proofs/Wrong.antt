@@ -1,11 +1,11 @@
 -- Which type a refusal names (request 2026-01). Assumes nothing.
-use mathlib.Core.Path.{◌≡◌, sym, ap, ◌∙◌}
-use mathlib.Core.Bool.{false}
+use mathlib.Core.Path.{◌≡◌, refl, sym, ◌∙◌}
+use mathlib.Core.Bool.{Bool, true, false, cond}
 use mathlib.Core.Logic.{◌≢◌}
 use mathlib.Core.List.{List, ◌∷◌, ◌++◌}
 use Prim.Native.Nat.{ℕ}
 use lib.Dec.{eqb}
-use borrow.Author.Tests.{ne_eqb, lt-ltb, le-ltb}
+use borrow.Author.Tests.{ne_eqb, lt-ltb, le-ltb, eqb-true}
 use Rattle.std.specs.Prelude.{Ok, Err, Some, None}
 use Rattle.description.specs.Description.{types_in, model_in}
 use Rattle.form.specs.Order.{Rule, rule, first, Without, form_order, form_refusal}
@@ -19,21 +19,11 @@ use Rattle.form.proofs.Named.{names-none}
 use Rattle.form.proofs.Form.{six-whole, six-known}
 use Rattle.types.specs.Large.{large, first_large, too_large, types_order, types_refusal}
 use Rattle.types.proofs.Large.{types-form, types-seven, types-right}
-use Rattle.types.specs.Wrong.{refusal_for, Judged}
+use Rattle.types.specs.Wrong.{refusal_for}
 use native.Mathlib.Omega.{arith}
 
 without-seven : (d : List ℕ) → Without 7 (form_order d)
 without-seven d = ((λ z. omega arith), ((λ z. omega arith), ((λ z. omega arith), ((λ z. omega arith), ((λ z. omega arith), ((λ z. omega arith), tt))))))
-
--- the answer of any order that begins with 1 to 7 was judged in order
-pub judged : (d : List ℕ) (later : List Rule) (n : ℕ) → Without 6 later → n ≡ first (types_order d ++ later) → Judged d n
-unfolding form_refusal
-judged d later n other e =
-    record {
-      whole = λ six. six-whole d (rule 7 (too_large (model_in d) d) ∷ later) ((λ z. omega arith), other) (sym e ∙ six);
-      known = λ six. six-known d (rule 7 (too_large (model_in d) d) ∷ later) ((λ z. omega arith), other) (sym e ∙ six);
-      formed = λ seven. none-till (form_order d) (rule 7 (too_large (model_in d) d) ∷ later) 7 (without-seven d) (sym e ∙ seven);
-    }
 
 -- a number other than 6 and 7 names no type
 pub no_type : (d : List ℕ) (n : ℕ) → eqb n 6 ≡ false → eqb n 7 ≡ false → refusal_for d n ≡ refusal_of n

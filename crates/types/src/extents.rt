@@ -25,7 +25,7 @@ pub fn offset_after(union: bool, end: Bytes, align: Bytes) -> Bytes
 }
 
 // Where the members end after one more.
-fn end_after(union: bool, end: Bytes, member: Extent) -> Bytes
+pub fn end_after(union: bool, end: Bytes, member: Extent) -> Bytes
     requires { ((end.0 ≤ 2 ^ 32) × (member.size.0 ≤ 4096)) × ((0 < member.align.0) × (member.align.0 ≤ 32)) }
     ensures { result.0 ≡ end_after union end.0 member.align.0 member.size.0 }
 {
@@ -34,10 +34,26 @@ fn end_after(union: bool, end: Bytes, member: Extent) -> Bytes
 
 // ---- one type
 
-// Of each code; the entry of a pointer, which the model changes, is not read.
-const SIZES: [u8; 17] = [1, 1, 2, 4, 8, 16, 4, 8, 16, 16, 8, 16, 8, 16, 32, 8, 32];
-
-const ALIGNS: [u8; 17] = [1, 1, 2, 4, 8, 16, 4, 8, 16, 16, 8, 16, 4, 8, 16, 8, 32];
+// Size and alignment of each code; those of a pointer, which the model changes, are not read.
+const BASIC: [(u8, u8); 17] = [
+    (1, 1), // _Bool
+    (1, 1), // char
+    (2, 2), // short
+    (4, 4), // int
+    (8, 8), // long or long long
+    (16, 16), // __int128
+    (4, 4), // float
+    (8, 8), // double
+    (16, 16), // long double
+    (16, 16), // __float128
+    (8, 8), // __m64
+    (16, 16), // __m128
+    (8, 4), // complex float
+    (16, 8), // complex double
+    (32, 16), // complex long double
+    (8, 8), // pointer
+    (32, 32), // __m256
+];
 
 // Size and alignment of a pointer.
 fn pointer_extent(model: Model) -> Extent
@@ -63,9 +79,10 @@ fn basic_extent(d: &[u8], code: usize) -> Extent
     if code == 15 {
         return pointer_extent(description::model_of(d));
     }
+    let (size, align) = BASIC[code];
     Extent {
-        size: Bytes(usize::from(SIZES[code])),
-        align: Bytes(usize::from(ALIGNS[code])),
+        size: Bytes(usize::from(size)),
+        align: Bytes(usize::from(align)),
     }
 }
 

@@ -6,7 +6,7 @@ ghost use Rattle.form.specs.Search.{first_within};
 ghost use Rattle.types.specs.Large.{large, first_large, types_refusal};
 ghost use Rattle.types.specs.Table.{entry_at, filled, Sizes, sizes_after};
 ghost use Rattle.description.specs.Description.{types_in, model_in};
-ghost use Rattle.types.specs.Wrong.{refusal_for, Judged};
+ghost use Rattle.types.specs.Wrong.{refusal_for};
 
 use crate::{extents, table_entries};
 use form::{Reason, Refusal};
@@ -44,20 +44,4 @@ pub fn judge(d: &[u8], table: &mut [u32; 64]) -> Result<(), Refusal>
         Some(k) => Err(Refusal::of_type(Reason::TooLarge, k)),
         None => Ok(()),
     }
-}
-
-// The refusal of a description under this number. It is looked for which type is wrong only once it is known that one is.
-pub fn refusal_for(d: &[u8], number: u8) -> Refusal
-    requires { Judged d.now number }
-    ensures { result ≡ refusal_for d.now number }
-{
-    if number == 6 {
-        return form::refusal_at(6, form::first_broken(d));
-    }
-    if number == 7 {
-        let mut table = [0u32; 64];
-        let types = description::byte_at(d, 5);
-        return form::refusal_at(7, fill_sizes(d, &mut table).unwrap_or(types));
-    }
-    form::refusal_of(number)
 }

@@ -1,11 +1,11 @@
 -- The refusals 1 to 9: which number, exactly, and what a description is sure of that gets none. Assumes nothing.
-use mathlib.Core.Path.{◌≡◌, refl, ◌∙◌}
+use mathlib.Core.Path.{◌≡◌, refl}
 use mathlib.Core.Bool.{Bool, true, false, cond}
-use mathlib.Core.List.{List, [], ◌∷◌}
+use mathlib.Core.List.{List}
 use mathlib.Core.Logic.{◌↔◌, ◌≢◌}
 use Prim.Native.Nat.{ℕ, ◌-◌, ◌≤◌, ◌<◌}
 use native.Mathlib.Omega.{arith}
-use borrow.Author.Tests.{ltb-false, leb-false, lt-ltb, le-ltb}
+use borrow.Author.Tests.{ltb-false, leb-false}
 use lib.Dec.{leb, ltb, eqb}
 use Rattle.description.specs.Description.{types_in, named_in, arguments_in, return_in, kind_at, argument_at, Whole}
 use Rattle.std.specs.Prelude.{Err}
@@ -18,8 +18,8 @@ use Rattle.form.proofs.Search.{first-least}
 use Rattle.form.proofs.Form.{or_none, accepted-whole, accepted-counts}
 use Rattle.types.specs.Large.{types_order, types_refusal}
 use Rattle.types.proofs.Large.{accepted-form, types-positive}
-use Rattle.types.specs.Wrong.{Judged, refusal_for}
-use Rattle.types.proofs.Wrong.{judged, no_type}
+use Rattle.types.specs.Wrong.{refusal_for}
+use Rattle.types.proofs.Wrong.{no_type}
 use Rattle.uses.specs.Uses.{wrong_number, wrong_return, wrong_argument, first_wrong, wrong_use, narrow_argument, narrow_unnamed, first_narrow, passing_order, uses_order, uses_refusal, Typed}
 
 pub uses-positive : (d : List ℕ) → Positive (uses_order d)
@@ -29,11 +29,6 @@ uses-positive d = positive-append (types_order d) (passing_order d) (types-posit
 pub uses-exactly : (d : List ℕ) (n : ℕ) → n ≢ 0 → (uses_refusal d ≡ n) ↔ Answers (uses_order d) n
 unfolding uses_refusal
 uses-exactly d n h = refuses-exactly (uses_order d) n h
-
--- 6 and 7 among them are judged in order
-pub uses-judged : (d : List ℕ) (n : ℕ) → n ≡ uses_refusal d → Judged d n
-unfolding uses_refusal
-uses-judged d n e = judged d (passing_order d) n ((λ z. omega arith), ((λ z. omega arith), tt)) e
 
 pub uses-none_exactly : (d : List ℕ) → (uses_refusal d ≡ 0) ↔ NoneHolds (uses_order d)
 unfolding uses_refusal

@@ -41,8 +41,7 @@ fn wrong_use(d: &[u8]) -> bool
     ensures { result ≡ wrong_use d.now }
 {
     wrong_return(d)
-        || (0..description::byte_at(d, 8))
-            .any(|i| wrong_number(d, description::argument_at(d, i)))
+        || (0..description::byte_at(d, 8)).any(|i| wrong_number(d, description::argument_at(d, i)))
 }
 
 // ---- 9: unnamed arguments
@@ -100,16 +99,4 @@ pub fn judge(d: &[u8], table: &mut [u32; 64]) -> Result<(), Refusal>
 {
     types::judge(d, table)?;
     judge_passing(d)
-}
-
-// The number alone, or 0.
-pub fn uses_refusal_with(d: &[u8], table: &mut [u32; 64]) -> u8
-    ensures { (result ≡ uses_refusal d.now)
-        × (table.new ≡ sizes_after d.now table.old)
-        × (uses_refusal d.now ≡ 0 → Sizes (model_in d.now) d.now (types_in d.now) table.new) }
-{
-    match judge(d, table) {
-        Ok(()) => 0,
-        Err(refusal) => refusal.number,
-    }
 }

@@ -1,4 +1,5 @@
 // The walk over unnamed arguments (document 01, "Station and walk"; 000, section 3.5.7): opened, checked, stepped, and the next argument shown where it lies.
+// The calls take station, seat, walk and images one by one, as cb_step and cb_show lend them and docs/CONTRACTS.md names them.
 #![tactic(auto)]
 
 pub use checking::checked;
@@ -14,7 +15,8 @@ mod showing; // where the next argument lies, and the part that shows it
 
 use units::{Bytes, Registers};
 
-// Where a walk stands: the attachment it was opened under, the next argument, gp_offset, fp_offset and the overflow offset.
+// Where a walk stands: the attachment it was opened under, the next argument, gp_offset, fp_offset and the overflow offset. No ghost
+// field bounds the offsets: a host may lend any record, and one that does not stand where it says is refused under 18.
 #[repr(C)]
 #[derive(Clone, Copy, Debug, PartialEq, Eq)]
 pub struct Walk {
@@ -26,7 +28,7 @@ pub struct Walk {
 }
 
 // Where an argument is fetched: an offset of the register image for each eightbyte, or one of the stack image.
-#[derive(Clone, Copy)]
+#[derive(Clone, Copy, Debug, PartialEq, Eq)]
 pub enum Fetch {
     One(Bytes),
     Two(Bytes, Bytes),
@@ -34,7 +36,7 @@ pub enum Fetch {
 }
 
 // num_gp and num_fp: the registers that some eightbytes take.
-#[derive(Clone, Copy)]
+#[derive(Clone, Copy, Debug, PartialEq, Eq)]
 pub struct Counts {
     pub general: Registers,
     pub vector: Registers,

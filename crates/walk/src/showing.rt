@@ -14,14 +14,14 @@ use station::Station;
 use units::Bytes;
 
 // So many bytes of an image, from an offset on.
-#[derive(Clone, Copy)]
+#[derive(Clone, Copy, Debug, PartialEq, Eq)]
 pub struct Part {
     pub offset: Bytes,
     pub length: Bytes,
 }
 
 // Which image an argument lies in, in one part, and where.
-#[derive(Clone, Copy)]
+#[derive(Clone, Copy, Debug, PartialEq, Eq)]
 pub enum Shown {
     Registers(Part),
     Stack(Part),

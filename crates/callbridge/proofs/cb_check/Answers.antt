@@ -1,8 +1,8 @@
 -- The verdict's refusal. Assumes nothing.
 use Rattle.std.proofs.Common.{ap, ◌∙◌}
+use Rattle.form.specs.Reading.{refusal_in}
 use Rattle.layout.specs.Layout.{check_answer}
 use Rattle.layout.specs.Verdict.{verdict}
-use Rattle.callbridge.specs.Outcome.{refusal_in}
 use Rattle.callbridge.proofs.Given.{number-told}
 use Rattle.callbridge.proofs.cb_check.Goals as goal
 

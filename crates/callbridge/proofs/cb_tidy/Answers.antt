@@ -1,7 +1,7 @@
+use Rattle.form.specs.Reading.{refusal_in}
 -- The refusal of the tidy form. Assumes nothing.
 use Rattle.std.proofs.Common.{length, ap, ◌∙◌}
 use Rattle.tidying.specs.Answers.{tidy_refusal, tidy_answer}
-use Rattle.callbridge.specs.Outcome.{refusal_in}
 use Rattle.callbridge.proofs.Given.{number-told}
 use Rattle.callbridge.proofs.cb_tidy.Goals as goal
 

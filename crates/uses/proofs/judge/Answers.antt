@@ -1,8 +1,8 @@
 -- `judge` meets its contract.
 -- Assumes nothing.
-use mathlib.Core.Path.{sym, ◌∙◌}
+use mathlib.Core.Path.{◌∙◌}
 use Rattle.std.proofs.lemmas.Result.{err_from_is_err_and}
-use Rattle.form.proofs.Judgment.{passed, refused}
+use Rattle.form.proofs.Judgment.{passed}
 use Rattle.uses.proofs.Uses.{accepted-types, judged-types, types-whole, types-named, judged-passing}
 use Rattle.uses.proofs.judge.Goals as goal
 

@@ -1,6 +1,6 @@
 -- `judge` meets its contract: at each return the tests passed are the conditions, in their order.
 -- Assumes nothing.
-use mathlib.Core.Path.{◌≡◌, sym, ◌∙◌}
+use mathlib.Core.Path.{sym, ◌∙◌}
 use native.Mathlib.Omega.{arith}
 use borrow.Author.Tests.{lt-ltb, le-ltb}
 use Rattle.description.specs.Description.{types_in}

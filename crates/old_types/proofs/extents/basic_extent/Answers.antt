@@ -8,4 +8,4 @@ use Rattle.old_types.proofs.extents.basic_extent.Goals as goal
 
 pub returns : goal.returns
 unfolding basic_size basic_align
-returns c = (c.number.ensures ∙ within sizes c.args.code 0 1 (search rules), c.number-2.ensures ∙ within aligns c.args.code 0 1 (search rules))
+returns c = (c.from.ensures ∙ within sizes c.args.code 0 1 (search rules), c.from-2.ensures ∙ within aligns c.args.code 0 1 (search rules))

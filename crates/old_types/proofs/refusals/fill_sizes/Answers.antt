@@ -1,8 +1,10 @@
 use mathlib.Core.Path.{◌≡◌, sym, ap, ◌∙◌}
-use mathlib.Core.Bool.{false}
+use mathlib.Core.Bool.{true, false}
+use Prim.Native.Nat.{◌≤◌, ◌<◌}
 use native.Mathlib.Omega.{arith}
-use borrow.Author.Tests.{ltb-false}
-use lib.ListN.{length}
+use Rattle.std.proofs.Common.{tests}
+use lib.Dec.{ltb}
+use borrow.Author.Tests.{lt-ltb, le-ltb, ltb-false}
 use Rattle.types.specs.Decode.{ty_at}
 use Rattle.old_types.specs.Conditions.{large, first_large}
 use Rattle.old_types.specs.Table.{entry_at}
@@ -10,52 +12,65 @@ use Rattle.old_types.proofs.Orders.{accepted-headed, accepted-counts, small-more
 use Rattle.old_types.proofs.Sizes.{align-high}
 use Rattle.types.proofs.Table.{filled_none}
 use Rattle.old_types.proofs.Table.{sizes-filled, extent_entry, filled_more}
+use Rattle.description.specs.Description.{types_in}
 use Rattle.form.specs.Search.{first_from}
-use Rattle.form.proofs.Search.{search_stop, search_on, search_end}
+use Rattle.form.proofs.Search.{search_stop, search_on, search_end, within-at, within-past}
 use Rattle.old_types.proofs.refusals.fill_sizes.Goals as goal
 
-pub byte_at-types-requires : goal.byte_at-types-requires
-byte_at-types-requires c = omega (arith, accepted-headed c.args.d.now c.requires)
+pub byte_at-k-end-requires : goal.byte_at-k-end-requires
+byte_at-k-end-requires c = omega (arith, accepted-headed c.args.d.now c.requires)
 
 pub loop-k-init : goal.loop-k-init
-loop-k-init c = (ap (first_from (large c.args.d.now) 0) (omega (arith, c.byte_at-types.ensures.0)), omega arith, c.byte_at-types.ensures.0, λ j h. absurd (omega arith), filled_none (entry_at c.args.d.now) c.args.table.now)
+loop-k-init c = record {
+  search = ap (first_from (large c.args.d.now) 0) (omega arith);
+  small = λ j h. absurd (omega arith);
+  entries = filled_none (entry_at c.args.d.now) c.args.table.now;
+}
 
 pub extent_of-extent-requires : goal.extent_of-extent-requires
 extent_of-extent-requires c =
-    let few = (accepted-counts c.args.d.now c.requires).types in
-    let full : length c.args.table.now ≡ 64 = sym c.entries.ensures.1 ∙ c.entries.ensures.0 in (
-      sized-next c.args.d.now c.requires c.loop-k.k (omega (arith, c.loop-k-test.true, c.loop-k.invariant.2)) c.loop-k.invariant.3,
-      rw c.loop-k.invariant.4 (sizes-filled c.args.d.now c.args.table.now c.loop-k.k full (omega (arith, few, c.loop-k-test.true, c.loop-k.invariant.2)) c.loop-k.invariant.3),
+    let d = c.args.d.now in
+    let low : c.loop-k.k ≤ 64 = omega (arith, (accepted-counts d c.requires).types) in (
+      sized-next d c.requires c.loop-k.k (omega arith) c.loop-k.invariant.small,
+      rw c.loop-k.invariant.entries (sizes-filled d c.args.table.now c.loop-k.k c.told-table low c.loop-k.invariant.small),
     )
 
-pub returns-then-over : goal.returns-then-over
+pub returns-then-lt : goal.returns-then-lt
 unfolding large
-returns-then-over c =
-    let few = (accepted-counts c.args.d.now c.requires).types in
-    let full : length c.args.table.now ≡ 64 = sym c.entries.ensures.1 ∙ c.entries.ensures.0 in
-    let found : c.loop-k.k ≡ first_large c.args.d.now = sym (sym c.loop-k.invariant.0 ∙ search_stop (large c.args.d.now) c.loop-k.k _ c.loop-k-test.true (rw (← c.extent_of-extent.ensures.size) (sym c.over.ensures ∙ c.if-over.true))) in
-    (found, rw (← found) c.loop-k.invariant.4, rw (← found, c.loop-k.invariant.4) (sizes-filled c.args.d.now c.args.table.now c.loop-k.k full (omega (arith, few, c.loop-k-test.true, c.loop-k.invariant.2)) c.loop-k.invariant.3))
+returns-then-lt c =
+    let d = c.args.d.now in
+    let low : c.loop-k.k ≤ 64 = omega (arith, (accepted-counts d c.requires).types) in
+    let over : 4096 < c.extent_of-extent.result.size.0 = grind (arith, tests) in
+    let found : first_large d ≡ c.loop-k.k = sym c.loop-k.invariant.search ∙ search_stop (large d) c.loop-k.k (types_in d) (omega arith) (rw (← c.extent_of-extent.ensures.size) (lt-ltb 4096 _ over)) in (
+      within-at (large d) 0 (types_in d) c.loop-k.k found (omega arith),
+      rw found c.loop-k.invariant.entries,
+      rw (found, c.loop-k.invariant.entries) (sizes-filled d c.args.table.now c.loop-k.k c.told-table low c.loop-k.invariant.small),
+    )
 
 pub entry_of-requires : goal.entry_of-requires
-entry_of-requires c = (ltb-false 4096 _ (sym c.over.ensures ∙ c.if-over.false), omega (arith, c.extent_of-extent.ensures.align, align-high (ty_at c.args.d.now c.loop-k.k)))
+entry_of-requires c = (grind (arith, tests), omega (arith, c.extent_of-extent.ensures.align, align-high (ty_at c.args.d.now c.loop-k.k)))
 
 pub bounds-table-k : goal.bounds-table-k
-bounds-table-k c = omega (arith, (accepted-counts c.args.d.now c.requires).types, c.loop-k-test.true, c.loop-k.invariant.2)
+bounds-table-k c = omega (arith, (accepted-counts c.args.d.now c.requires).types)
 
 pub loop-k-preserved : goal.loop-k-preserved
 unfolding large
 loop-k-preserved c =
-    let small : large c.args.d.now c.loop-k.k ≡ false = rw (← c.extent_of-extent.ensures.size) (sym c.over.ensures ∙ c.if-over.false) in (
-      search_on (large c.args.d.now) c.loop-k.k _ c.loop-k-test.true small ∙ c.loop-k.invariant.0,
-      omega (arith, c.loop-k-test.true),
-      c.loop-k.invariant.2,
-      small-more c.args.d.now c.loop-k.k c.loop-k.invariant.3 small,
-      filled_more c.args.d.now c.args.table.now c.loop-k.table c.loop-k.k c.entry_of.result c.loop-k.invariant.4 (c.entry_of.ensures ∙ extent_entry c.args.d.now c.loop-k.k c.extent_of-extent.result c.extent_of-extent.ensures),
-    )
+    let d = c.args.d.now in
+    let right : c.extent_of-extent.result.size.0 ≤ 4096 = grind (arith, tests) in
+    let small : large d c.loop-k.k ≡ false = rw (← c.extent_of-extent.ensures.size) (le-ltb 4096 _ right) in
+    record {
+      search = search_on (large d) c.loop-k.k (types_in d) (omega arith) small ∙ c.loop-k.invariant.search;
+      small = small-more d c.loop-k.k c.loop-k.invariant.small small;
+      entries = filled_more d c.args.table.now c.loop-k.table c.loop-k.k c.entry_of.result c.loop-k.invariant.entries (c.entry_of.ensures ∙ extent_entry d c.loop-k.k c.extent_of-extent.result c.extent_of-extent.ensures);
+    }
 
 pub returns : goal.returns
 returns c =
-    let few = (accepted-counts c.args.d.now c.requires).types in
-    let full : length c.args.table.now ≡ 64 = sym c.entries.ensures.1 ∙ c.entries.ensures.0 in
-    let found : c.loop-k.k ≡ first_large c.args.d.now = sym (sym c.loop-k.invariant.0 ∙ search_end (large c.args.d.now) c.loop-k.k _ c.loop-k-test.false) in
-    (found, rw (← found) c.loop-k.invariant.4, rw (← found, c.loop-k.invariant.4) (sizes-filled c.args.d.now c.args.table.now c.loop-k.k full (omega (arith, few, c.loop-k.invariant.1, c.loop-k.invariant.2)) c.loop-k.invariant.3))
+    let d = c.args.d.now in
+    let low : c.loop-k.k ≤ 64 = omega (arith, (accepted-counts d c.requires).types) in
+    let found : first_large d ≡ c.loop-k.k = sym c.loop-k.invariant.search ∙ search_end (large d) c.loop-k.k (types_in d) (omega arith) in (
+      within-past (large d) 0 (types_in d) (omega arith),
+      rw found c.loop-k.invariant.entries,
+      rw (found, c.loop-k.invariant.entries) (sizes-filled d c.args.table.now c.loop-k.k c.told-table low c.loop-k.invariant.small),
+    )

@@ -12,7 +12,8 @@ use Rattle.form.specs.Search.{first_from}
 use Rattle.old_types.proofs.refusals.fill_sizes.Given as goal
 
 abbrev pub invariant-loop-k : goal.invariant-loop-k
-invariant-loop-k l = (first_from (large l.d) l.k (l.types - l.k) ≡ first_large l.d) × (l.k ≤ l.types) × (l.types ≡ types_in l.d) × ((j : ℕ) → j < l.k → size_ty (ty_at l.d j) ≤ 4096) × (l.table ≡ filled (entry_at l.d) l.k l.initial.table)
-
-abbrev pub decreases-loop-k : goal.decreases-loop-k
-decreases-loop-k l = l.types - l.k
+invariant-loop-k l = record {
+  search : first_from (large l.d) l.k (types_in l.d - l.k) ≡ first_large l.d;
+  small : (j : ℕ) → j < l.k → size_ty (ty_at l.d j) ≤ 4096;
+  entries : l.table ≡ filled (entry_at l.d) l.k l.initial.table;
+}

@@ -1,49 +1,43 @@
 -- `run_at` meets its contract.
 -- Assumes nothing.
-use mathlib.Core.Path.{sym, ◌∙◌}
-use Prim.Native.Nat.{◌≤◌}
+use mathlib.Core.Path.{sym}
 use native.Mathlib.Omega.{arith}
-use borrow.Author.Tests.{eq-eqb, ne_eqb, lt-ltb, le-ltb}
+use borrow.Author.Tests.{eq-eqb, lt-ltb, le-ltb}
+use Rattle.std.proofs.lemmas.Result.{err_from_is_err_and}
+use Prim.Native.Nat.{◌<◌}
+use Rattle.description.proofs.Records.{no_group}
+use Rattle.form.proofs.Judgment.{passed, refused_on}
 use Rattle.questions.specs.Runs.{run_answer}
-use Rattle.questions.proofs.Questions.{question-judged, answered-sized}
+use Rattle.questions.proofs.Questions.{answered-sized}
 use Rattle.questions.proofs.Runs.{run-within}
 use Rattle.description.specs.Description.{kind_at}
 use Rattle.questions.proofs.member_runs.run_at.Goals as goal
 
-pub refusal_for-requires : goal.refusal_for-requires
-refusal_for-requires c = question-judged _ _ _ c.question_refusal-number.ensures
-
-pub returns-then-number-ne0 : goal.returns-then-number-ne0
+pub returns-in_err-judge : goal.returns-in_err-judge
 unfolding run_answer
-returns-then-number-ne0 c = (rw (← c.question_refusal-number.ensures, ne_eqb _ _ c.if-number-ne0.true, c.refusal_for.ensures), tt)
+returns-in_err-judge c =
+    let p = err_from_is_err_and c.from_residual.result c.from_residual.ensures.1 in
+    (rw (p.1, p.2) (sym (refused_on _ _ _ _ c.in_err-judge.ensures.0)), rw p.1 tt)
 
-pub kind_at-kind-requires : goal.kind_at-kind-requires
-kind_at-kind-requires c =
-    let s = answered-sized c.args.d.now c.args.t (sym c.question_refusal-number.ensures ∙ c.if-number-ne0.false) in
+pub record_at-requires : goal.record_at-requires
+record_at-requires c =
+    let s = answered-sized c.args.d.now c.args.t (passed _ _ c.in_ok-judge.ensures.0) in
     (s.whole, s.known)
 
-pub returns-then-kind-lt2 : goal.returns-then-kind-lt2
+pub bounds-d-5 : goal.bounds-d-5
+bounds-d-5 c = omega (arith, (answered-sized c.args.d.now c.args.t (passed _ _ c.in_ok-judge.ensures.0)).whole.headed)
+
+pub returns-in-Group : goal.returns-in-Group
 unfolding run_answer
-returns-then-kind-lt2 c = (rw (← c.question_refusal-number.ensures, eq-eqb _ _ c.if-number-ne0.false, lt-ltb (kind_at c.args.d.now c.args.t) 2 (omega (arith, c.kind_at-kind.ensures, c.if-kind-lt2.true))), tt)
+returns-in-Group c =
+    let d = c.args.d.now in
+    let q = passed _ _ c.in_ok-judge.ensures.0 in
+    let r = c.in-Group.ensures.1 in
+    (rw (eq-eqb _ _ q, le-ltb (kind_at d c.args.t) 2 r.0, c.from-types.ensures, r.2.second, r.2.count), omega (arith, run-within d c.args.t q r.0, c.from-types.ensures, r.2.second, r.2.count))
 
-pub a_at-first-requires : goal.a_at-first-requires
-a_at-first-requires c =
-    let s = answered-sized c.args.d.now c.args.t (sym c.question_refusal-number.ensures ∙ c.if-number-ne0.false) in
-    (s.whole, s.known)
-
-pub count_at-count-requires : goal.count_at-count-requires
-count_at-count-requires c =
-    let s = answered-sized c.args.d.now c.args.t (sym c.question_refusal-number.ensures ∙ c.if-number-ne0.false) in
-    (s.whole, s.known)
-
-pub byte_at-types-requires : goal.byte_at-types-requires
-byte_at-types-requires c =
-    let s = answered-sized c.args.d.now c.args.t (sym c.question_refusal-number.ensures ∙ c.if-number-ne0.false) in
-    omega (arith, s.whole.headed)
-
-pub returns : goal.returns
+pub returns-in_default : goal.returns-in_default
 unfolding run_answer
-returns c =
-    let q = sym c.question_refusal-number.ensures ∙ c.if-number-ne0.false in
-    let two : 2 ≤ kind_at c.args.d.now c.args.t = omega (arith, c.kind_at-kind.ensures, c.if-kind-lt2.false) in
-    (rw (← c.question_refusal-number.ensures, eq-eqb _ _ c.if-number-ne0.false, le-ltb (kind_at c.args.d.now c.args.t) 2 two, c.byte_at-types.ensures.0, c.a_at-first.ensures.0, c.count_at-count.ensures.0), omega (arith, run-within c.args.d.now c.args.t q two, c.byte_at-types.ensures.0, c.a_at-first.ensures.0, c.count_at-count.ensures.0))
+returns-in_default c =
+    let d = c.args.d.now in
+    let other : kind_at d c.args.t < 2 = no_group d c.args.t _ c.record_at.ensures.1 c.in_default.not-Group in
+    (rw (eq-eqb _ _ (passed _ _ c.in_ok-judge.ensures.0), lt-ltb (kind_at d c.args.t) 2 other), tt)

@@ -1,20 +1,27 @@
 -- `wrong_bool` meets its contract.
 -- Assumes nothing.
-use mathlib.Core.Path.{sym}
+use mathlib.Core.Path.{◌≡◌, sym}
+use Prim.Native.Nat.{◌<◌}
 use native.Mathlib.Omega.{arith}
+use lib.ListN.{length}
+use Rattle.std.proofs.Common.{rules}
 use Rattle.returning.proofs.Answers.{bool-known, bool-test}
 use Rattle.returning.proofs.Orders.{none_right}
 use Rattle.returning.proofs.Values.{whole}
 use Rattle.returning.proofs.refusals.wrong_bool.Goals as goal
 
-pub returns-then-value-eq0 : goal.returns-then-value-eq0
-returns-then-value-eq0 c = sym (none_right _ _ c.if-value-eq0.true)
+pub returns-then-is_empty : goal.returns-then-is_empty
+returns-then-is_empty c = let e : length c.args.value.now ≡ 0 = search rules in sym (none_right _ _ e)
 
-pub byte_at-k-requires : goal.byte_at-k-requires
-byte_at-k-requires c = omega (arith, whole _ c.requires.0)
+pub byte_at-requires : goal.byte_at-requires
+byte_at-requires c = omega (arith, whole _ c.requires.0)
 
 pub broken_byte-requires : goal.broken_byte-requires
-broken_byte-requires c = (whole _ c.requires.0, bool-known _ c.args.value.now c.requires.0 c.requires.1 (omega (arith, c.if-value-eq0.false)) _ c.byte_at-k.ensures.0)
+broken_byte-requires c =
+    let l : 0 < length c.args.value.now = search rules in
+    (whole _ c.requires.0, bool-known _ c.args.value.now c.requires.0 c.requires.1 l _ c.byte_at.ensures.0)
 
 pub returns : goal.returns
-returns c = bool-test _ _ c.requires.0 c.requires.1 (omega (arith, c.if-value-eq0.false)) _ _ _ c.byte_at-k.ensures.0 c.byte_at-byte.ensures.0 c.broken_byte.ensures
+returns c =
+    let l : 0 < length c.args.value.now = search rules in
+    bool-test _ _ c.requires.0 c.requires.1 l _ _ _ c.byte_at.ensures.0 c.byte_at-2.ensures.0 c.broken_byte.ensures

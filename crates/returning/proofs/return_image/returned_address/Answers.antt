@@ -5,10 +5,10 @@ use Rattle.returning.specs.Image.{returned_address}
 use Rattle.images.specs.Words.{address_in}
 use Rattle.returning.proofs.return_image.returned_address.Goals as goal
 
-pub returns-then-not-in_memory : goal.returns-then-not-in_memory
+pub returns-else-in_memory : goal.returns-else-in_memory
 unfolding returned_address
-returns-then-not-in_memory c = rw (sym c.in_memory.ensures ∙ c.if-not-in_memory.true)
+returns-else-in_memory c = rw (sym c.in_memory.ensures ∙ c.if-in_memory.false)
 
-pub returns : goal.returns
+pub returns-then-in_memory : goal.returns-then-in_memory
 unfolding returned_address address_in
-returns c = rw (sym c.in_memory.ensures ∙ c.if-not-in_memory.false) c.address_in.ensures
+returns-then-in_memory c = rw (sym c.in_memory.ensures ∙ c.if-in_memory.true) c.address_in.ensures

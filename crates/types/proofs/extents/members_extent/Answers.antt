@@ -3,7 +3,7 @@ use Prim.Native.Nat.{◌+◌, ◌-◌, max}
 use native.Mathlib.Omega.{arith}
 use Rattle.std.proofs.lemmas.Grind.{common_steps}
 use Rattle.types.proofs.Runs.{run_none, member-low, member-asks, run-rest, run-done}
-use Rattle.types.proofs.Table.{entry-low, entry-extent}
+use Rattle.types.proofs.Table.{entry-extent}
 use Rattle.types.proofs.extents.members_extent.Goals as goal
 
 pub end_after-size-requires : goal.end_after-size-requires

@@ -28,22 +28,22 @@ use Rattle.classify.proofs.aggregates.Known.+type_classes.Goals as goal
 member-extent : (d t : List ℕ) → Sizes (model_in d) d (types_in d) t → (k i n : ℕ) (u : Bool) (x o : ℕ) → AskMembers d k i n u x o → 1 ≤ n → (m : ℕ) → m ≡ member_at d i → (r : Extent) → IsEntry (get_or t m 0) r → IsExtent (model_in d) (ty_at d m) r
 member-extent d t w k i n u x o p pos m em r e = known-extent d t w m (member-ready d k i n u x o p pos m em) r e
 
-pub of_elements-loop-i-init : goal.of_elements-loop-i-init
-of_elements-loop-i-init t c =
+pub of_elements-loop-init : goal.of_elements-loop-init
+of_elements-loop-init t c =
     let e : c.args.count - 0 ≡ c.args.count = omega arith in
     rw e (c.requires.0, λ r h. h ∙ ap (elements_at (classes_at (model_in c.args.self.d.now) 2 (ty_at c.args.self.d.now c.args.k)) c.args.size.0 c.args.count c.args.at.0) none-packed)
 
-pub of_elements-loop-i-preserved : goal.of_elements-loop-i-preserved
-of_elements-loop-i-preserved t c =
-    let e : c.args.count - (c.loop-i.i + 1) ≡ c.args.count - c.loop-i.i - 1 = omega arith in
+pub of_elements-loop-preserved : goal.of_elements-loop-preserved
+of_elements-loop-preserved t c =
+    let e : c.args.count - (c.loop.counter + 1) ≡ c.args.count - c.loop.counter - 1 = omega arith in
     rw e (
-      elements_ask c.args.self.d.now c.args.k (c.args.count - c.loop-i.i) c.args.size.0 c.loop-i.offset.0 c.loop-i.invariant.0 (omega (arith, c.loop-i-test.true)) c.add-offset.result.0 c.add-offset.ensures,
-      λ r h. c.loop-i.invariant.1 r (elements_done (classes_at (model_in c.args.self.d.now) 2 (ty_at c.args.self.d.now c.args.k)) c.args.size.0 (c.args.count - c.loop-i.i) c.loop-i.offset.0 c.add-offset.result.0 (pair_in c.loop-i.merged.0) (pair_in c.at.result.0) (pair_in c.merged-merged.result.0) r (omega (arith, c.loop-i-test.true)) c.at.ensures c.merged-merged.ensures c.add-offset.ensures h),
+      elements_ask c.args.self.d.now c.args.k (c.args.count - c.loop.counter) c.args.size.0 c.loop.offset.0 c.loop.invariant.0 (omega (arith, c.loop-test.true)) c.add-offset.result.0 c.add-offset.ensures,
+      λ r h. c.loop.invariant.1 r (elements_done (classes_at (model_in c.args.self.d.now) 2 (ty_at c.args.self.d.now c.args.k)) c.args.size.0 (c.args.count - c.loop.counter) c.loop.offset.0 c.add-offset.result.0 (pair_in c.loop.merged.0) (pair_in c.at.result.0) (pair_in c.merged-merged.result.0) r (omega (arith, c.loop-test.true)) c.at.ensures c.merged-merged.ensures c.add-offset.ensures h),
     )
 
 pub of_elements-returns : goal.of_elements-returns
 of_elements-returns t c =
-    c.loop-i.invariant.1 (pair_in c.loop-i.merged.0) (elements_none (classes_at (model_in c.args.self.d.now) 2 (ty_at c.args.self.d.now c.args.k)) c.args.size.0 (c.args.count - c.loop-i.i) c.loop-i.offset.0 (pair_in c.loop-i.merged.0) (omega (arith, c.loop-i-test.false)))
+    c.loop.invariant.1 (pair_in c.loop.merged.0) (elements_none (classes_at (model_in c.args.self.d.now) 2 (ty_at c.args.self.d.now c.args.k)) c.args.size.0 (c.args.count - c.loop.counter) c.loop.offset.0 (pair_in c.loop.merged.0) (omega (arith, c.loop-test.false)))
 
 pub of_members-loop-i-init : goal.of_members-loop-i-init
 of_members-loop-i-init t c =
