@@ -1,6 +1,6 @@
 // Conditions 2 to 6 of document 01, "Refusal numbers", each by itself: 2 to 5 of bytes that have a header, 6 of each type record.
 ghost use Rattle.std.specs.Prelude.{◌≡◌, ◌≤◌, ◌+◌, ◌<◌, length};
-ghost use Rattle.form.specs.Conditions.{wrong_mark, wrong_version, wrong_counts, wrong_length, broken_basic, broken_array, high_member, broken_run, broken_record, first_broken};
+ghost use Rattle.form.specs.Conditions.{wrong_mark, wrong_version, wrong_counts, wrong_length, broken_basic, broken_array, high_member, broken_run, broken_record};
 ghost use Rattle.description.specs.Description.{types_in, members_in, Whole};
 ghost use Rattle.form.specs.Search.{first_within};
 
@@ -100,12 +100,4 @@ pub fn lowest_broken(d: &[u8]) -> Option<usize>
     ensures { result ≡ first_within (broken_record d.now) 0 (types_in d.now) }
 {
     (0..description::byte_at(d, 5)).find(|&k| broken_record(d, k))
-}
-
-// The first type whose record is broken, or the number of types.
-pub fn first_broken(d: &[u8]) -> usize
-    requires { Whole d.now }
-    ensures { result ≡ first_broken d.now }
-{
-    lowest_broken(d).unwrap_or(usize::from(d[5]))
 }

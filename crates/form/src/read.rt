@@ -31,16 +31,6 @@ pub fn judge(d: &[u8]) -> Result<(), Refusal>
     Ok(())
 }
 
-// Which of the refusals 1 to 6 the description gets, or 0.
-pub fn form_refusal(d: &[u8]) -> u8
-    ensures { result ≡ form_refusal d.now }
-{
-    match judge(d) {
-        Ok(()) => 0,
-        Err(refusal) => refusal.number,
-    }
-}
-
 // The header of a description of good form, or its refusal among 1 to 6.
 #[tactic(auto, unfolding(crate::specs::Reading::reading_of))]
 pub fn read_form(d: &[u8]) -> Result<Header, Refusal>

@@ -1,17 +1,9 @@
 // A type's entry of the table: its size and alignment in one number, made and read (document 01, "Size/align").
-ghost use Rattle.std.specs.Prelude.{◌≡◌, ◌<◌, ◌≤◌, length, get_or};
+ghost use Rattle.std.specs.Prelude.{◌≡◌, ◌<◌, ◌≤◌, get_or};
 ghost use Rattle.types.specs.Table.{packed, IsEntry};
 
 use crate::Extent;
 use units::Bytes;
-
-// How many entries a table has, which its type says: as a slice it has that as a fact.
-pub fn entries(table: &[u32; 64]) -> usize
-    ensures { (result ≡ 64) × (result ≡ length table.now) }
-{
-    let whole: &[u32] = table;
-    whole.len()
-}
 
 // The entry of a type in a table of sizes and alignments.
 #[tactic(auto, unfolding(crate::specs::Table::packed))]
@@ -20,12 +12,6 @@ pub fn entry_of(extent: Extent) -> u32
     ensures { result ≡ packed extent.size.0 extent.align.0 }
 {
     (extent.size.0 + 8192 * extent.align.0) as u32
-}
-
-pub fn wide(entry: u32) -> usize
-    ensures { result ≡ entry }
-{
-    entry as usize
 }
 
 // Size and alignment that an entry says. Nothing else takes them out of one.
