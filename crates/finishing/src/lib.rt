@@ -10,6 +10,7 @@ ghost use Rattle.walk.specs.Orders.{asking};
 ghost use Rattle.finishing.specs.Rest.{asking_rest, remaining, differs, sizes_from, later_refusal, seated_refusal, finish_refusal, bytes_over, moved_over, walk_left, out_left, finish_walk, finish_out};
 ghost use Rattle.finishing.specs.Asks.{Judged};
 
+use classify::Entry;
 use form::{Reason, Refusal};
 use layout::Described;
 use places::Argument;
@@ -90,8 +91,7 @@ fn fetch_all(known: Described, walk: Walk, registers: &[u8], stack: &[u8], out: 
     for position in walk.position..known.arguments() {
         let ty = description::argument_at(known.bytes, position);
         let argument = Argument {
-            table: known.table,
-            ty,
+            entry: Entry(known.table[ty]),
             named: false,
         };
         let shape = argument.shape();

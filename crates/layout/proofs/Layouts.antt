@@ -25,7 +25,7 @@ use Rattle.layout.specs.Arguments.{is_named, return_place, returned_size, hidden
 use Rattle.layout.specs.Asks.{Before, AskRecord, Alike}
 use Rattle.layout.specs.Placements.{laying_fresh, laying_at, step_at, placement_at}
 use Rattle.layout.specs.Verdict.{verdict}
-use Rattle.layout.specs.Layout.{values_of, layout_of, layout_answer, refusal_in, table_after}
+use Rattle.layout.specs.Layout.{values_of, layout_of, layout_answer, check_answer, refusal_in, table_after}
 use Rattle.layout.specs.declared.Layout.{Layout}
 use Rattle.layout.specs.declared.placements.Laying.{Laying}
 use Rattle.layout.specs.declared.placements.Placement.{Placement}
@@ -183,10 +183,12 @@ refused-nonzero d r e v =
     e' = sym e ∙ answered d true (eq-eqb (verdict d) 0 v)
 
 -- the verdict alone
-pub checked-laid : (d : List ℕ) (l : Layout) → layout_answer d ≡ Ok l → Ok tt ≡ judgment (verdict d) (refusal_for d (verdict d))
+pub checked-laid : (d : List ℕ) (l : Layout) → layout_answer d ≡ Ok l → Ok tt ≡ check_answer d
+unfolding check_answer
 checked-laid d l e = judgment-none _ _ (laid-accepted d l e).0
 
-pub checked-refused : (d : List ℕ) (r : Refusal) → layout_answer d ≡ Err r → Err r ≡ judgment (verdict d) (refusal_for d (verdict d))
+pub checked-refused : (d : List ℕ) (r : Refusal) → layout_answer d ≡ Err r → Err r ≡ check_answer d
+unfolding check_answer
 checked-refused d r e = ap Err (refused-verdict d r e) ∙ judgment-some _ _ (refused-nonzero d r e)
 
 -- the table once it is worked out

@@ -3,7 +3,7 @@
 use Rattle.std.specs.Prelude.{cond, List, ℕ, eqb, Err, Ok, Result}
 use Rattle.description.specs.Description.{types_in, named_in, arguments_in}
 use Rattle.form.specs.declared.Refusal.{Refusal}
-use Rattle.form.specs.Reading.{refusal_of}
+use Rattle.form.specs.Reading.{refusal_of, judgment}
 use Rattle.types.specs.Wrong.{refusal_for}
 use Rattle.types.specs.Table.{filled, sizes_after}
 use Rattle.classify.specs.Table.{full_entry}
@@ -35,6 +35,10 @@ layout_of d = record {
 -- "1..10"
 unfoldable pub layout_answer : List ℕ → Result Layout Refusal
 layout_answer d = cond (eqb (verdict d) 0) (Ok (layout_of d)) (Err (refusal_for d (verdict d)))
+
+-- the verdict alone
+unfoldable pub check_answer : List ℕ → Result (Unit {0}) Refusal
+check_answer d = judgment (verdict d) (refusal_for d (verdict d))
 
 -- the refusal that an answer carries
 abbrev pub refusal_in : Result Layout Refusal → Refusal

@@ -6,7 +6,7 @@ ghost use Rattle.types.specs.Wrong.{refusal_for};
 ghost use Rattle.classify.specs.Table.{Tabled};
 ghost use Rattle.uses.specs.Uses.{uses_refusal};
 ghost use Rattle.layout.specs.Arguments.{used_at};
-ghost use Rattle.layout.specs.Layout.{layout_of, refusal_in, layout_answer, table_after};
+ghost use Rattle.layout.specs.Layout.{layout_of, refusal_in, layout_answer, check_answer, table_after};
 ghost use Rattle.layout.specs.Verdict.{verdict};
 
 use crate::{Described, Laying, Layout};
@@ -103,7 +103,7 @@ pub fn layout_of(d: &[u8]) -> Result<Layout, Refusal>
 
 // Which of the refusals 1 to 10 the description gets.
 pub fn check(d: &[u8]) -> Result<(), Refusal>
-    ensures { result ≡ judgment (verdict d.now) (refusal_for d.now (verdict d.now)) }
+    ensures { result ≡ check_answer d.now }
 {
     layout_of(d)?;
     Ok(())

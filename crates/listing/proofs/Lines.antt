@@ -12,7 +12,7 @@ use Rattle.description.specs.Description.{variadic_in, named_in, arguments_in, r
 use Rattle.places.specs.declared.Used.{Used}
 use Rattle.layout.specs.declared.Layout.{Layout}
 use Rattle.layout.specs.declared.placements.Laying.{Laying}
-use Rattle.layout.specs.declared.placements.Step.{Step}
+use Rattle.layout.specs.declared.placements.Placement.{Placement}
 use Rattle.layout.specs.Asks.{AskRecord}
 use Rattle.layout.specs.Layout.{layout_of, layout_answer}
 use Rattle.layout.specs.Placements.{laying_fresh, laying_at, placement_at, step_at}
@@ -64,20 +64,20 @@ module _ {d : List ℕ} {a b : Text} {x : Laying} {i : ℕ} (g : Going d a b x i
   pub going_asks : i < arguments_in d → AskRecord d i x
   going_asks h = rw g.laid-is (record_asks d (accepted-uses d g.right) i h)
 
-  pub going_record : (s : Step) → s ≡ step_at d x i → s.placement ≡ placement_at d i
-  unfolding step_at placement_at
-  going_record s e = ap (λ (t : Step). t.placement) (e ∙ ap (λ (w : Laying). step_at d w i) g.laid-is)
+  pub going_record : (p : Placement) → p ≡ (step_at d x i).placement → p ≡ placement_at d i
+  unfolding placement_at step_at
+  going_record p e = e ∙ ap (λ (w : Laying). (step_at d w i).placement) g.laid-is
 
-  going_after : (s : Step) → s ≡ step_at d x i → s.after ≡ laying_at d (i + 1)
-  going_after s e = ap (λ (t : Step). t.after) (e ∙ ap (λ (w : Laying). step_at d w i) g.laid-is) ∙ laying_next d i
+  going_after : (y : Laying) → y ≡ (step_at d x i).after → y ≡ laying_at d (i + 1)
+  going_after y e = e ∙ ap (λ (w : Laying). (step_at d w i).after) g.laid-is ∙ laying_next d i
 
-  pub going_next : {c : Text} (s : Step) → s ≡ step_at d x i → i < arguments_in d → Puts 69 b c (record_line i s.placement) → Going d a c s.after (i + 1)
-  going_next s e h w = record {
+  pub going_next : {c : Text} (p : Placement) (y : Laying) → p ≡ (step_at d x i).placement → y ≡ (step_at d x i).after → i < arguments_in d → Puts 69 b c (record_line i p) → Going d a c y (i + 1)
+  going_next p y e f h w = record {
     right = g.right;
     most = omega arith;
-    laid-is = going_after s e;
+    laid-is = going_after y f;
     puts =
-        puts_same (puts_more (puts_join g.puts (puts_same w (ap (record_line i) (going_record s e)))) (omega arith))
+        puts_same (puts_more (puts_join g.puts (puts_same w (ap (record_line i) (going_record p e)))) (omega arith))
         (records-next d i);
   }
 

@@ -10,38 +10,35 @@ mod line_writing; // each line, written
 
 ghost use Rattle.std.specs.Prelude.{◌≡◌, ◌++◌, ◌+◌, ◌≤◌, length, drop};
 ghost use Rattle.description.specs.Description.{arguments_in};
-ghost use Rattle.classify.specs.Table.{Tabled};
 ghost use Rattle.listing.specs.Puts.{Puts};
 ghost use Rattle.listing.specs.Listing.{record_lines, laid_text, listing};
 ghost use Rattle.listing.specs.Asks.{Accepted};
 
-use layout::Layout;
+use layout::{Described, Laying, Layout};
 
 // A line for each argument.
-fn put_records(d: &[u8], text: &mut Text, layout: Layout, table: &[u32; 64])
-    requires { (text.old.at + 4416 ≤ 8192) × Accepted d.now layout × Tabled d.now table.now }
-    ensures { Puts 4416 text.old text.new (record_lines d.now 0 (arguments_in d.now)) }
+fn put_records(described: Described, text: &mut Text, layout: Layout)
+    requires { (text.old.at + 4416 ≤ 8192) × Accepted described.bytes.now layout }
+    ensures { Puts 4416 text.old text.new (record_lines described.entry.bytes.now 0 (arguments_in described.entry.bytes.now)) }
 {
-    let count = description::byte_at(d, 8);
-    let mut before = layout::laying_fresh(layout.hidden);
-    for i in 0..count {
-        let step = layout::place_argument(d, before, i, table);
-        line_writing::put_record(text, i, step.placement);
-        before = step.after;
+    let mut laying = Laying::fresh(layout.hidden);
+    for i in 0..described.arguments() {
+        let placement = described.place_argument(i, &mut laying);
+        line_writing::put_record(text, i, placement);
     }
 }
 
 // The lines of an accepted description.
-fn put_laid(d: &[u8], text: &mut Text, layout: Layout, table: &[u32; 64])
-    requires { (text.old.at + 4540 ≤ 8192) × Accepted d.now layout × Tabled d.now table.now }
-    ensures { Puts 4540 text.old text.new (laid_text d.now layout) }
+fn put_laid(described: Described, text: &mut Text, layout: Layout)
+    requires { (text.old.at + 4540 ≤ 8192) × Accepted described.bytes.now layout }
+    ensures { Puts 4540 text.old text.new (laid_text described.entry.bytes.now layout) }
 {
-    let first = description::byte_at(d, 7);
-    let all = description::byte_at(d, 8);
-    let k = description::byte_at(d, 9);
-    let variadic = description::variadic_in(d);
+    let all = described.arguments();
+    let first = described.named();
+    let k = description::byte_at(described.bytes, 9);
+    let variadic = description::variadic_in(described.bytes);
     line_writing::put_head(text, all, first, layout);
-    put_records(d, text, layout, table);
+    put_records(described, text, layout);
     line_writing::put_return(text, k, layout.returns);
     line_writing::put_walk(text, variadic, layout.named);
 }
@@ -53,7 +50,13 @@ fn put_listing(d: &[u8], text: &mut Text)
 {
     let mut table = [0u32; 64];
     match layout::layout_with(d, &mut table) {
-        Ok(layout) => put_laid(d, text, layout, &table),
+        Ok(layout) => {
+            let described = Described {
+                bytes: d,
+                table: &table,
+            };
+            put_laid(described, text, layout);
+        }
         Err(refusal) => line_writing::put_refused(text, refusal),
     }
 }
@@ -63,7 +66,7 @@ pub fn write_listing(d: &[u8], out: &mut [u8; 8192]) -> usize
     ensures { (result ≡ length (listing d.now)) × (result ≤ 4540)
         × (out.new ≡ listing d.now ++ drop (length (listing d.now)) out.old) }
 {
-    let mut text = Text::new(out);
+    let mut text = Text { out, at: 0 };
     put_listing(d, &mut text);
     text.at
 }

@@ -27,9 +27,10 @@ pub fn judge_form(d: &[u8]) -> Result<(), Refusal>
         Ok(()) => with_flags(d, Ok(())),
         Err(refusal) => {
             if refusal.number < 5 {
-                return Err(refusal);
+                Err(refusal)
+            } else {
+                with_flags(d, Err(refusal))
             }
-            with_flags(d, Err(refusal))
         }
     }
 }

@@ -18,10 +18,9 @@ use Rattle.places.specs.Recorded.{place_of}
 use Rattle.images.specs.Asks.{Known, Single, Alone, Inside}
 use Rattle.layout.specs.Arguments.{hidden, shape_at, shapes_from, shapes, used_first, area_of}
 use Rattle.layout.specs.Layout.{values_of}
-use Rattle.layout.specs.Placements.{laying_fresh, step_at}
+use Rattle.layout.specs.Placements.{Step, laying_fresh, step_at}
 use Rattle.layout.specs.Verdict.{verdict}
 use Rattle.layout.specs.declared.placements.Laying.{Laying}
-use Rattle.layout.specs.declared.placements.Step.{Step}
 use Rattle.layout.proofs.Arguments.{shapes-cons, shapes-end}
 use Rattle.layout.proofs.Bounds.{arguments-few}
 use Rattle.layout.proofs.Verdict.{accepted-area}

@@ -33,6 +33,7 @@ use Rattle.plans.proofs.Cuts.{within-cut, within-joined}
 use Rattle.plans.proofs.Rooms.{all-fit}
 use Rattle.plans.proofs.Theorems.{values-few, plan_room_lem, plan_numbers}
 use Rattle.planning.specs.Planning.{overwritten, call_numbers, count_numbers, return_numbers}
+use Rattle.planning.specs.declared.lists.Kind.TheVariants.{Eights, Fours, Parts as OtherParts}
 use Rattle.planning.specs.Joining.{all_of}
 use Rattle.planning.specs.Asks.{AskMoves}
 use Rattle.planning.proofs.Writing.{over-append, over-comm, all-eights, all-fours, all-parts}
@@ -188,15 +189,15 @@ module _ (d : List ℕ) where
   plan_length = omega (arith, length-append E (F ++ (P ++ B)), length-append F (P ++ B), length-append P B)
 
   module _ (accepted : verdict d ≡ 0) (ms : List Move) (are : ms ≡ joined (cut (used_first d) 0 (shapes d))) where
-    pub eights-are : all_of 8 ms ≡ E
+    pub eights-are : all_of Eights ms ≡ E
     unfolding moves_of
     eights-are = all-eights ms ∙ ap (λ (x : List Move). twos (eights (halved x))) are
 
-    pub fours-are : all_of 4 ms ≡ F
+    pub fours-are : all_of Fours ms ≡ F
     unfolding moves_of
     fours-are = all-fours ms ∙ ap (λ (x : List Move). twos (fours (halved x))) are
 
-    pub parts_are : all_of 0 ms ≡ P
+    pub parts_are : all_of OtherParts ms ≡ P
     unfolding moves_of
     parts_are = all-parts ms ∙ ap (λ (x : List Move). threes (parts (halved x))) are
 
@@ -211,18 +212,18 @@ module _ (d : List ℕ) where
 
     -- there is room for all of them
     module _ (n : ℕ) (room : 392 ≤ n) where
-      pub room-eights : 16 + length (all_of 8 ms) ≤ n
+      pub room-eights : 16 + length (all_of Eights ms) ≤ n
       room-eights = omega (arith, ap (λ (x : List ℕ). length x) eights-are, plan_length, plan_room_lem d accepted)
 
-      module _ (a : ℕ) (qa : a ≡ 16 + length (all_of 8 ms)) where
-        pub room-fours : a + length (all_of 4 ms) ≤ n
+      module _ (a : ℕ) (qa : a ≡ 16 + length (all_of Eights ms)) where
+        pub room-fours : a + length (all_of Fours ms) ≤ n
         room-fours = omega (arith, ap (λ (x : List ℕ). length x) eights-are, ap (λ (x : List ℕ). length x) fours-are, plan_length, plan_room_lem d accepted)
 
-        module _ (b : ℕ) (qb : b ≡ a + length (all_of 4 ms)) where
-          pub room-parts : b + length (all_of 0 ms) ≤ n
+        module _ (b : ℕ) (qb : b ≡ a + length (all_of Fours ms)) where
+          pub room-parts : b + length (all_of OtherParts ms) ≤ n
           room-parts = omega (arith, ap (λ (x : List ℕ). length x) eights-are, ap (λ (x : List ℕ). length x) fours-are, ap (λ (x : List ℕ). length x) parts_are, plan_length, plan_room_lem d accepted)
 
-          module _ (c : ℕ) (qc : c ≡ b + length (all_of 0 ms)) where
+          module _ (c : ℕ) (qc : c ≡ b + length (all_of OtherParts ms)) where
             pub room-bools : c + length B ≤ n
             room-bools = omega (arith, ap (λ (x : List ℕ). length x) eights-are, ap (λ (x : List ℕ). length x) fours-are, ap (λ (x : List ℕ). length x) parts_are, plan_length, plan_room_lem d accepted)
 
@@ -249,12 +250,12 @@ module _ (d : List ℕ) where
                   (omega (arith, count-eights, k.0), (omega (arith, count-fours, k.1.0), (omega (arith, count-parts, k.1.1.0), omega (arith, count-bools, k.1.1.1.0))))
 
               -- the lists behind one another, then what stands before them
-              module _ (p p1 p2 p3 p4 p5 p6 p7 p8 : List ℕ) (q1 : p1 ≡ overwritten p 16 (all_of 8 ms)) (q2 : p2 ≡ overwritten p1 a (all_of 4 ms)) (q3 : p3 ≡ overwritten p2 b (all_of 0 ms))
+              module _ (p p1 p2 p3 p4 p5 p6 p7 p8 : List ℕ) (q1 : p1 ≡ overwritten p 16 (all_of Eights ms)) (q2 : p2 ≡ overwritten p1 a (all_of Fours ms)) (q3 : p3 ≡ overwritten p2 b (all_of OtherParts ms))
                   (q4 : p4 ≡ overwritten p3 c B) (q5 : p5 ≡ overwritten p4 0 (call_numbers (head_of d))) (q6 : p6 ≡ overwritten p5 4 ((a - 16) / 2 ∷ (b - a) / 2 ∷ []))
                   (q7 : p7 ≡ overwritten p6 6 ((c - b) / 3 ∷ (e - c) ∷ [])) (q8 : p8 ≡ overwritten p7 8 (return_numbers (head_of d))) where
                 lists_two : p2 ≡ overwritten p 16 (E ++ F)
                 lists_two =
-                    q2 ∙ ap₂ (λ (l : List ℕ) (i : ℕ). overwritten l i (all_of 4 ms)) q1 qa ∙ over-append p 16 (all_of 8 ms) (all_of 4 ms)
+                    q2 ∙ ap₂ (λ (l : List ℕ) (i : ℕ). overwritten l i (all_of Fours ms)) q1 qa ∙ over-append p 16 (all_of Eights ms) (all_of Fours ms)
                     ∙ ap₂ (λ (x y : List ℕ). overwritten p 16 (x ++ y)) eights-are fours-are
 
                 place-three : b ≡ 16 + length (E ++ F)
@@ -262,7 +263,7 @@ module _ (d : List ℕ) where
 
                 lists_three : p3 ≡ overwritten p 16 ((E ++ F) ++ P)
                 lists_three =
-                    q3 ∙ ap₂ (λ (l : List ℕ) (i : ℕ). overwritten l i (all_of 0 ms)) lists_two place-three ∙ over-append p 16 (E ++ F) (all_of 0 ms)
+                    q3 ∙ ap₂ (λ (l : List ℕ) (i : ℕ). overwritten l i (all_of OtherParts ms)) lists_two place-three ∙ over-append p 16 (E ++ F) (all_of OtherParts ms)
                     ∙ ap (λ (y : List ℕ). overwritten p 16 ((E ++ F) ++ y)) parts_are
 
                 place-four : c ≡ 16 + length ((E ++ F) ++ P)

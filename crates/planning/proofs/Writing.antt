@@ -6,7 +6,7 @@ use mathlib.Core.List.{List, [], ◌∷◌, ◌++◌}
 use Prim.Native.Nat.{ℕ, suc, ◌+◌, ◌*◌, ◌-◌, ◌≤◌, ◌<◌}
 use native.Mathlib.Numerals.{add-one}
 use native.Mathlib.Omega.{arith}
-use borrow.Author.Tests.{eq-eqb, ne_eqb}
+use borrow.Author.Tests.{ne_eqb}
 use lib.Dec.{eqb}
 use lib.ListN.{length, get_or, set, length-append}
 use Rattle.addresses.specs.Addresses.{run, scatter, Absent}
@@ -18,6 +18,8 @@ use Rattle.plans.specs.Cuts.{select, is_long, low, high, halved, eights, others,
 use Rattle.plans.proofs.Orders.{scatter-comm}
 use Rattle.plans.proofs.Steps.{triple, triples_step, triples_none, move-room, move-rest}
 use Rattle.planning.specs.Planning.{overwritten}
+use Rattle.planning.specs.declared.lists.Kind.{Kind}
+use Rattle.planning.specs.declared.lists.Kind.TheVariants.{Eights, Fours, Parts}
 use Rattle.planning.specs.Joining.{move, numbers_of, all_of}
 use Rattle.planning.specs.Asks.{AskMove, AskMoves}
 
@@ -82,14 +84,14 @@ module _ (s t b : ℕ) where
   pub parts-one : b ≢ 8 → b ≢ 16 → b ≢ 4 → threes (parts (halved (move s t b ∷ []))) ≡ s ∷ t ∷ b ∷ []
   parts-one n m k = rw (ne_eqb b 16 m, ne_eqb b 8 n, ne_eqb b 4 k)
 
-  pub kind-eights : (kind : ℕ) → kind ≡ 8 → numbers_of kind (move s t b) ≡ twos (eights (halved (move s t b ∷ [])))
-  kind-eights kind e = ap (λ (x : Bool). cond x (twos (eights (halved (move s t b ∷ [])))) (cond (eqb kind 4) (twos (fours (halved (move s t b ∷ [])))) (threes (parts (halved (move s t b ∷ [])))))) (eq-eqb kind 8 e)
+  pub kind-eights : (kind : Kind) → kind ≡ Eights → numbers_of kind (move s t b) ≡ twos (eights (halved (move s t b ∷ [])))
+  kind-eights kind e = ap (λ (k : Kind). numbers_of k (move s t b)) e
 
-  pub kind-fours : (kind : ℕ) → kind ≢ 8 → kind ≡ 4 → numbers_of kind (move s t b) ≡ twos (fours (halved (move s t b ∷ [])))
-  kind-fours kind n e = ap₂ (λ (x y : Bool). cond x (twos (eights (halved (move s t b ∷ [])))) (cond y (twos (fours (halved (move s t b ∷ [])))) (threes (parts (halved (move s t b ∷ [])))))) (ne_eqb kind 8 n) (eq-eqb kind 4 e)
+  pub kind-fours : (kind : Kind) → kind ≡ Fours → numbers_of kind (move s t b) ≡ twos (fours (halved (move s t b ∷ [])))
+  kind-fours kind e = ap (λ (k : Kind). numbers_of k (move s t b)) e
 
-  pub kind-parts : (kind : ℕ) → kind ≢ 8 → kind ≢ 4 → numbers_of kind (move s t b) ≡ threes (parts (halved (move s t b ∷ [])))
-  kind-parts kind n m = ap₂ (λ (x y : Bool). cond x (twos (eights (halved (move s t b ∷ [])))) (cond y (twos (fours (halved (move s t b ∷ [])))) (threes (parts (halved (move s t b ∷ [])))))) (ne_eqb kind 8 n) (ne_eqb kind 4 m)
+  pub kind-parts : (kind : Kind) → kind ≡ Parts → numbers_of kind (move s t b) ≡ threes (parts (halved (move s t b ∷ [])))
+  kind-parts kind e = ap (λ (k : Kind). numbers_of k (move s t b)) e
 
 -- what was written, and where the next number goes, by which numbers these are
 pub wrote_as : (l x xs ys : List ℕ) (i r : ℕ) → ys ≡ xs → (x ≡ overwritten l i xs) × (r ≡ i + length xs) → (x ≡ overwritten l i ys) × (r ≡ i + length ys)
@@ -131,7 +133,7 @@ threes-append : (ms ns : List Move) → threes (ms ++ ns) ≡ threes ms ++ three
 threes-append [] ns = refl
 threes-append (m ∷ ms) ns = ap (λ (l : List ℕ). m.source ∷ m.target ∷ m.count ∷ l) (threes-append ms ns)
 
-pub all-eights : (ms : List Move) → all_of 8 ms ≡ twos (eights (halved ms))
+pub all-eights : (ms : List Move) → all_of Eights ms ≡ twos (eights (halved ms))
 all-eights [] = refl
 all-eights (m ∷ ms) =
     ap (λ (l : List ℕ). twos (eights (halved (m ∷ []))) ++ l) (all-eights ms)
@@ -141,7 +143,7 @@ all-eights (m ∷ ms) =
 others-append : (ms ns : List Move) → others (ms ++ ns) ≡ others ms ++ others ns
 others-append ms ns = select-append (λ m. not (is_long 8 m)) ms ns
 
-pub all-fours : (ms : List Move) → all_of 4 ms ≡ twos (fours (halved ms))
+pub all-fours : (ms : List Move) → all_of Fours ms ≡ twos (fours (halved ms))
 all-fours [] = refl
 all-fours (m ∷ ms) =
     ap (λ (l : List ℕ). twos (fours (halved (m ∷ []))) ++ l) (all-fours ms)
@@ -149,7 +151,7 @@ all-fours (m ∷ ms) =
     ∙ ap (λ (l : List Move). twos (select (is_long 4) l)) (others-append (halved (m ∷ [])) (halved ms))
     ∙ ap twos (select-append (is_long 4) (others (halved (m ∷ []))) (others (halved ms))) ∙ twos-append (fours (halved (m ∷ []))) (fours (halved ms)))
 
-pub all-parts : (ms : List Move) → all_of 0 ms ≡ threes (parts (halved ms))
+pub all-parts : (ms : List Move) → all_of Parts ms ≡ threes (parts (halved ms))
 all-parts [] = refl
 all-parts (m ∷ ms) =
     ap (λ (l : List ℕ). threes (parts (halved (m ∷ []))) ++ l) (all-parts ms)
@@ -159,7 +161,7 @@ all-parts (m ∷ ms) =
 
 -- ---- the loop over them
 
-module _ (M : List ℕ) (kind : ℕ) (list : List ℕ) (begin count : ℕ) where
+module _ (M : List ℕ) (kind : Kind) (list : List ℕ) (begin count : ℕ) where
   abbrev pub the_list : List ℕ
   the_list = all_of kind (triples M 0 count)
 
@@ -212,3 +214,6 @@ module _ (M : List ℕ) (kind : ℕ) (list : List ℕ) (begin count : ℕ) where
   writing-last plan at i left l t =
       let e : all_of kind (triples M i left) ≡ [] = ap (all_of kind) (triples_none M i left l) in
       (sym (ap (overwritten plan at) e) ∙ t.same, omega (arith, ap (λ (x : List ℕ). length x) e, t.ends))
+
+  pub writing-as : (plan : List ℕ) (at i left j rest : ℕ) → j ≡ i → rest ≡ left → Writing plan at i left → Writing plan at j rest
+  writing-as plan at i left j rest e f t = rw (e, f) t

@@ -2,6 +2,8 @@
 -- nothing: these are definitions.
 use Rattle.std.specs.Prelude.{Bool, false, cond, ◌&&◌, List, [], ◌∷◌, ◌++◌, ℕ, ◌+◌, eqb}
 use Rattle.plans.specs.Moves.{Move}
+use Rattle.planning.specs.declared.lists.Kind.{Kind}
+use Rattle.planning.specs.declared.lists.Kind.TheVariants.{Eights, Fours, Parts}
 use Rattle.plans.specs.Cuts.{adjoin, longer, halved, eights, fours, parts, twos, threes}
 
 abbrev pub move : ℕ → ℕ → ℕ → Move
@@ -29,10 +31,12 @@ abbrev pub goes_on : List Move → ℕ → ℕ → Bool
 goes_on [] s t = false
 goes_on (l ∷ ls) s t = last_goes l ls s t
 
--- what a move writes into the list of a kind: 8 the eights, 4 the fours, any other the parts
-abbrev pub numbers_of : ℕ → Move → List ℕ
-numbers_of kind m = cond (eqb kind 8) (twos (eights (halved (m ∷ [])))) (cond (eqb kind 4) (twos (fours (halved (m ∷ [])))) (threes (parts (halved (m ∷ [])))))
+-- what a move writes into the list of a kind
+abbrev pub numbers_of : Kind → Move → List ℕ
+numbers_of Eights m = twos (eights (halved (m ∷ [])))
+numbers_of Fours m = twos (fours (halved (m ∷ [])))
+numbers_of Parts m = threes (parts (halved (m ∷ [])))
 
-abbrev pub all_of : ℕ → List Move → List ℕ
+abbrev pub all_of : Kind → List Move → List ℕ
 all_of kind [] = []
 all_of kind (m ∷ ms) = numbers_of kind m ++ all_of kind ms

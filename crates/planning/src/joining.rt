@@ -1,6 +1,5 @@
 // The moves of all arguments, as numbers in a row, three each: source, target and bytes. Neighbours are joined as they come.
 ghost use Rattle.std.specs.Prelude.{◌≡◌, true, ◌+◌, ◌*◌, ◌-◌, ◌≤◌, ◌<◌, length, get_or};
-ghost use Rattle.classify.specs.Table.{Tabled};
 ghost use Rattle.places.specs.Recorded.{place_of};
 ghost use Rattle.layout.specs.Arguments.{hidden, shapes, used_first};
 ghost use Rattle.layout.specs.Verdict.{verdict};
@@ -10,6 +9,7 @@ ghost use Rattle.planning.specs.Joining.{move, added, added_all, goes_on};
 ghost use Rattle.planning.specs.Asks.{AskCut, AskAlone, AskMove};
 
 use crate::numbers;
+use layout::{Described, Laying, Placement};
 use places::{Place, Register};
 use units::Bytes;
 
@@ -83,23 +83,21 @@ fn cut_one(moves: &mut [u16], count: usize, place: Place, size: Bytes, at: Bytes
 }
 
 // The moves of all arguments; answers how many.
-pub fn join_all(d: &[u8], used: bool, table: &[u32; 64], moves: &mut [u16]) -> usize
-    requires { (verdict d.now ≡ 0) × (used ≡ hidden d.now) × Tabled d.now table.now × (length moves.old ≡ 384) }
-    ensures { (triples moves.new 0 result ≡ joined (cut (used_first d.now) 0 (shapes d.now))) × (result ≤ 128) }
+pub fn join_all(described: Described, used: bool, moves: &mut [u16]) -> usize
+    requires { (verdict described.bytes.now ≡ 0) × (length moves.old ≡ 384) × (used ≡ hidden described.bytes.now) }
+    ensures { (triples moves.new 0 result ≡ joined (cut (used_first described.entry.bytes.now) 0 (shapes described.entry.bytes.now))) × (result ≤ 128) }
 {
-    let arguments = description::byte_at(d, 8);
-    let mut before = layout::laying_fresh(used);
+    let mut laying = Laying::fresh(used);
     let mut count = 0;
-    let mut i = 0;
-    while i < arguments {
-        let step = layout::place_argument(d, before, i, table);
-        let placement = step.placement;
-        let place = placement.place;
-        let size = placement.size;
-        let at = placement.at;
+    for i in 0..described.arguments() {
+        let placement = described.place_argument(i, &mut laying);
+        let Placement {
+            place,
+            size,
+            at,
+            ..
+        } = placement;
         count = cut_one(moves, count, place, size, at);
-        before = step.after;
-        i += 1;
     }
     count
 }

@@ -1,9 +1,7 @@
 // The lists of a plan, written into the lent list one behind the other.
 ghost use Rattle.std.specs.Prelude.{◌≡◌, [], ◌∷◌, ◌+◌, ◌*◌, ◌≤◌, ◌<◌, length};
-ghost use Rattle.classify.specs.Table.{Tabled};
-ghost use Rattle.description.specs.Description.{types_in, arguments_in, Whole};
+ghost use Rattle.description.specs.Description.{arguments_in};
 ghost use Rattle.layout.specs.Verdict.{verdict};
-ghost use Rattle.moving.specs.Orders.{is_bool};
 ghost use Rattle.plans.specs.Plans.{triples};
 ghost use Rattle.plans.specs.Cuts.{halved, eights, fours, parts, twos, threes, bools_from};
 ghost use Rattle.planning.specs.Planning.{overwritten};
@@ -11,7 +9,16 @@ ghost use Rattle.planning.specs.Joining.{move, numbers_of, all_of};
 ghost use Rattle.planning.specs.Asks.{AskMove, AskMoves};
 
 use crate::numbers;
+use layout::Described;
 use units::Bytes;
+
+// The lists of moves: of eight bytes, of four, and of any other number of them.
+#[derive(Clone, Copy)]
+pub enum Kind {
+    Eights,
+    Fours,
+    Parts,
+}
 
 // ---- the lists of moves
 
@@ -61,11 +68,11 @@ fn put_part(plan: &mut [u16], at: usize, source: usize, target: usize, bytes: us
     numbers::put_three(plan, at, source, target, bytes)
 }
 
-// A move in the list of one kind: 8 the eights, 4 the fours, any other the parts.
+// A move in the list of one kind.
 fn put_kind(
     plan: &mut [u16],
     at: usize,
-    kind: usize,
+    kind: Kind,
     source: usize,
     target: usize,
     bytes: usize,
@@ -74,64 +81,45 @@ fn put_kind(
     ensures { (plan.new ≡ overwritten plan.old at (numbers_of kind (move source target bytes)))
         × (result ≡ at + length (numbers_of kind (move source target bytes))) }
 {
-    if kind == 8 {
-        return put_eights(plan, at, source, target, bytes);
+    match kind {
+        Kind::Eights => put_eights(plan, at, source, target, bytes),
+        Kind::Fours => put_four(plan, at, source, target, bytes),
+        Kind::Parts => put_part(plan, at, source, target, bytes),
     }
-    if kind == 4 {
-        return put_four(plan, at, source, target, bytes);
-    }
-    put_part(plan, at, source, target, bytes)
 }
 
 // The list of one kind, of all moves, from index `first` on; answers where it ends.
-pub fn write_kind(moves: &[u16], count: usize, kind: usize, plan: &mut [u16], first: usize) -> usize
+pub fn write_kind(moves: &[u16], count: usize, kind: Kind, plan: &mut [u16], first: usize) -> usize
     requires { (3 * count ≤ length moves.now) × (first + length (all_of kind (triples moves.now 0 count)) ≤ length plan.old)
         × AskMoves (triples moves.now 0 count) }
     ensures { (plan.new ≡ overwritten plan.old first (all_of kind (triples moves.now 0 count)))
         × (result ≡ first + length (all_of kind (triples moves.now 0 count))) }
 {
     let mut at = first;
-    let mut i = 0;
-    let mut left = count;
-    while 0 < left {
-        let source = numbers::number_at(moves, i);
-        let target = numbers::number_at(moves, i + 1);
-        let bytes = numbers::number_at(moves, i + 2);
+    for k in 0..count {
+        let source = numbers::number_at(moves, 3 * k);
+        let target = numbers::number_at(moves, 3 * k + 1);
+        let bytes = numbers::number_at(moves, 3 * k + 2);
         at = put_kind(plan, at, kind, source, target, bytes);
-        i += 3;
-        left -= 1;
     }
     at
 }
 
 // ---- the _Bool arguments
 
-// Whether type k is _Bool, by its own record.
-pub fn is_bool(d: &[u8], k: usize) -> bool
-    requires { Whole d.now × (k < types_in d.now) }
-    ensures { result ≡ is_bool d.now k }
-{
-    if description::kind_at(d, k) != 0 {
-        return false;
-    }
-    description::a_at(d, k) == 0
-}
-
 // Where the _Bool arguments begin, from index `first` on; answers where the list ends.
-pub fn write_bools(d: &[u8], table: &[u32; 64], plan: &mut [u16], first: usize) -> usize
-    requires { (verdict d.now ≡ 0) × Tabled d.now table.now × (first + length (bools_from d.now 0 (arguments_in d.now)) ≤ length plan.old) }
-    ensures { (plan.new ≡ overwritten plan.old first (bools_from d.now 0 (arguments_in d.now)))
-        × (result ≡ first + length (bools_from d.now 0 (arguments_in d.now))) }
+pub fn write_bools(described: Described, plan: &mut [u16], first: usize) -> usize
+    requires { (verdict described.bytes.now ≡ 0) × (first + length (bools_from described.bytes.now 0 (arguments_in described.bytes.now)) ≤ length plan.old) }
+    ensures { (plan.new ≡ overwritten plan.old first (bools_from described.entry.bytes.now 0 (arguments_in described.entry.bytes.now)))
+        × (result ≡ first + length (bools_from described.entry.bytes.now 0 (arguments_in described.entry.bytes.now))) }
 {
-    let arguments = description::byte_at(d, 8);
+    let d = described.bytes;
     let mut at = first;
     let mut start = Bytes(0);
-    let mut i = 0;
-    while i < arguments {
+    for i in 0..described.arguments() {
         let k = description::argument_at(d, i);
-        at = numbers::put_if(is_bool(d, k), plan, at, start.0);
-        start = units::plus(start, types::extent_in(table, k).size);
-        i += 1;
+        at = numbers::put_if(moving::is_bool(d, k), plan, at, start.0);
+        start = start + types::extent_in(described.table, k).size;
     }
     at
 }

@@ -7,7 +7,7 @@ pub fn number_at(list: &[u16], i: usize) -> usize
     requires { i < length list.now }
     ensures { (result ≡ get_or list.now i 0) × (result < 65536) }
 {
-    list[i] as usize
+    usize::from(list[i])
 }
 
 // Two numbers, and three; each answers where the next one goes.

@@ -3,7 +3,7 @@
 #![tactic(auto)]
 
 pub use calls::{put_returned, take_returned};
-pub use return_image::{length_for, parts_of};
+pub use return_image::{Parts, length_for, parts_of};
 
 mod return_image; // a value into the return images and out again
 mod refusals; // 11 and 12

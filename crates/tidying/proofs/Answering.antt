@@ -55,10 +55,6 @@ pub tidy-none_exactly : (d : List ℕ) (room : ℕ) → (tidy_refusal d room ≡
 unfolding tidy_refusal
 tidy-none_exactly d room = accepts-exactly (tidy_order d room) (tidy-positive d room)
 
-number_in : (d : List ℕ) (n : ℕ) → (refusal_for d n).number ≡ n
-unfolding refusal_for refusal_by refusal_at
-number_in d n = refl
-
 -- ---- what numbering answers
 
 module _ (d : List ℕ) where
@@ -86,16 +82,9 @@ module _ (d : List ℕ) where
   unfolding too_many
   length-few h = ltb-false 255 (separate (table_of (call_of d))) ((length-none_exactly d).0 h).1.1.1.1.1.1.1.1.1.1.0
 
-  pub accepted-number : (r : Refusal) → r ≡ refusal_for d (verdict d) → r.number ≡ 0 → verdict d ≡ 0
-  accepted-number r e h = sym (number_in d (verdict d)) ∙ ap (λ (x : Refusal). x.number) (sym e) ∙ h
-
   -- 1 to 10
-  module _ (r : Refusal) (e : r ≡ refusal_for d (verdict d)) (h : r.number ≡ 0 → ⊥) where
-    refused : verdict d ≢ 0
-    refused q = h (ap (λ (x : Refusal). x.number) e ∙ number_in d (verdict d) ∙ q)
-
-    pub number-early : (length_refusal d ≢ 0) × (r ≡ refusal_for d (length_refusal d))
-    number-early = let q = length-verdict refused in (λ z. refused (sym q ∙ z), e ∙ ap (refusal_for d) (sym q))
+  pub number-early : verdict d ≢ 0 → (r : Refusal) → r ≡ refusal_for d (verdict d) → (length_refusal d ≢ 0) × (r ≡ refusal_for d (length_refusal d))
+  number-early h r e = let q = length-verdict h in (λ z. h (sym q ∙ z), e ∙ ap (refusal_for d) (sym q))
 
   -- 29
   pub number-many : verdict d ≡ 0 → 255 < separate (table_of (call_of d)) → (r : Refusal) → r ≡ refusal_of 29 → (length_refusal d ≢ 0) × (r ≡ refusal_for d (length_refusal d))

@@ -6,6 +6,7 @@ ghost use Rattle.walk.specs.Orders.{asking, astray, show_refusal, rest_refusal};
 ghost use Rattle.walk.specs.Asks.{IsStanding};
 
 use crate::Walk;
+use classify::Entry;
 use form::{Reason, Refusal};
 use layout::Described;
 use places::{Argument, Shape};
@@ -53,8 +54,7 @@ fn stands(station: Station, d: &[u8], walk: Walk, stack: &[u8], asked: u8) -> Re
         return Err(Refusal::from(Reason::WrongBuffer));
     }
     let argument = Argument {
-        table: &table,
-        ty,
+        entry: Entry(table[ty]),
         named: false,
     };
     Ok(argument.shape())

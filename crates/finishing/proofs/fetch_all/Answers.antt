@@ -19,8 +19,11 @@ loop-position-init c = (fetched_first c.args.known.bytes.now c.args.walk (asking
 pub argument_at-ty-requires : goal.argument_at-ty-requires
 argument_at-ty-requires c = ((accepted-typed c.args.known.bytes.now c.args.known.judged).whole, rw (sym c.arguments-position-end.ensures) c.loop-position-test.true)
 
-pub invariant_of-argument : goal.invariant_of-argument
-invariant_of-argument c = record { low = type-low c.args.known.bytes.now c.args.known.judged c.loop-position.position c.argument_at-ty.result (rw (sym c.arguments-position-end.ensures) c.loop-position-test.true) c.argument_at-ty.ensures }
+pub bounds-known-ty : goal.bounds-known-ty
+bounds-known-ty c = type-low c.args.known.bytes.now c.args.known.judged c.loop-position.position c.argument_at-ty.result (rw (sym c.arguments-position-end.ensures) c.loop-position-test.true) c.argument_at-ty.ensures
+
+pub offset_bounds-known-ty : goal.offset_bounds-known-ty
+offset_bounds-known-ty c = omega (arith, type-low c.args.known.bytes.now c.args.known.judged c.loop-position.position c.argument_at-ty.result (rw (sym c.arguments-position-end.ensures) c.loop-position-test.true) c.argument_at-ty.ensures)
 
 pub overflow_add-end : goal.overflow_add-end
 overflow_add-end c = let z = fits_in c.args.known.bytes.now c.args.walk c.loop-position.at c.args.registers.now c.args.stack.now c.loop-position.done (length c.args.out.now) c.loop-position.out c.args.known.judged c.loop-position.invariant.0 (omega (arith, c.loop-position-test.true, c.loop-position.invariant.1, c.arguments-position-end.ensures)) c.args.known.table.now c.args.known.tabled c.argument_at-ty.result (c.argument_at-ty.ensures ∙ ap (argument_at c.args.known.bytes.now) (sym c.loop-position.invariant.1)) c.shape-shape.result c.shape-shape.ensures in omega (arith, z, c.loop-position.invariant.0.long)

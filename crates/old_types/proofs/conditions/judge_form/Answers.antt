@@ -16,8 +16,8 @@ returns-in-Ok c = c.with_flags.ensures ∙ form-passed c.args.d.now c.in-Ok.ensu
 pub returns-then-refusal-lt5 : goal.returns-then-refusal-lt5
 returns-then-refusal-lt5 c = form-refused_early c.args.d.now c.in-Err.refusal c.in-Err.ensures c.if-refusal-lt5.true
 
-pub with_flags-requires-in-Err : goal.with_flags-requires-in-Err
-with_flags-requires-in-Err c = form-headed c.args.d.now c.in-Err.refusal c.in-Err.ensures c.if-refusal-lt5.false
+pub with_flags-requires-else-refusal-lt5 : goal.with_flags-requires-else-refusal-lt5
+with_flags-requires-else-refusal-lt5 c = form-headed c.args.d.now c.in-Err.refusal c.in-Err.ensures c.if-refusal-lt5.false
 
-pub returns-in-Err : goal.returns-in-Err
-returns-in-Err c = ?
+pub returns-else-refusal-lt5 : goal.returns-else-refusal-lt5
+returns-else-refusal-lt5 c = c.with_flags-else-refusal-lt5.ensures ∙ form-refused_late c.args.d.now c.in-Err.refusal c.in-Err.ensures c.if-refusal-lt5.false

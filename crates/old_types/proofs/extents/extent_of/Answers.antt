@@ -9,7 +9,7 @@ use Rattle.old_types.proofs.extents.extent_of.Goals as goal
 pub basic_extent-requires : goal.basic_extent-requires
 basic_extent-requires c =
     let r = c.in-Basic.ensures.1 in
-    (c.requires.0.whole.headed, basic-low c.args.d.now c.args.k c.in-Basic.code c.requires.0 r.1.second r.0)
+    basic-low c.args.d.now c.args.k c.in-Basic.code c.requires.0 r.1.second r.0
 
 pub returns-in-Basic : goal.returns-in-Basic
 returns-in-Basic c =

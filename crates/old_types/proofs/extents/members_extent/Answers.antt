@@ -13,7 +13,7 @@ end_after-size-requires c =
     let low = member-low d c.args.k c.loop-at.at n c.loop-at.size.0 c.loop-at.align.0 c.loop-at.invariant.left (omega arith) c.member_at.result c.member_at.ensures in
     let is = entry-extent d c.args.table.now c.args.k c.requires.1 c.member_at.result low c.extent_in-member.result c.extent_in-member.ensures in
     let q = member-asks d c.args.k c.loop-at.at n c.loop-at.size.0 c.loop-at.align.0 c.loop-at.invariant.left (omega arith) c.member_at.result c.member_at.ensures c.extent_in-member.result is in
-    ((omega (arith, q), q.1.0), q.1.1)
+    ((omega (arith, q), q.1.0), omega (arith, q))
 
 pub loop-at-preserved : goal.loop-at-preserved
 loop-at-preserved c =

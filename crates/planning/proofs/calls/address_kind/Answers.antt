@@ -10,7 +10,7 @@ pub returns-then-not-used : goal.returns-then-not-used
 returns-then-not-used c = kind-none c.args.d.now c.args.used (ap not c.if-not-used.true)
 
 pub returns-in-Lp64 : goal.returns-in-Lp64
-returns-in-Lp64 c = kind-lp64 c.args.d.now c.args.used (ap not c.if-not-used.false) (sym c.model_of-model.ensures ∙ c.in-Lp64.is)
+returns-in-Lp64 c = kind-lp64 c.args.d.now c.args.used (ap not c.if-not-used.false) (sym c.model_of.ensures ∙ c.in-Lp64.is)
 
 pub returns-in-Ilp32 : goal.returns-in-Ilp32
-returns-in-Ilp32 c = kind-ilp32 c.args.d.now c.args.used (ap not c.if-not-used.false) (sym c.model_of-model.ensures ∙ c.in-Ilp32.is)
+returns-in-Ilp32 c = kind-ilp32 c.args.d.now c.args.used (ap not c.if-not-used.false) (sym c.model_of.ensures ∙ c.in-Ilp32.is)

@@ -37,10 +37,10 @@ returns-then-ty-from c = stands-20 c.args.station c.args.d.now c.args.walk c.arg
 pub returns-then-ne : goal.returns-then-ne
 returns-then-ne c = stands-11 c.args.station c.args.d.now c.args.walk c.args.stack.now c.args.asked _ (sym c.in_ok-layout.ensures.0) c.if-walk-station.false (sym c.is_astray.ensures ∙ c.if-is_astray.false) (λ q. c.if-walk-arguments.false (q ∙ sym c.arguments.ensures)) _ c.argument_at-ty.ensures (c.if-ty-from.false ∙ c.from-2.ensures) _ c.from-then-ne.ensures (eqb-false _ _ (not-true _ (sym c.ne.ensures ∙ c.if-ne.true)))
 
-pub invariant_of-argument : goal.invariant_of-argument
-invariant_of-argument c =
+pub bounds-table-ty : goal.bounds-table-ty
+bounds-table-ty c =
     let tabled = c.in_ok-layout.ensures.2 (laid-accepted c.args.d.now _ (sym c.in_ok-layout.ensures.0)).0 in
-    record { low = known-low c.args.d.now _ tabled.sizes _ (sized-here c.args.station c.args.d.now c.args.walk c.args.stack.now c.args.asked _ (sym c.in_ok-layout.ensures.0) c.if-walk-station.false (sym c.is_astray.ensures ∙ c.if-is_astray.false) (λ q. c.if-walk-arguments.false (q ∙ sym c.arguments.ensures)) _ c.argument_at-ty.ensures) }
+    known-low c.args.d.now _ tabled.sizes _ (sized-here c.args.station c.args.d.now c.args.walk c.args.stack.now c.args.asked _ (sym c.in_ok-layout.ensures.0) c.if-walk-station.false (sym c.is_astray.ensures ∙ c.if-is_astray.false) (λ q. c.if-walk-arguments.false (q ∙ sym c.arguments.ensures)) _ c.argument_at-ty.ensures)
 
 pub returns : goal.returns
 returns c =

@@ -37,13 +37,13 @@ pub of_elements-loop-preserved : goal.of_elements-loop-preserved
 of_elements-loop-preserved t c =
     let e : c.args.count - (c.loop.counter + 1) ≡ c.args.count - c.loop.counter - 1 = omega arith in
     rw e (
-      elements_ask c.args.self.d.now c.args.k (c.args.count - c.loop.counter) c.args.size.0 c.loop.offset.0 c.loop.counternvariant.0 (omega (arith, c.loop-test.true)) c.add-offset.result.0 c.add-offset.ensures,
-      λ r h. c.loop.counternvariant.1 r (elements_done (classes_at (model_in c.args.self.d.now) 2 (ty_at c.args.self.d.now c.args.k)) c.args.size.0 (c.args.count - c.loop.counter) c.loop.offset.0 c.add-offset.result.0 (pair_in c.loop.merged.0) (pair_in c.at.result.0) (pair_in c.merged-merged.result.0) r (omega (arith, c.loop-test.true)) c.at.ensures c.merged-merged.ensures c.add-offset.ensures h),
+      elements_ask c.args.self.d.now c.args.k (c.args.count - c.loop.counter) c.args.size.0 c.loop.offset.0 c.loop.invariant.0 (omega (arith, c.loop-test.true)) c.add-offset.result.0 c.add-offset.ensures,
+      λ r h. c.loop.invariant.1 r (elements_done (classes_at (model_in c.args.self.d.now) 2 (ty_at c.args.self.d.now c.args.k)) c.args.size.0 (c.args.count - c.loop.counter) c.loop.offset.0 c.add-offset.result.0 (pair_in c.loop.merged.0) (pair_in c.at.result.0) (pair_in c.merged-merged.result.0) r (omega (arith, c.loop-test.true)) c.at.ensures c.merged-merged.ensures c.add-offset.ensures h),
     )
 
 pub of_elements-returns : goal.of_elements-returns
 of_elements-returns t c =
-    c.loop.counternvariant.1 (pair_in c.loop.merged.0) (elements_none (classes_at (model_in c.args.self.d.now) 2 (ty_at c.args.self.d.now c.args.k)) c.args.size.0 (c.args.count - c.loop.counter) c.loop.offset.0 (pair_in c.loop.merged.0) (omega (arith, c.loop-test.false)))
+    c.loop.invariant.1 (pair_in c.loop.merged.0) (elements_none (classes_at (model_in c.args.self.d.now) 2 (ty_at c.args.self.d.now c.args.k)) c.args.size.0 (c.args.count - c.loop.counter) c.loop.offset.0 (pair_in c.loop.merged.0) (omega (arith, c.loop-test.false)))
 
 pub of_members-loop-i-init : goal.of_members-loop-i-init
 of_members-loop-i-init t c =
