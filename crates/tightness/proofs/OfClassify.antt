@@ -9,9 +9,6 @@ use Rattle.classify.proofs.fill_classes.Symbol as fill_classes_symbol
 use Rattle.classify.specs.contracts.packed_classes.PackedFromArrayClass2.from as PackedFromArrayClass2_from
 use Rattle.classify.proofs.packed_classes.PackedFromArrayClass2.from.Met as PackedFromArrayClass2_from_met
 use Rattle.classify.proofs.packed_classes.PackedFromArrayClass2.from.Symbol as PackedFromArrayClass2_from_symbol
-use Rattle.classify.specs.contracts.packed_classes.ArrayClass2FromPacked.from as ArrayClass2FromPacked_from
-use Rattle.classify.proofs.packed_classes.ArrayClass2FromPacked.from.Met as ArrayClass2FromPacked_from_met
-use Rattle.classify.proofs.packed_classes.ArrayClass2FromPacked.from.Symbol as ArrayClass2FromPacked_from_symbol
 use Rattle.classify.specs.contracts.is_wide
 use Rattle.classify.proofs.is_wide.Met as is_wide_met
 use Rattle.classify.proofs.is_wide.Symbol as is_wide_symbol
@@ -45,12 +42,6 @@ meets_classify_PackedFromArrayClass2_from M = PackedFromArrayClass2_from_met.met
 
 pub tight_classify_PackedFromArrayClass2_from : Tight PackedFromArrayClass2_from.ended (λ M 𝓤 𝓛. PackedFromArrayClass2_from.clauses 𝓛)
 tight_classify_PackedFromArrayClass2_from c r q w v a b = (settle (result PackedFromArrayClass2_from.ended c) a.ensured b.ensured (λ e f i. record { 0 = (e.0 ∙ sym f.0) i }), refl)
-
-pub meets_classify_ArrayClass2FromPacked_from : Meets ArrayClass2FromPacked_from.ended (λ M 𝓤 𝓛. ArrayClass2FromPacked_from.clauses 𝓛) ArrayClass2FromPacked_from_symbol.name ArrayClass2FromPacked_from_symbol.code
-meets_classify_ArrayClass2FromPacked_from M = ArrayClass2FromPacked_from_met.met
-
-pub tight_classify_ArrayClass2FromPacked_from : Tight ArrayClass2FromPacked_from.ended (λ M 𝓤 𝓛. ArrayClass2FromPacked_from.clauses 𝓛)
-tight_classify_ArrayClass2FromPacked_from c r q w v a b = (equal (result ArrayClass2FromPacked_from.ended c) a.ensured b.ensured, refl)
 
 pub meets_classify_is_wide : Meets is_wide.ended (λ M 𝓤 𝓛. is_wide.clauses 𝓛) is_wide_symbol.name is_wide_symbol.code
 meets_classify_is_wide M = is_wide_met.met
