@@ -68,7 +68,8 @@ impl<'a> Numbering<'a> {
         true
     }
 
-    // Whether types j and k, whose parts have numbers, are the same, by their records.
+    // Whether types j and k, whose parts have numbers, are the same, by their records. Kind, second byte and count are compared in turn: a match on the pair
+    // of records would name each of them twice.
     fn are_same_records(&self, j: usize, k: usize) -> bool
         requires { AskSame self.now.types.bytes.now self.now.numbers j k }
         ensures { result ≡ same_ty (ty_at self.now.types.bytes.now j) (ty_at self.now.types.bytes.now k) }

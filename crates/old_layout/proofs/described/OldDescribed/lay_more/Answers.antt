@@ -4,7 +4,7 @@ use native.Mathlib.Omega.{arith}
 use Rattle.old_layout.proofs.Arguments.{argument-low, argument-size, offset-asks, values-asks, offset-goes, values-goes}
 use Rattle.old_layout.proofs.Uses.{accepted-typed}
 use Rattle.description.specs.Description.{arguments_in}
-use Rattle.old_layout.proofs.laying.OldDescribed.lay_more.Goals as goal
+use Rattle.old_layout.proofs.described.OldDescribed.lay_more.Goals as goal
 
 pub loop-i-init : goal.loop-i-init
 loop-i-init c = (c.requires.laid.offset, c.requires.laid.values)
