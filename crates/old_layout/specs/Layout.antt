@@ -2,7 +2,6 @@
 use Rattle.std.specs.Prelude.{cond, ◌&&◌, List, ℕ, leb, eqb, Err, Ok, Result}
 use Rattle.description.specs.Description.{named_in, return_in, kind_at, a_at}
 use Rattle.form.specs.declared.Refusal.{Refusal}
-use Rattle.form.specs.Reading.{refusal_of}
 use Rattle.types.specs.Decode.{ty_at}
 use Rattle.layout.specs.Arguments.{is_void}
 use Rattle.old_types.specs.Size.{size_ty}
@@ -40,8 +39,3 @@ layout_of d = record {
 -- 1 to 6, 28, 7 to 10
 unfoldable pub layout_answer : List ℕ → Result OldLayout Refusal
 layout_answer d = cond (eqb (verdict d) 0) (Ok (layout_of d)) (Err (refusal_for d (verdict d)))
-
--- the refusal that an answer carries
-abbrev pub refusal_in : Result OldLayout Refusal → Refusal
-refusal_in (Ok l) = refusal_of 0
-refusal_in (Err r) = r

@@ -1,46 +1,25 @@
 // The verdict on any bytes as a description of the 386 kind, and the layout of those that get none (request 2026-12).
 ghost use Rattle.std.specs.Prelude.{◌≡◌};
 ghost use Rattle.description.specs.Description.{types_in};
+ghost use Rattle.form.specs.Reading.{judgment};
 ghost use Rattle.old_types.specs.Conditions.{refusal_for};
 ghost use Rattle.old_types.specs.Table.{Sizes, sizes_after};
-ghost use Rattle.intel386.specs.Verdict.{verdict};
-ghost use Rattle.old_layout.specs.Layout.{layout_of, layout_answer};
-ghost use Rattle.old_layout.specs.Asks.{Known};
+ghost use Rattle.intel386.specs.Verdict.{uses_refusal, verdict};
+ghost use Rattle.old_layout.specs.Layout.{layout_answer};
 
-use crate::laying::Laying;
-use crate::{OldLayout, laying, used_types};
-use form::Refusal;
+use crate::OldLayout;
+use crate::described::OldDescribed;
+use form::{Reason, Refusal};
 use units::Bytes;
 
-// The layout of a description that none of 1 to 6, 28 and 7 to 9 refuses.
-fn lay(d: &[u8], table: &[u32; 64]) -> OldLayout
-    requires { Known d.now table.now }
-    ensures { result ≡ layout_of d.now }
+// Which of 1 to 6, 28 and 7 to 9 refuses the description: 8 and 9 are document 01's. Where none does, the table has an entry for each type.
+fn judge(d: &[u8], table: &mut [u32; 64]) -> Result<(), Refusal>
+    ensures { (result ≡ judgment (uses_refusal d.now) (refusal_for d.now (uses_refusal d.now)))
+        × (table.new ≡ sizes_after d.now table.old)
+        × (uses_refusal d.now ≡ 0 → Sizes d.now (types_in d.now) table.new) }
 {
-    let named = description::byte_at(d, 7);
-    let arguments = description::byte_at(d, 8);
-    let hidden = laying::hidden_of(d);
-    let popped = laying::address_bytes(hidden);
-    let before = Laying {
-        offset: popped,
-        values: Bytes(0),
-    };
-    let first = laying::lay_more(d, before, 0, named, table);
-    let start = first.offset;
-    let all = laying::lay_more(d, first, named, arguments, table);
-    let values = all.values;
-    let area = units::raise_to(Bytes(16), all.offset);
-    let returns = laying::return_of(d);
-    let returned = laying::returned_size(d, table);
-    OldLayout {
-        area: area,
-        values: values,
-        returns: returns,
-        returned: returned,
-        hidden: hidden,
-        popped: popped,
-        start: start,
-    }
+    old_types::judge(d, table)?;
+    uses::judge_passing(d)
 }
 
 // ---- any bytes
@@ -51,14 +30,10 @@ pub fn old_layout_with(d: &[u8], table: &mut [u32; 64]) -> Result<OldLayout, Ref
         × (table.new ≡ sizes_after d.now table.old)
         × (verdict d.now ≡ 0 → Sizes d.now (types_in d.now) table.new) }
 {
-    let number = used_types::uses_refusal_with(d, table);
-    if number != 0 {
-        return Err(old_types::refusal_for(d, number));
-    }
-    let layout = lay(d, table);
-    let area = layout.area;
-    if units::over(area, Bytes(16384)) {
-        return Err(form::refusal_of(10));
+    judge(d, table)?;
+    let layout = OldDescribed { bytes: d, table }.layout();
+    if layout.area > Bytes(16384) {
+        return Err(Refusal::from(Reason::AreaTooLarge));
     }
     Ok(layout)
 }
@@ -73,13 +48,10 @@ pub fn old_layout_of(d: &[u8]) -> Result<OldLayout, Refusal>
 
 // ---- the verdict alone
 
-// Which refusal the description gets; number 0 where it is accepted.
-pub fn old_check(d: &[u8]) -> Refusal
-    ensures { result ≡ refusal_for d.now (verdict d.now) }
+// Which refusal the description gets.
+pub fn old_check(d: &[u8]) -> Result<(), Refusal>
+    ensures { result ≡ judgment (verdict d.now) (refusal_for d.now (verdict d.now)) }
 {
-    let answer = old_layout_of(d);
-    let Err(refusal) = answer else {
-        return form::refusal_of(0);
-    };
-    refusal
+    old_layout_of(d)?;
+    Ok(())
 }

@@ -1,11 +1,11 @@
 // The arguments of a call of the 386 kind, one behind the other, and where the value is returned (request 2026-12).
 ghost use Rattle.std.specs.Prelude.{◌≡◌, cond};
-ghost use Rattle.old_layout.specs.Layout.{result_of, return_place, returned_size};
-ghost use Rattle.old_layout.specs.Asks.{Known, IsLaid, AskArguments};
+ghost use Rattle.old_layout.specs.Layout.{result_of, return_place, returned_size, layout_of};
+ghost use Rattle.old_layout.specs.Asks.{IsLaid, AskArguments};
 ghost use Rattle.intel386.specs.Arguments.{hidden};
-ghost use Rattle.intel386.specs.Verdict.{uses_refusal};
 
-use crate::OldReturn;
+use crate::described::OldDescribed;
+use crate::{OldLayout, OldReturn};
 use units::Bytes;
 
 // Where the next argument stands, and where its value begins.
@@ -15,92 +15,104 @@ pub struct Laying {
     pub values: Bytes,
 }
 
-// ---- what is returned
-
-// Whether a hidden address is passed: for a struct or a union.
-pub fn hidden_of(d: &[u8]) -> bool
-    requires { uses_refusal d.now ≡ 0 }
-    ensures { result ≡ hidden d.now }
+// The bytes that a hidden address takes.
+fn address_bytes(hidden: bool) -> Bytes
+    ensures { result.0 ≡ cond hidden 4 0 }
 {
-    let k = description::byte_at(d, 9);
-    if k == 255 {
-        return false;
-    }
-    2 <= description::kind_at(d, k)
-}
-
-// The bytes that it takes.
-pub fn address_bytes(used: bool) -> Bytes
-    ensures { result.0 ≡ cond used 4 0 }
-{
-    if used {
-        return Bytes(4);
-    }
-    Bytes(0)
+    if hidden { Bytes(4) } else { Bytes(0) }
 }
 
 // Where a basic type is returned.
+#[tactic(auto, unfolding(crate::specs::Layout::result_of))]
 fn result_of(code: usize) -> OldReturn
     ensures { result ≡ result_of code }
 {
-    if code == 4 {
-        return OldReturn::EdxEax;
+    match code {
+        4 => OldReturn::EdxEax,
+        6..=8 => OldReturn::St0,
+        _ => OldReturn::Eax,
     }
-    if code < 6 {
-        return OldReturn::Eax;
-    }
-    if code <= 8 {
-        return OldReturn::St0;
-    }
-    OldReturn::Eax
 }
 
-// Where the value is returned.
-pub fn return_of(d: &[u8]) -> OldReturn
-    requires { uses_refusal d.now ≡ 0 }
-    ensures { result ≡ return_place d.now }
-{
-    let k = description::byte_at(d, 9);
-    if k == 255 {
-        return OldReturn::Void;
-    }
-    if 2 <= description::kind_at(d, k) {
-        return OldReturn::Memory;
-    }
-    result_of(description::a_at(d, k))
-}
+impl<'a> OldDescribed<'a> {
+    // ---- what is returned
 
-// The size of the returned type, by the table. Void has none.
-pub fn returned_size(d: &[u8], table: &[u32; 64]) -> Bytes
-    requires { Known d.now table.now }
-    ensures { result.0 ≡ returned_size d.now }
-{
-    let k = description::byte_at(d, 9);
-    if k == 255 {
-        return Bytes(0);
+    // Whether a hidden address is passed: for a struct or a union.
+    fn hidden(self) -> bool
+        ensures { result ≡ hidden self.entry.bytes.now }
+    {
+        let k = description::byte_at(self.bytes, 9);
+        k != 255 && 2 <= description::kind_at(self.bytes, k)
     }
-    types::extent_in(table, k).size
-}
 
-// ---- the arguments
-
-// Behind the arguments `from` to `to` as well. What is used of the stack is a multiple of 4, and no alignment is more: each argument stands right there.
-pub fn lay_more(d: &[u8], before: Laying, from: usize, to: usize, table: &[u32; 64]) -> Laying
-    requires { Known d.now table.now × AskArguments d.now from to before }
-    ensures { IsLaid d.now to result }
-{
-    let mut offset = before.offset;
-    let mut values = before.values;
-    let mut i = from;
-    while i < to {
-        let k = description::argument_at(d, i);
-        let size = types::extent_in(table, k).size;
-        offset = units::raise_to(Bytes(4), units::plus(offset, size));
-        values = units::plus(values, size);
-        i += 1;
+    // Where the value is returned.
+    fn returns(self) -> OldReturn
+        ensures { result ≡ return_place self.entry.bytes.now }
+    {
+        let k = description::byte_at(self.bytes, 9);
+        if k == 255 {
+            return OldReturn::Void;
+        }
+        if 2 <= description::kind_at(self.bytes, k) {
+            return OldReturn::Memory;
+        }
+        result_of(description::a_at(self.bytes, k))
     }
-    Laying {
-        offset: offset,
-        values: values,
+
+    // The size of the returned type, by the table. Void has none.
+    fn returned(self) -> Bytes
+        ensures { result.0 ≡ returned_size self.entry.bytes.now }
+    {
+        let k = description::byte_at(self.bytes, 9);
+        if k == 255 {
+            return Bytes(0);
+        }
+        types::extent_in(self.table, k).size
+    }
+
+    // ---- the arguments
+
+    // Behind the arguments `from` to `to` as well. What is used of the stack is a multiple of 4, and no alignment is more: each argument stands right there.
+    fn lay_more(self, before: Laying, from: usize, to: usize) -> Laying
+        requires { AskArguments self.bytes.now from to before }
+        ensures { IsLaid self.entry.bytes.now to result }
+    {
+        let mut offset = before.offset;
+        let mut values = before.values;
+        for i in from..to {
+            let k = description::argument_at(self.bytes, i);
+            let size = types::extent_in(self.table, k).size;
+            let end = offset + size;
+            offset = end.raised_to(Bytes(4));
+            values = values + size;
+        }
+        Laying { offset, values }
+    }
+
+    // ---- all of it
+
+    // The layout.
+    pub fn layout(self) -> OldLayout
+        ensures { result ≡ layout_of self.entry.bytes.now }
+    {
+        let named = description::byte_at(self.bytes, 7);
+        let arguments = description::byte_at(self.bytes, 8);
+        let hidden = self.hidden();
+        let popped = address_bytes(hidden);
+        let before = Laying {
+            offset: popped,
+            values: Bytes(0),
+        };
+        let first = self.lay_more(before, 0, named);
+        let all = self.lay_more(first, named, arguments);
+        OldLayout {
+            area: all.offset.raised_to(Bytes(16)),
+            values: all.values,
+            returns: self.returns(),
+            returned: self.returned(),
+            hidden,
+            popped,
+            start: first.offset,
+        }
     }
 }

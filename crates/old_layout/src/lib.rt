@@ -3,14 +3,14 @@
 
 pub use deciding::{old_check, old_layout_of, old_layout_with};
 
-mod used_types; // which types a call may use: 8 and 9, behind 1 to 6, 28 and 7
+mod described; // a description that 1 to 9 do not refuse
 mod laying; // the arguments, one behind the other, and where the value is returned
 mod deciding; // the verdict, and the layout of any bytes
 
 use units::Bytes;
 
 // Where a value is returned; edx has the upper half of an 8-byte integer.
-#[derive(Clone, Copy)]
+#[derive(Clone, Copy, Debug, PartialEq, Eq)]
 pub enum OldReturn {
     Void,
     Memory,
@@ -20,7 +20,7 @@ pub enum OldReturn {
 }
 
 // What a description asks of a call as a whole.
-#[derive(Clone, Copy)]
+#[derive(Clone, Copy, Debug, PartialEq, Eq)]
 pub struct OldLayout {
     // The stack area, rounded up to 16, the hidden address in it.
     pub area: Bytes,

@@ -73,7 +73,7 @@ pub fn number_by(text: &[u8], start: usize, i: usize, next: usize, number: bool)
     next <= i && is_number(text, next, i + 1)
 }
 
-// The kind of the token that they are.
+// The kind of the token that they are. A number: `rule` and `kind_of` of the grammar have kinds by number, and its tables are indexed by it.
 pub fn kind_of(text: &[u8], start: usize, end: usize) -> usize
     requires { (start < end) × (end ≤ length text.now) }
     ensures { (result ≡ kind_of spellings (slice start end text.now)) × (result < 48) }

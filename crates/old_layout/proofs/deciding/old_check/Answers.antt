@@ -1,12 +1,11 @@
 -- `old_check` meets its contract.
 -- Assumes nothing.
-use mathlib.Core.Path.{sym, ap, ◌∙◌}
-use Rattle.old_layout.specs.Layout.{refusal_in}
-use Rattle.old_layout.proofs.Layouts.{told}
+use mathlib.Core.Path.{sym, ◌∙◌}
+use Rattle.old_layout.proofs.Layouts.{passed-on, checked-laid, checked-refused}
 use Rattle.old_layout.proofs.deciding.old_check.Goals as goal
 
-pub returns-in_default : goal.returns-in_default
-returns-in_default c = c.refusal_of.ensures ∙ sym (ap refusal_in c.in_default.is) ∙ ap refusal_in c.old_layout_of-answer.ensures ∙ told _
+pub returns-in_err-old_layout_of : goal.returns-in_err-old_layout_of
+returns-in_err-old_layout_of c = passed-on _ c.from_residual.ensures.1 ∙ checked-refused c.args.d.now _ (sym c.old_layout_of.ensures ∙ c.in_err-old_layout_of.was)
 
 pub returns : goal.returns
-returns c = sym (ap refusal_in c.in-Err.is) ∙ ap refusal_in c.old_layout_of-answer.ensures ∙ told _
+returns c = checked-laid c.args.d.now _ (sym c.old_layout_of.ensures ∙ c.in_ok-old_layout_of.was)

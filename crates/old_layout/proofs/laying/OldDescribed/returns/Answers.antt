@@ -1,4 +1,4 @@
--- `return_of` meets its contract.
+-- `returns` meets its contract.
 -- Assumes nothing.
 use native.Mathlib.Omega.{arith}
 use borrow.Author.Tests.{eq-eqb, ne_eqb, le-leb, lt-leb}
@@ -6,24 +6,24 @@ use Rattle.old_layout.specs.Layout.{return_place}
 use Rattle.old_layout.proofs.Arguments.{return_known}
 use Rattle.old_layout.proofs.Uses.{accepted-typed}
 use Rattle.layout.specs.Arguments.{is_void}
-use Rattle.old_layout.proofs.laying.return_of.Goals as goal
+use Rattle.old_layout.proofs.laying.OldDescribed.returns.Goals as goal
 
 pub byte_at-k-requires : goal.byte_at-k-requires
-byte_at-k-requires c = omega (arith, (accepted-typed c.args.d.now c.requires).whole.headed)
+byte_at-k-requires c = omega (arith, (accepted-typed c.args.self.bytes.now c.args.self.known.right).whole.headed)
 
 pub returns-then-k-eq255 : goal.returns-then-k-eq255
 unfolding return_place is_void
 returns-then-k-eq255 c = rw (← c.byte_at-k.ensures.0, eq-eqb _ 255 c.if-k-eq255.true)
 
 pub kind_at-requires : goal.kind_at-requires
-kind_at-requires c = ((accepted-typed c.args.d.now c.requires).whole, return_known c.args.d.now c.requires c.byte_at-k.result c.byte_at-k.ensures.0 c.if-k-eq255.false)
+kind_at-requires c = ((accepted-typed c.args.self.bytes.now c.args.self.known.right).whole, return_known c.args.self.bytes.now c.args.self.known.right c.byte_at-k.result c.byte_at-k.ensures.0 c.if-k-eq255.false)
 
 pub returns-then-kind_at-ge2 : goal.returns-then-kind_at-ge2
 unfolding return_place is_void
 returns-then-kind_at-ge2 c = rw (← c.byte_at-k.ensures.0, ne_eqb _ 255 c.if-k-eq255.false, ← c.kind_at.ensures, le-leb 2 _ c.if-kind_at-ge2.true)
 
 pub a_at-requires : goal.a_at-requires
-a_at-requires c = ((accepted-typed c.args.d.now c.requires).whole, return_known c.args.d.now c.requires c.byte_at-k.result c.byte_at-k.ensures.0 c.if-k-eq255.false)
+a_at-requires c = ((accepted-typed c.args.self.bytes.now c.args.self.known.right).whole, return_known c.args.self.bytes.now c.args.self.known.right c.byte_at-k.result c.byte_at-k.ensures.0 c.if-k-eq255.false)
 
 pub returns : goal.returns
 unfolding return_place is_void

@@ -1,0 +1,15 @@
+-- `hidden` meets its contract.
+-- Assumes nothing.
+use native.Mathlib.Omega.{arith}
+use borrow.Author.Tests.{eq-eqb, ne_eqb}
+use Rattle.old_layout.proofs.Arguments.{return_known}
+use Rattle.old_layout.proofs.Uses.{accepted-typed}
+use Rattle.layout.specs.Arguments.{is_void}
+use Rattle.intel386.specs.Arguments.{hidden}
+use Rattle.old_layout.proofs.laying.OldDescribed.hidden.Goals as goal
+
+pub byte_at-k-requires : goal.byte_at-k-requires
+byte_at-k-requires c = omega (arith, (accepted-typed c.args.self.bytes.now c.args.self.known.right).whole.headed)
+
+pub kind_at-requires : goal.kind_at-requires
+kind_at-requires c = ((accepted-typed c.args.self.bytes.now c.args.self.known.right).whole, return_known c.args.self.bytes.now c.args.self.known.right c.byte_at-k.result c.byte_at-k.ensures.0 c.if-k-eq255.false)
