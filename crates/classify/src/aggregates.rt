@@ -11,6 +11,7 @@ use units::Bytes;
 
 // A description whose types are sized, and what is known so far of their classes: the table has those of its first `types` types, at offset 0, and
 // `finished` other answers, that for type k at offset `at` below 8 in place 8 * k + at, or 0.
+// A number, 0 for no answer: an Option for each place would double what every call sets to zero.
 #[derive(Clone, Copy)]
 pub struct Known<'a> {
     pub d: &'a [u8],
@@ -21,7 +22,7 @@ pub struct Known<'a> {
 }
 
 impl<'a> Known<'a> {
-    ghost use Rattle.std.specs.Prelude.{◌≡◌, ◌+◌, ◌^◌, ◌≤◌, max, ◌<◌, IfSome};
+    ghost use Rattle.std.specs.Prelude.{◌≡◌, ◌≤◌, ◌<◌, IfSome};
     ghost use Rattle.description.specs.Description.{model_in};
     ghost use Rattle.classes.specs.Classes.{no_classes};
     ghost use Rattle.types.specs.Decode.{ty_at, tys_from};

@@ -1,6 +1,6 @@
 // The classes of all types of a description (document 01, "Classes of aggregates"), put into the table of types.
 // They are worked out from number 0 upward, and each answer is looked up from then on: no description takes long.
-ghost use Rattle.std.specs.Prelude.{◌≡◌, ◌<◌, IfSome};
+ghost use Rattle.std.specs.Prelude.{◌≡◌, IfSome};
 ghost use Rattle.description.specs.Description.{types_in, kind_at, model_in};
 ghost use Rattle.types.specs.Asks.{Sized};
 ghost use Rattle.types.specs.Decode.{ty_at};
@@ -14,6 +14,8 @@ use crate::table_words::{Entry, Word};
 use crate::unions::Different;
 use crate::{unions, wide_aggregates};
 use units::Bytes;
+
+// Here description, table and finished answers go side by side: the answers are written between the looks, so no `Known` holds them throughout.
 
 // The finished answers of aggregate k: at each offset at which it lies in both eightbytes. `different` are its different members, if it is a union.
 fn finish(

@@ -33,7 +33,7 @@ impl Packed {
         self.0 / 8 % 8
     }
 
-    // The class with a number below 8.
+    // The class with a number below 8. By a match, which the compiler turns into nothing: a table would be read at each merge by the rules.
     #[tactic(auto, unfolding(crate::specs::Table::class_by))]
     fn class_by(number: u8) -> Class
         requires { number < 8 }
@@ -141,16 +141,5 @@ impl From<[Class; 2]> for Packed {
 
     fn from(classes: [Class; 2]) -> Packed {
         Packed(64 + u8::from(classes[0]) + 8 * u8::from(classes[1]))
-    }
-}
-
-impl From<Packed> for [Class; 2] {
-    ghost use Rattle.std.specs.Prelude.{◌≡◌};
-    ghost use Rattle.classify.specs.Table.{pair_in};
-
-    ghost from_gives = { λ packed r. r ≡ pair_in packed.0 };
-
-    fn from(packed: Packed) -> [Class; 2] {
-        packed.classes()
     }
 }

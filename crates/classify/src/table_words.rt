@@ -63,6 +63,7 @@ impl Parts {
 
 // Of each code: its classes at offset 0 and what they ask for, in one number as `word_of` makes it. INTEGER alone is 64 + 1, and
 // 128 for one general register: 193. SSE and three SSEUP are 26, without the 64, and 128 times 16 for one vector register.
+// Not beside the parts: code 16 has a word and no parts.
 const WORDS: [u16; 17] = [
     193, 193, 193, 193, 193, 329, 2114, 2114, 1900, 2138, 2114, 2138, 2114, 4178, 966, 193, 2074,
 ];

@@ -4,7 +4,7 @@ ghost use Rattle.collecting.specs.Rows.{same_numbers, same_row, find};
 ghost use Rattle.collecting.specs.Bounded.{keep, raise};
 ghost use Rattle.collecting.specs.Arrays.{row_by, row_at, rows_at, Offered, Standing, kept_of};
 
-// A row: of a basic type with its code, of an array with its element's number and its count, of a group with its members. Only a group has a run.
+// A row by its kind, a number as in the description (`row_by`): of a basic type with its code, of an array with its element's number and its count, of a group with its members. Only a group has a run.
 #[derive(Clone, Copy)]
 pub struct Row<'a> {
     pub kind: u8,
@@ -14,7 +14,7 @@ pub struct Row<'a> {
     ghost offered: { Offered kind count run.now },
 }
 
-// So many types, and the members of all of them, one run behind the other.
+// So many types, and the members of all of them, one run behind the other. A list for each part of a row: `rows_at` and `Standing` are by these lists.
 #[derive(Drop)]
 pub struct Rows {
     pub kinds: [u8; 64],

@@ -2,302 +2,187 @@
 // stack; layouts.out has what an independent reading of the rules answers.
 #![tactic(auto)]
 
-ghost use Rattle.std.specs.Prelude.{◌≡◌, true, ◌<◌, ◌≤◌, length};
-ghost use Rattle.classify.specs.Table.{Tabled};
-ghost use Rattle.layout.specs.Lists.{begun_of};
-ghost use Rattle.layout.specs.Verdict.{verdict};
+ghost use Rattle.std.specs.Prelude.{◌≡◌};
+ghost use Rattle.layout.specs.Layout.{layout_of};
 
 use form::Refusal;
-use layout::{Begun, Layout, Placement};
-use places::{Place, Register, ReturnPlace, Used};
+use layout::{Described, Laying, Layout, Placement};
+use places::{Place, Register, ReturnPlace};
+use std::{fmt, io};
 use units::Registers;
 
-// More than the file has, so that the program ends whatever it reads.
-const RECORDS: usize = 100000;
-
+// A register by its name behind a blank: general ones have others where a value is returned.
 #[derive(Clone, Copy)]
-enum Length {
-    Known(usize),
-    End,
+struct Name {
+    register: Register,
+    returned: bool,
 }
 
-fn print(rt: &impl Print, text: &[u8]) {
-    streams::print(rt, text);
-}
-
-fn print_number(rt: &impl Print, text: &[u8], n: u64) {
-    print(rt, text);
-    streams::print_decimal(rt, n);
-}
-
-fn print_byte(rt: &impl Print, text: &[u8], byte: u8) {
-    print_number(rt, text, byte as u64);
-}
-
-fn print_argument_register(rt: &impl Print, n: usize) {
-    match n {
-        0 => print(rt, b" rdi"),
-        1 => print(rt, b" rsi"),
-        2 => print(rt, b" rdx"),
-        3 => print(rt, b" rcx"),
-        4 => print(rt, b" r8"),
-        5 => print(rt, b" r9"),
-        _ => print(rt, b" ?"),
-    }
-}
-
-fn print_return_register(rt: &impl Print, n: usize) {
-    match n {
-        0 => print(rt, b" rax"),
-        1 => print(rt, b" rdx"),
-        _ => print(rt, b" ?"),
-    }
-}
-
-fn print_register(rt: &impl Print, register: Register, returned: bool) {
-    match register {
-        Register::General(n) => {
-            if returned {
-                print_return_register(rt, n.0);
-            } else {
-                print_argument_register(rt, n.0);
+impl fmt::Display for Name {
+    fn fmt<W: fmt::Write>(&self, f: &mut fmt::Formatter<W>) -> fmt::Result {
+        match self.register {
+            Register::General(n) => {
+                let name = match (self.returned, n.0) {
+                    (false, 0) => "rdi",
+                    (false, 1) => "rsi",
+                    (false, 2) => "rdx",
+                    (false, 3) => "rcx",
+                    (false, 4) => "r8",
+                    (false, 5) => "r9",
+                    (true, 0) => "rax",
+                    (true, 1) => "rdx",
+                    _ => "?",
+                };
+                write!(f, " {name}")
             }
-        }
-        Register::Vector(n) => print_number(rt, b" xmm", n.0 as u64),
-        Register::Upper(n) => {
-            print_number(rt, b" xmm", n.0 as u64);
-            print(rt, b"h");
-        }
-        Register::Wide(n) => {
-            print_number(rt, b" xmm", n.0 as u64);
-            print(rt, b"y");
+            Register::Vector(n) => write!(f, " xmm{}", n.0),
+            Register::Upper(n) => write!(f, " xmm{}h", n.0),
+            Register::Wide(n) => write!(f, " xmm{}y", n.0),
         }
     }
 }
 
-fn print_place(rt: &impl Print, place: Place) {
+fn argument_name(register: Register) -> Name {
+    Name {
+        register,
+        returned: false,
+    }
+}
+
+fn return_name(register: Register) -> Name {
+    Name {
+        register,
+        returned: true,
+    }
+}
+
+fn print_record(rt: &impl Print, i: usize, placement: Placement) -> io::Result<()> {
+    let Placement {
+        ty,
+        size,
+        align,
+        place,
+        at,
+        named,
+    } = placement;
+    print!(rt; "{i} type {ty} size {} align {}", size.0, align.0)?;
     match place {
-        Place::One(register) => print_register(rt, register, false),
-        Place::Two(first, second) => {
-            print_register(rt, first, false);
-            print_register(rt, second, false);
-        }
-        Place::Stack(offset) => print_number(rt, b" stack ", offset.0 as u64),
+        Place::One(register) => print!(rt; "{}", argument_name(register))?,
+        Place::Two(low, high) => print!(rt; "{}{}", argument_name(low), argument_name(high))?,
+        Place::Stack(offset) => print!(rt; " stack {}", offset.0)?,
     }
+    let mark = if named { "named" } else { "unnamed" };
+    println!(rt; " at {} {mark}", at.0)
 }
 
-fn print_record(rt: &impl Print, i: usize, placement: Placement) {
-    let size = placement.size;
-    let align = placement.align;
-    let place = placement.place;
-    let at = placement.at;
-    print_number(rt, b"", i as u64);
-    print_number(rt, b" type ", placement.ty as u64);
-    print_number(rt, b" size ", size.0 as u64);
-    print_number(rt, b" align ", align.0 as u64);
-    print_place(rt, place);
-    print_number(rt, b" at ", at.0 as u64);
-    if placement.named {
-        print(rt, b" named\n");
-    } else {
-        print(rt, b" unnamed\n");
+fn print_returned(rt: &impl Print, ty: u8, returns: ReturnPlace) -> io::Result<()> {
+    if ty == 255 {
+        return println!(rt; "return void");
     }
-}
-
-fn print_returned(rt: &impl Print, d: &[u8], returns: ReturnPlace) {
-    if d.len() < 11 {
-        return;
-    }
-    if d[9] == 255 {
-        print(rt, b"return void\n");
-        return;
-    }
-    print_byte(rt, b"return type ", d[9]);
+    print!(rt; "return type {ty}")?;
     match returns {
-        ReturnPlace::Void => print(rt, b" void"),
-        ReturnPlace::Memory => print(rt, b" memory"),
-        ReturnPlace::One(register) => print_register(rt, register, true),
-        ReturnPlace::Two(first, second) => {
-            print_register(rt, first, true);
-            print_register(rt, second, true);
-        }
-        ReturnPlace::St0 => print(rt, b" st0"),
-        ReturnPlace::St0St1 => print(rt, b" st0 st1"),
+        ReturnPlace::Void => println!(rt; " void"),
+        ReturnPlace::Memory => println!(rt; " memory"),
+        ReturnPlace::One(register) => println!(rt; "{}", return_name(register)),
+        ReturnPlace::Two(low, high) => println!(rt; "{}{}", return_name(low), return_name(high)),
+        ReturnPlace::St0 => println!(rt; " st0"),
+        ReturnPlace::St0St1 => println!(rt; " st0 st1"),
     }
-    print(rt, b"\n");
 }
 
 // gp_offset and fp_offset after so many registers.
 fn general_offset(count: Registers) -> usize {
-    if 6 < count.0 {
+    if count > Registers(6) {
         return 0;
     }
-    units::general_bytes(count).0
+    count.general_bytes().0
 }
 
 fn vector_offset(count: Registers) -> usize {
-    if 8 < count.0 {
+    if count > Registers(8) {
         return 0;
     }
-    48 + units::vector_bytes(count).0
+    48 + count.vector_bytes().0
 }
 
-fn print_walk(rt: &impl Print, d: &[u8], named: Used) {
-    if d.len() < 11 {
-        return;
+fn print_walk(rt: &impl Print, variadic: bool, layout: Layout) -> io::Result<()> {
+    if !variadic {
+        return println!(rt; "walk none");
     }
-    if d[6] % 2 == 0 {
-        print(rt, b"walk none\n");
-        return;
-    }
-    let general = named.general;
-    let vector = named.vector;
-    let stack = named.stack;
-    print_number(rt, b"walk gp ", general_offset(general) as u64);
-    print_number(rt, b" fp ", vector_offset(vector) as u64);
-    print_number(rt, b" over ", stack.0 as u64);
-    print(rt, b"\n");
-}
-
-fn print_head(rt: &impl Print, d: &[u8], layout: Layout) {
-    if d.len() < 11 {
-        return;
-    }
-    let used = layout.used;
-    let general = used.general;
-    let vector = used.vector;
-    let area = layout.area;
-    print_byte(rt, b"KCB 1 args ", d[8]);
-    print_byte(rt, b" named ", d[7]);
-    print_number(rt, b" gp ", general.0 as u64);
-    print_number(rt, b" vec ", vector.0 as u64);
-    print_number(rt, b" stack ", area.0 as u64);
-    print(rt, b"\n");
-}
-
-// The records, as `lay_out` writes them into a list.
-fn print_records(rt: &impl Print, d: &[u8], room: usize, begun: Begun, table: &[u32; 64])
-    requires { (begun ≡ begun_of d.now room) × (verdict d.now ≡ 0 → Tabled d.now table.now) }
-{
-    let count = begun.count;
-    let mut before = begun.before;
-    let mut i = 0;
-    while i < count {
-        let step = layout::place_argument(d, before, i, table);
-        let placement = step.placement;
-        print_record(rt, i, placement);
-        before = step.after;
-        i += 1;
-    }
-}
-
-fn print_laid(
-    rt: &impl Print,
-    d: &[u8],
-    room: usize,
-    begun: Begun,
-    layout: Layout,
-    table: &[u32; 64],
-)
-    requires { (begun ≡ begun_of d.now room) × (verdict d.now ≡ 0 → Tabled d.now table.now) }
-{
-    let values = layout.values;
-    let align = layout.align;
-    let returns = layout.returns;
     let named = layout.named;
-    print_head(rt, d, layout);
-    print_records(rt, d, room, begun, table);
-    print_returned(rt, d, returns);
-    print_walk(rt, d, named);
-    print_number(rt, b"values ", values.0 as u64);
-    print_number(rt, b" align ", align.0 as u64);
-    print(rt, b"\n");
+    println!(rt;
+        "walk gp {} fp {} over {}",
+        general_offset(named.general),
+        vector_offset(named.vector),
+        named.stack.0
+    )
+}
+
+// The records, as `lay_out` writes them into a list, between what the call asks for as a whole.
+fn print_laid(rt: &impl Print, described: Described, layout: Layout) -> io::Result<()>
+    requires { layout ≡ layout_of described.bytes.now }
+{
+    let used = layout.used;
+    println!(rt;
+        "KCB 1 args {} named {} gp {} vec {} stack {}",
+        described.arguments(),
+        described.named(),
+        used.general.0,
+        used.vector.0,
+        layout.area.0
+    )?;
+    let mut laying = Laying::fresh(layout.hidden);
+    for i in 0..described.arguments() {
+        let placement = described.place_argument(i, &mut laying);
+        print_record(rt, i, placement)?;
+    }
+    let header = described.bytes;
+    print_returned(rt, header.get(9).copied().unwrap_or(255), layout.returns)?;
+    let variadic = header.get(6).is_some_and(|bits| bits % 2 == 1);
+    print_walk(rt, variadic, layout)?;
+    println!(rt; "values {} align {}", layout.values.0, layout.align.0)
 }
 
 // The number, and the type that breaks the rule of 6 or 7, which is 0 for the others.
-fn print_refusal(rt: &impl Print, refusal: Refusal) {
-    print_number(rt, b"refused ", refusal.number as u64);
-    print_number(rt, b" ", refusal.ty as u64);
-    print(rt, b"\n");
+fn print_refusal(rt: &impl Print, refusal: Refusal) -> io::Result<()> {
+    println!(rt; "refused {} {}", refusal.number, refusal.ty)
 }
 
-fn answer_layout(rt: &impl Print, d: &[u8], room: usize) {
+fn answer(rt: &impl Print, d: &[u8], room: usize) -> io::Result<()> {
     let mut table = [0u32; 64];
-    let begun = layout::begin_with(d, room, &mut table);
-    let answer = begun.answer;
-    match answer {
-        Ok(layout) => print_laid(rt, d, room, begun, layout, &table),
-        Err(refusal) => print_refusal(rt, refusal),
+    match layout::begin_with(d, room, &mut table) {
+        Ok(layout) => {
+            let described = Described {
+                bytes: d,
+                table: &table,
+            };
+            print_laid(rt, described, layout)?;
+        }
+        Err(refusal) => print_refusal(rt, refusal)?,
     }
-}
-
-fn answer_need(rt: &impl Print, d: &[u8]) {
-    let answer = layout::needs_stack(d);
-    match answer {
+    match layout::needs_stack(d) {
         Ok(need) => {
-            if need.needed {
-                print(rt, b"needs yes ");
-            } else {
-                print(rt, b"needs no ");
-            }
-            print_number(rt, b"", need.looked as u64);
-            print(rt, b"\n");
+            let answer = if need.needed { "yes" } else { "no" };
+            println!(rt; "needs {answer} {}", need.looked)
         }
         Err(refusal) => print_refusal(rt, refusal),
     }
 }
 
-fn answer(rt: &impl Print, d: &[u8], room: usize) {
-    answer_layout(rt, d, room);
-    answer_need(rt, d);
-}
-
-fn wide(byte: u8) -> usize
-    ensures { result < 256 }
-{
-    byte as usize
-}
-
-// The length of a part, in two bytes before it.
-fn read_length(rt: &impl Input) -> Length {
-    let mut two = [0u8; 2];
-    if streams::read_full(rt, &mut two) < 2 {
-        return Length::End;
-    }
-    Length::Known(wide(two[0]) + 256 * wide(two[1]))
-}
-
-// The next n bytes, into the start of space; false where there are not so many.
-fn read_part(rt: &impl Input, space: &mut [u8], n: usize) -> bool
-    ensures { result ≡ true → n ≤ length space.new }
-{
-    if space.len() < n {
-        return false;
-    }
-    streams::read_full(rt, &mut space[..n]) == n
-}
-
-// One description and the length of a list; false at the end of the input.
-fn answer_next(rt: &(impl Print + Input)) -> bool {
-    let mut space = streams::large_buffer();
+// One description and the length of a list; none at the end of the input.
+fn answer_next(rt: &(impl Print + Input)) -> Option<()> {
+    let mut space = [0u8; 65536];
     let mut lent = [0u8; 1];
-    let length = read_length(rt);
-    let Length::Known(n) = length else {
-        return false;
-    };
-    if !read_part(rt, &mut space, n) {
-        return false;
+    let n = streams::read_part(rt, &mut space)?;
+    if streams::read_full(rt, &mut lent) < 1 {
+        return None;
     }
-    if !read_part(rt, &mut lent, 1) {
-        return false;
-    }
-    answer(rt, &space[..n], wide(lent[0]));
-    true
+    answer(rt, &space[..n], usize::from(lent[0])).ok()
 }
 
 fn main(rt: HostRuntime) {
-    for _ in 0..RECORDS {
-        if !answer_next(&rt) {
+    for _ in 0..streams::RECORDS {
+        if answer_next(&rt).is_none() {
             return;
         }
     }

@@ -66,7 +66,7 @@ pub fn write_listing(d: &[u8], out: &mut [u8; 8192]) -> usize
     ensures { (result ≡ length (listing d.now)) × (result ≤ 4540)
         × (out.new ≡ listing d.now ++ drop (length (listing d.now)) out.old) }
 {
-    let mut text = Text::new(out);
+    let mut text = Text { out, at: 0 };
     put_listing(d, &mut text);
     text.at
 }

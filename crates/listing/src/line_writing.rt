@@ -70,7 +70,7 @@ pub fn put_return(text: &mut Text, k: usize, place: ReturnPlace)
     text.put(b"\n");
 }
 
-// gp_offset, fp_offset and the overflow offset where a walk starts; "a plain function ends with `walk none`".
+// gp_offset, fp_offset and the overflow offset where a walk starts; "a plain function ends with `walk none`". A number: `walk_line` takes the mark as byte 6 has it.
 pub fn put_walk(text: &mut Text, variadic: usize, named: Used)
     requires { (text.old.at + 34 ≤ 8192) × SmallUsed named }
     ensures { Puts 34 text.old text.new (walk_line variadic named) }

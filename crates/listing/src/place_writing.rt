@@ -6,7 +6,7 @@ ghost use Rattle.listing.specs.PlaceWords.{general_word, vector_word, register_w
 use crate::Text;
 use places::{Place, Register, ReturnPlace};
 
-// The n-th general register, of a returned value or of an argument.
+// The n-th general register, of a returned value or of an argument. By number: a place names its register so, and `general_word` is by it.
 fn put_general(text: &mut Text, back: bool, n: usize)
     requires { text.old.at + 4 ≤ 8192 }
     ensures { Puts 4 text.old text.new (general_word back n) }

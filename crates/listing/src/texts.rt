@@ -10,15 +10,7 @@ pub struct Text<'a> {
     pub at: usize,
 }
 
-impl<'a> Text<'a> {
-    // Nothing yet, at the start of the buffer.
-    pub fn new(out: &'a mut [u8; 8192]) -> Self
-        ensures same { result.out.ghost_name ≡ out.entry.ghost_name }
-        ensures first { (result.out.now ≡ out.old) × (result.at ≡ 0) }
-    {
-        Text { out, at: 0 }
-    }
-
+impl Text<'_> {
     // A word.
     pub fn put(&mut self, word: &[u8])
         requires { self.old.at + length word.now ≤ 8192 }
@@ -30,7 +22,7 @@ impl<'a> Text<'a> {
     }
 
     // One digit.
-    pub fn put_digit(&mut self, n: usize)
+    pub(crate) fn put_digit(&mut self, n: usize)
         requires { (self.old.at < 8192) × (n < 10) }
         ensures { Puts 1 self.old self.new (digit n ∷ []) }
     {
@@ -52,7 +44,7 @@ impl<'a> Text<'a> {
     }
 
     // A word, and behind it a number of at most five digits.
-    pub fn put_number(&mut self, word: &[u8], n: usize)
+    pub(crate) fn put_number(&mut self, word: &[u8], n: usize)
         requires { (self.old.at + length word.now + 5 ≤ 8192) × (n < 100000) }
         ensures { Puts (length word.now + 5) self.old self.new (word.now ++ decimal n) }
     {

@@ -147,6 +147,10 @@ module _ (d r y s v : List ℕ) where
       pub gather-lengths : Lent d (length v) (length r) (length y) (length s)
       gather-lengths = right-lent d (length v) (length r) (length y) (length s) (laid-accepted d l laid).0 (same-lengths_2 false w)
 
+      pub gather-hidden : l.hidden ≡ hidden d
+      unfolding layout_of
+      gather-hidden = ap (λ (x : Layout). x.hidden) (laid-accepted d l laid).1
+
       gather-done : (x : ℕ) (v' : List ℕ) → x ≡ own_address (frame_of d) (r ++ (y ++ s)) → v' ≡ gathered_in (frame_of d) (r ++ (y ++ s)) → GatherEnd (Ok x) v'
       unfolding gather_answer values_after
       gather-done x v' e f =

@@ -47,7 +47,15 @@ pub fn place_values(
     if refusals::wrong_bool(described, values) {
         return Err(Refusal::from(Reason::WrongBool));
     }
-    filling::fill_images(described, hidden, values, registers, upper, stack);
+    filling::fill_images(
+        described,
+        layout.hidden,
+        hidden,
+        values,
+        registers,
+        upper,
+        stack,
+    );
     Ok(layout.used.vector)
 }
 
@@ -78,7 +86,7 @@ pub fn gather_values(
     ) {
         return Err(Refusal::from(Reason::WrongBuffer));
     }
-    filling::gather_all(described, registers, upper, stack, values);
+    filling::gather_all(described, layout.hidden, registers, upper, stack, values);
     Ok(if layout.hidden {
         images::address_in(registers)
     } else {

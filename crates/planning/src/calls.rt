@@ -15,7 +15,7 @@ use returning::Parts;
 
 // ---- what stands before the lists
 
-// What a plan says of the hidden address: 0 none, 2 one that has to have 32 bits, 1 any other.
+// What a plan says of the hidden address: 0 none, 2 one that has to have 32 bits, 1 any other. A number, since it is one of the plan's (plans/specs/Plans.antt).
 fn address_kind(d: &[u8], used: bool) -> usize
     requires { 11 ≤ length d.now }
     ensures { result ≡ cond used (address_kind (model_in d.now)) 0 }
@@ -76,7 +76,7 @@ fn write_plan(described: Described, layout: Layout, plan: &mut [u16]) -> usize
     ensures { (plan.new ≡ overwritten plan.old 0 (plan_of described.entry.bytes.now)) × (result ≡ length (plan_of described.entry.bytes.now)) }
 {
     let mut moves = [0u16; 384];
-    let count = joining::join_all(described, &mut moves);
+    let count = joining::join_all(described, layout.hidden, &mut moves);
     let fours = lists::write_kind(&moves, count, Kind::Eights, plan, 16);
     let parts = lists::write_kind(&moves, count, Kind::Fours, plan, fours);
     let bools = lists::write_kind(&moves, count, Kind::Parts, plan, parts);

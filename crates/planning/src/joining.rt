@@ -1,7 +1,8 @@
 // The moves of all arguments, as numbers in a row, three each: source, target and bytes. Neighbours are joined as they come.
+// A fixed list and how many moves it has, since there is no heap: 128 moves at most, three numbers each.
 ghost use Rattle.std.specs.Prelude.{◌≡◌, true, ◌+◌, ◌*◌, ◌-◌, ◌≤◌, ◌<◌, length, get_or};
 ghost use Rattle.places.specs.Recorded.{place_of};
-ghost use Rattle.layout.specs.Arguments.{shapes, used_first};
+ghost use Rattle.layout.specs.Arguments.{hidden, shapes, used_first};
 ghost use Rattle.layout.specs.Verdict.{verdict};
 ghost use Rattle.plans.specs.Plans.{triples};
 ghost use Rattle.plans.specs.Cuts.{spans_of, pieces, cut_one, cut, joined};
@@ -83,11 +84,11 @@ fn cut_one(moves: &mut [u16], count: usize, place: Place, size: Bytes, at: Bytes
 }
 
 // The moves of all arguments; answers how many.
-pub fn join_all(described: Described, moves: &mut [u16]) -> usize
-    requires { (verdict described.bytes.now ≡ 0) × (length moves.old ≡ 384) }
+pub fn join_all(described: Described, used: bool, moves: &mut [u16]) -> usize
+    requires { (verdict described.bytes.now ≡ 0) × (length moves.old ≡ 384) × (used ≡ hidden described.bytes.now) }
     ensures { (triples moves.new 0 result ≡ joined (cut (used_first described.entry.bytes.now) 0 (shapes described.entry.bytes.now))) × (result ≤ 128) }
 {
-    let mut laying = Laying::fresh(described.hidden());
+    let mut laying = Laying::fresh(used);
     let mut count = 0;
     for i in 0..described.arguments() {
         let placement = described.place_argument(i, &mut laying);

@@ -8,7 +8,7 @@ ghost use Rattle.reading.specs.Code.{tops, takes, LeadsTo};
 
 use crate::tables;
 
-// The first `depth` cells hold them.
+// The first `depth` cells hold them, each by its number in the grammar (`declarations`).
 #[derive(Drop)]
 pub struct Symbols {
     pub cells: [u8; 16400],

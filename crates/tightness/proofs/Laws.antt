@@ -1,7 +1,7 @@
 -- What makes a contract tight. Assumes nothing.
 use Rattle.std.specs.Prelude.{Err, Ok, Result}
 use mathlib.Core.Path.{◌≡◌, refl, sym, ◌∙◌, ap}
-use mathlib.Core.Logic.{∥∥₁_elim}
+use mathlib.Core.Logic.{∥∥₁_elim, ∥∥₁_map, ∥∥₁_prop}
 use mathlib.Core.List.{List, [], ◌∷◌, ◌++◌}
 use Prim.Native.Nat.{ℕ}
 use native.Mathlib.Nat.{ℕ_set}
@@ -38,6 +38,10 @@ settle c p q f = told c p (λ s. told c q (f s))
 -- where they are equations with one and the same right-hand side
 pub equal : {X : Type 0} (c : Coded X) {x y z : X} {A B : Type 1} → ∥ (x ≡ z) × A ∥₁ → ∥ (y ≡ z) × B ∥₁ → x ≡ y
 equal c p q = settle c p q (λ e f. e ∙ sym f)
+
+-- what two clauses state, as one fact
+pub both : {M : Type 1} {S : M → M → Type 1} {φ ψ : Type 0} {A B : Type 1} → ∥ ((x : M) × (y : M) × S x y × ∥ φ × A ∥₁ × ∥ ψ × B ∥₁) ∥₁ → ∥ (φ × ψ) × (A × B) ∥₁
+both p = ∥∥₁_elim p ∥∥₁_prop (λ s. ∥∥₁_elim s.3 ∥∥₁_prop (λ t. ∥∥₁_map s.4 (λ u. ((t.0, u.0), (t.1, u.1)))))
 
 -- ---- contracts that give a meaning: it determines the record
 

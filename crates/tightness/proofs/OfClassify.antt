@@ -9,9 +9,6 @@ use Rattle.classify.proofs.fill_classes.Symbol as fill_classes_symbol
 use Rattle.classify.specs.contracts.packed_classes.PackedFromArrayClass2.from as PackedFromArrayClass2_from
 use Rattle.classify.proofs.packed_classes.PackedFromArrayClass2.from.Met as PackedFromArrayClass2_from_met
 use Rattle.classify.proofs.packed_classes.PackedFromArrayClass2.from.Symbol as PackedFromArrayClass2_from_symbol
-use Rattle.classify.specs.contracts.packed_classes.ArrayClass2FromPacked.from as ArrayClass2FromPacked_from
-use Rattle.classify.proofs.packed_classes.ArrayClass2FromPacked.from.Met as ArrayClass2FromPacked_from_met
-use Rattle.classify.proofs.packed_classes.ArrayClass2FromPacked.from.Symbol as ArrayClass2FromPacked_from_symbol
 use Rattle.classify.specs.contracts.is_wide
 use Rattle.classify.proofs.is_wide.Met as is_wide_met
 use Rattle.classify.proofs.is_wide.Symbol as is_wide_symbol
@@ -21,12 +18,6 @@ use Rattle.classify.proofs.classes_in.Symbol as classes_in_symbol
 use Rattle.classify.specs.contracts.table_words.WordFromPacked.from as WordFromPacked_from
 use Rattle.classify.proofs.table_words.WordFromPacked.from.Met as WordFromPacked_from_met
 use Rattle.classify.proofs.table_words.WordFromPacked.from.Symbol as WordFromPacked_from_symbol
-use Rattle.classify.specs.contracts.table_words.Entry.with_word as Entry_with_word
-use Rattle.classify.proofs.table_words.Entry.with_word.Met as Entry_with_word_met
-use Rattle.classify.proofs.table_words.Entry.with_word.Symbol as Entry_with_word_symbol
-use Rattle.classify.specs.contracts.table_words.Entry.packed as Entry_packed
-use Rattle.classify.proofs.table_words.Entry.packed.Met as Entry_packed_met
-use Rattle.classify.proofs.table_words.Entry.packed.Symbol as Entry_packed_symbol
 use Rattle.classify.specs.contracts.table_words.Entry.asks as Entry_asks
 use Rattle.classify.proofs.table_words.Entry.asks.Met as Entry_asks_met
 use Rattle.classify.proofs.table_words.Entry.asks.Symbol as Entry_asks_symbol
@@ -52,12 +43,6 @@ meets_classify_PackedFromArrayClass2_from M = PackedFromArrayClass2_from_met.met
 pub tight_classify_PackedFromArrayClass2_from : Tight PackedFromArrayClass2_from.ended (λ M 𝓤 𝓛. PackedFromArrayClass2_from.clauses 𝓛)
 tight_classify_PackedFromArrayClass2_from c r q w v a b = (settle (result PackedFromArrayClass2_from.ended c) a.ensured b.ensured (λ e f i. record { 0 = (e.0 ∙ sym f.0) i }), refl)
 
-pub meets_classify_ArrayClass2FromPacked_from : Meets ArrayClass2FromPacked_from.ended (λ M 𝓤 𝓛. ArrayClass2FromPacked_from.clauses 𝓛) ArrayClass2FromPacked_from_symbol.name ArrayClass2FromPacked_from_symbol.code
-meets_classify_ArrayClass2FromPacked_from M = ArrayClass2FromPacked_from_met.met
-
-pub tight_classify_ArrayClass2FromPacked_from : Tight ArrayClass2FromPacked_from.ended (λ M 𝓤 𝓛. ArrayClass2FromPacked_from.clauses 𝓛)
-tight_classify_ArrayClass2FromPacked_from c r q w v a b = (equal (result ArrayClass2FromPacked_from.ended c) a.ensured b.ensured, refl)
-
 pub meets_classify_is_wide : Meets is_wide.ended (λ M 𝓤 𝓛. is_wide.clauses 𝓛) is_wide_symbol.name is_wide_symbol.code
 meets_classify_is_wide M = is_wide_met.met
 
@@ -75,15 +60,6 @@ meets_classify_WordFromPacked_from M = WordFromPacked_from_met.met
 
 pub tight_classify_WordFromPacked_from : Tight WordFromPacked_from.ended (λ M 𝓤 𝓛. WordFromPacked_from.clauses 𝓛)
 tight_classify_WordFromPacked_from c r q w v a b = (settle (result WordFromPacked_from.ended c) a.ensured b.ensured (λ e f i. record { 0 = (e ∙ sym f) i }), refl)
-
-pub meets_classify_Entry_with_word : Meets Entry_with_word.ended (λ M 𝓤 𝓛. Entry_with_word.clauses 𝓛) Entry_with_word_symbol.name Entry_with_word_symbol.code
-meets_classify_Entry_with_word M = Entry_with_word_met.met
-
-pub tight_classify_Entry_with_word : Tight Entry_with_word.ended (λ M 𝓤 𝓛. Entry_with_word.clauses 𝓛)
-tight_classify_Entry_with_word c r q w v a b = (settle (result Entry_with_word.ended c) a.ensured b.ensured (λ e f i. record { 0 = (e ∙ sym f) i }), refl)
-
-pub meets_classify_Entry_packed : Meets Entry_packed.ended (λ M 𝓤 𝓛. Entry_packed.clauses 𝓛) Entry_packed_symbol.name Entry_packed_symbol.code
-meets_classify_Entry_packed M = Entry_packed_met.met
 
 pub meets_classify_Entry_asks : Meets Entry_asks.ended (λ M 𝓤 𝓛. Entry_asks.clauses 𝓛) Entry_asks_symbol.name Entry_asks_symbol.code
 meets_classify_Entry_asks M = Entry_asks_met.met

@@ -5,9 +5,6 @@ use mir.Syntax.{Dict}
 use Rattle.std.specs.declared.clone.Clone.{Ghosts}
 use Rattle.tightness.specs.Tight.{Meets, MeetsCopy, Tight}
 use Rattle.tightness.proofs.Laws.{equal, result}
-use Rattle.form.specs.contracts.refusal_at
-use Rattle.form.proofs.refusal_at.Met as refusal_at_met
-use Rattle.form.proofs.refusal_at.Symbol as refusal_at_symbol
 use Rattle.form.specs.contracts.refusal_of
 use Rattle.form.proofs.refusal_of.Met as refusal_of_met
 use Rattle.form.proofs.refusal_of.Symbol as refusal_of_symbol
@@ -23,24 +20,12 @@ use Rattle.form.proofs.Refusal.of_type.Symbol as Refusal_of_type_symbol
 use Rattle.form.specs.contracts.RefusalFromReason.from as RefusalFromReason_from
 use Rattle.form.proofs.RefusalFromReason.from.Met as RefusalFromReason_from_met
 use Rattle.form.proofs.RefusalFromReason.from.Symbol as RefusalFromReason_from_symbol
-use Rattle.form.specs.contracts.first_broken
-use Rattle.form.proofs.first_broken.Met as first_broken_met
-use Rattle.form.proofs.first_broken.Symbol as first_broken_symbol
 use Rattle.form.specs.contracts.judge
 use Rattle.form.proofs.judge.Met as judge_met
 use Rattle.form.proofs.judge.Symbol as judge_symbol
-use Rattle.form.specs.contracts.form_refusal
-use Rattle.form.proofs.form_refusal.Met as form_refusal_met
-use Rattle.form.proofs.form_refusal.Symbol as form_refusal_symbol
 use Rattle.form.specs.contracts.read_form
 use Rattle.form.proofs.read_form.Met as read_form_met
 use Rattle.form.proofs.read_form.Symbol as read_form_symbol
-
-pub meets_form_refusal_at : Meets refusal_at.ended (λ M 𝓤 𝓛. refusal_at.clauses 𝓛) refusal_at_symbol.name refusal_at_symbol.code
-meets_form_refusal_at M = refusal_at_met.met
-
-pub tight_form_refusal_at : Tight refusal_at.ended (λ M 𝓤 𝓛. refusal_at.clauses 𝓛)
-tight_form_refusal_at c r q w v a b = (equal (result refusal_at.ended c) a.ensured b.ensured, refl)
 
 pub meets_form_refusal_of : Meets refusal_of.ended (λ M 𝓤 𝓛. refusal_of.clauses 𝓛) refusal_of_symbol.name refusal_of_symbol.code
 meets_form_refusal_of M = refusal_of_met.met
@@ -72,23 +57,11 @@ meets_form_RefusalFromReason_from M = RefusalFromReason_from_met.met
 pub tight_form_RefusalFromReason_from : Tight RefusalFromReason_from.ended (λ M 𝓤 𝓛. RefusalFromReason_from.clauses 𝓛)
 tight_form_RefusalFromReason_from c r q w v a b = (equal (result RefusalFromReason_from.ended c) a.ensured b.ensured, refl)
 
-pub meets_form_first_broken : Meets first_broken.ended (λ M 𝓤 𝓛. first_broken.clauses 𝓛) first_broken_symbol.name first_broken_symbol.code
-meets_form_first_broken M = first_broken_met.met
-
-pub tight_form_first_broken : Tight first_broken.ended (λ M 𝓤 𝓛. first_broken.clauses 𝓛)
-tight_form_first_broken c r q w v a b = (equal (result first_broken.ended c) a.ensured b.ensured, refl)
-
 pub meets_form_judge : Meets judge.ended (λ M 𝓤 𝓛. judge.clauses 𝓛) judge_symbol.name judge_symbol.code
 meets_form_judge M = judge_met.met
 
 pub tight_form_judge : Tight judge.ended (λ M 𝓤 𝓛. judge.clauses 𝓛)
 tight_form_judge c r q w v a b = (equal (result judge.ended c) a.ensured b.ensured, refl)
-
-pub meets_form_form_refusal : Meets form_refusal.ended (λ M 𝓤 𝓛. form_refusal.clauses 𝓛) form_refusal_symbol.name form_refusal_symbol.code
-meets_form_form_refusal M = form_refusal_met.met
-
-pub tight_form_form_refusal : Tight form_refusal.ended (λ M 𝓤 𝓛. form_refusal.clauses 𝓛)
-tight_form_form_refusal c r q w v a b = (equal (result form_refusal.ended c) a.ensured b.ensured, refl)
 
 pub meets_form_read_form : Meets read_form.ended (λ M 𝓤 𝓛. read_form.clauses 𝓛) read_form_symbol.name read_form_symbol.code
 meets_form_read_form M = read_form_met.met

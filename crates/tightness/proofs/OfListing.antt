@@ -8,21 +8,12 @@ use Rattle.listing.specs.contracts.texts.Text as listing_Text
 use Rattle.listing.specs.contracts.write_listing
 use Rattle.listing.proofs.write_listing.Met as write_listing_met
 use Rattle.listing.proofs.write_listing.Symbol as write_listing_symbol
-use Rattle.listing.specs.contracts.texts.Text.new as Text_new
-use Rattle.listing.proofs.texts.Text.new.Met as Text_new_met
-use Rattle.listing.proofs.texts.Text.new.Symbol as Text_new_symbol
 use Rattle.listing.specs.contracts.texts.Text.put as Text_put
 use Rattle.listing.proofs.texts.Text.put.Met as Text_put_met
 use Rattle.listing.proofs.texts.Text.put.Symbol as Text_put_symbol
-use Rattle.listing.specs.contracts.texts.Text.put_digit as Text_put_digit
-use Rattle.listing.proofs.texts.Text.put_digit.Met as Text_put_digit_met
-use Rattle.listing.proofs.texts.Text.put_digit.Symbol as Text_put_digit_symbol
 use Rattle.listing.specs.contracts.texts.Text.put_decimal as Text_put_decimal
 use Rattle.listing.proofs.texts.Text.put_decimal.Met as Text_put_decimal_met
 use Rattle.listing.proofs.texts.Text.put_decimal.Symbol as Text_put_decimal_symbol
-use Rattle.listing.specs.contracts.texts.Text.put_number as Text_put_number
-use Rattle.listing.proofs.texts.Text.put_number.Met as Text_put_number_met
-use Rattle.listing.proofs.texts.Text.put_number.Symbol as Text_put_number_symbol
 
 pub meets_listing_write_listing : Meets write_listing.ended (λ M 𝓤 𝓛. write_listing.clauses 𝓛) write_listing_symbol.name write_listing_symbol.code
 meets_listing_write_listing M = write_listing_met.met
@@ -33,9 +24,6 @@ tight_listing_write_listing c r q w v a b = (settle (result write_listing.ended 
     same_out : w.1.0 ≡ v.1.0
     same_out = settle bytes a.ensured b.ensured (λ e f. e.2 ∙ sym f.2)
 
-pub meets_listing_Text_new : Meets Text_new.ended (λ M 𝓤 𝓛. Text_new.clauses 𝓛) Text_new_symbol.name Text_new_symbol.code
-meets_listing_Text_new M = Text_new_met.met
-
 pub meets_listing_Text_put : Meets Text_put.ended (λ M 𝓤 𝓛. Text_put.clauses 𝓛) Text_put_symbol.name Text_put_symbol.code
 meets_listing_Text_put M = Text_put_met.met
 
@@ -45,29 +33,11 @@ tight_listing_Text_put c r q w v a b = (refl, λ i. (same_self i, (tt, tt)))
     same_self : w.0 ≡ v.0
     same_self = settle ((listing_Text.the_row (record { mir = erased; lft = c.lifetimes.0 })).coded) a.ensured b.ensured (λ e f. e.is ∙ sym f.is)
 
-pub meets_listing_Text_put_digit : Meets Text_put_digit.ended (λ M 𝓤 𝓛. Text_put_digit.clauses 𝓛) Text_put_digit_symbol.name Text_put_digit_symbol.code
-meets_listing_Text_put_digit M = Text_put_digit_met.met
-
-pub tight_listing_Text_put_digit : Tight Text_put_digit.ended (λ M 𝓤 𝓛. Text_put_digit.clauses 𝓛)
-tight_listing_Text_put_digit c r q w v a b = (refl, λ i. (same_self i, (tt, tt)))
-  where
-    same_self : w.0 ≡ v.0
-    same_self = settle ((listing_Text.the_row (record { mir = erased; lft = c.lifetimes.0 })).coded) a.ensured b.ensured (λ e f. e.is ∙ sym f.is)
-
 pub meets_listing_Text_put_decimal : Meets Text_put_decimal.ended (λ M 𝓤 𝓛. Text_put_decimal.clauses 𝓛) Text_put_decimal_symbol.name Text_put_decimal_symbol.code
 meets_listing_Text_put_decimal M = Text_put_decimal_met.met
 
 pub tight_listing_Text_put_decimal : Tight Text_put_decimal.ended (λ M 𝓤 𝓛. Text_put_decimal.clauses 𝓛)
 tight_listing_Text_put_decimal c r q w v a b = (refl, λ i. (same_self i, (tt, tt)))
-  where
-    same_self : w.0 ≡ v.0
-    same_self = settle ((listing_Text.the_row (record { mir = erased; lft = c.lifetimes.0 })).coded) a.ensured b.ensured (λ e f. e.is ∙ sym f.is)
-
-pub meets_listing_Text_put_number : Meets Text_put_number.ended (λ M 𝓤 𝓛. Text_put_number.clauses 𝓛) Text_put_number_symbol.name Text_put_number_symbol.code
-meets_listing_Text_put_number M = Text_put_number_met.met
-
-pub tight_listing_Text_put_number : Tight Text_put_number.ended (λ M 𝓤 𝓛. Text_put_number.clauses 𝓛)
-tight_listing_Text_put_number c r q w v a b = (refl, λ i. (same_self i, (tt, (tt, tt))))
   where
     same_self : w.0 ≡ v.0
     same_self = settle ((listing_Text.the_row (record { mir = erased; lft = c.lifetimes.0 })).coded) a.ensured b.ensured (λ e f. e.is ∙ sym f.is)

@@ -12,6 +12,9 @@ use Rattle.moving.proofs.gather_values.Symbol as gather_values_symbol
 use Rattle.moving.specs.contracts.wrong_address
 use Rattle.moving.proofs.wrong_address.Met as wrong_address_met
 use Rattle.moving.proofs.wrong_address.Symbol as wrong_address_symbol
+use Rattle.moving.specs.contracts.is_bool
+use Rattle.moving.proofs.is_bool.Met as is_bool_met
+use Rattle.moving.proofs.is_bool.Symbol as is_bool_symbol
 use Rattle.moving.specs.contracts.broken_byte
 use Rattle.moving.proofs.broken_byte.Met as broken_byte_met
 use Rattle.moving.proofs.broken_byte.Symbol as broken_byte_symbol
@@ -45,6 +48,12 @@ meets_moving_wrong_address M = wrong_address_met.met
 
 pub tight_moving_wrong_address : Tight wrong_address.ended (λ M 𝓤 𝓛. wrong_address.clauses 𝓛)
 tight_moving_wrong_address c r q w v a b = (equal (result wrong_address.ended c) a.ensured b.ensured, refl)
+
+pub meets_moving_is_bool : Meets is_bool.ended (λ M 𝓤 𝓛. is_bool.clauses 𝓛) is_bool_symbol.name is_bool_symbol.code
+meets_moving_is_bool M = is_bool_met.met
+
+pub tight_moving_is_bool : Tight is_bool.ended (λ M 𝓤 𝓛. is_bool.clauses 𝓛)
+tight_moving_is_bool c r q w v a b = (equal (result is_bool.ended c) a.ensured b.ensured, refl)
 
 pub meets_moving_broken_byte : Meets broken_byte.ended (λ M 𝓤 𝓛. broken_byte.clauses 𝓛) broken_byte_symbol.name broken_byte_symbol.code
 meets_moving_broken_byte M = broken_byte_met.met

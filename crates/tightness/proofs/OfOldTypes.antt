@@ -15,12 +15,9 @@ use Rattle.old_types.proofs.old_member_run.Symbol as old_member_run_symbol
 use Rattle.old_types.specs.contracts.kept_refusal
 use Rattle.old_types.proofs.kept_refusal.Met as kept_refusal_met
 use Rattle.old_types.proofs.kept_refusal.Symbol as kept_refusal_symbol
-use Rattle.old_types.specs.contracts.types_refusal_with
-use Rattle.old_types.proofs.types_refusal_with.Met as types_refusal_with_met
-use Rattle.old_types.proofs.types_refusal_with.Symbol as types_refusal_with_symbol
-use Rattle.old_types.specs.contracts.refusal_for
-use Rattle.old_types.proofs.refusal_for.Met as refusal_for_met
-use Rattle.old_types.proofs.refusal_for.Symbol as refusal_for_symbol
+use Rattle.old_types.specs.contracts.judge
+use Rattle.old_types.proofs.judge.Met as judge_met
+use Rattle.old_types.proofs.judge.Symbol as judge_symbol
 
 pub meets_old_types_old_extent : Meets old_extent.ended (λ M 𝓤 𝓛. old_extent.clauses 𝓛) old_extent_symbol.name old_extent_symbol.code
 meets_old_types_old_extent M = old_extent_met.met
@@ -46,17 +43,11 @@ meets_old_types_kept_refusal M = kept_refusal_met.met
 pub tight_old_types_kept_refusal : Tight kept_refusal.ended (λ M 𝓤 𝓛. kept_refusal.clauses 𝓛)
 tight_old_types_kept_refusal c r q w v a b = (equal (result kept_refusal.ended c) a.ensured b.ensured, refl)
 
-pub meets_old_types_types_refusal_with : Meets types_refusal_with.ended (λ M 𝓤 𝓛. types_refusal_with.clauses 𝓛) types_refusal_with_symbol.name types_refusal_with_symbol.code
-meets_old_types_types_refusal_with M = types_refusal_with_met.met
+pub meets_old_types_judge : Meets judge.ended (λ M 𝓤 𝓛. judge.clauses 𝓛) judge_symbol.name judge_symbol.code
+meets_old_types_judge M = judge_met.met
 
-pub tight_old_types_types_refusal_with : Tight types_refusal_with.ended (λ M 𝓤 𝓛. types_refusal_with.clauses 𝓛)
-tight_old_types_types_refusal_with c r q w v a b = (settle (result types_refusal_with.ended c) a.ensured b.ensured (λ e f. e.0 ∙ sym f.0), λ i. (tt, (same_table i, tt)))
+pub tight_old_types_judge : Tight judge.ended (λ M 𝓤 𝓛. judge.clauses 𝓛)
+tight_old_types_judge c r q w v a b = (settle (result judge.ended c) a.ensured b.ensured (λ e f. e.0 ∙ sym f.0), λ i. (tt, (same_table i, tt)))
   where
     same_table : w.1.0 ≡ v.1.0
     same_table = settle bytes a.ensured b.ensured (λ e f. e.1 ∙ sym f.1)
-
-pub meets_old_types_refusal_for : Meets refusal_for.ended (λ M 𝓤 𝓛. refusal_for.clauses 𝓛) refusal_for_symbol.name refusal_for_symbol.code
-meets_old_types_refusal_for M = refusal_for_met.met
-
-pub tight_old_types_refusal_for : Tight refusal_for.ended (λ M 𝓤 𝓛. refusal_for.clauses 𝓛)
-tight_old_types_refusal_for c r q w v a b = (equal (result refusal_for.ended c) a.ensured b.ensured, refl)

@@ -6,9 +6,6 @@ use Rattle.tightness.proofs.Laws.{bytes, equal, result, settle}
 use Rattle.questions.specs.contracts.type_classes
 use Rattle.questions.proofs.type_classes.Met as type_classes_met
 use Rattle.questions.proofs.type_classes.Symbol as type_classes_symbol
-use Rattle.questions.specs.contracts.refusal_in
-use Rattle.questions.proofs.refusal_in.Met as refusal_in_met
-use Rattle.questions.proofs.refusal_in.Symbol as refusal_in_symbol
 use Rattle.questions.specs.contracts.type_extent
 use Rattle.questions.proofs.type_extent.Met as type_extent_met
 use Rattle.questions.proofs.type_extent.Symbol as type_extent_symbol
@@ -33,12 +30,6 @@ meets_questions_type_classes M = type_classes_met.met
 
 pub tight_questions_type_classes : Tight type_classes.ended (λ M 𝓤 𝓛. type_classes.clauses 𝓛)
 tight_questions_type_classes c r q w v a b = (equal (result type_classes.ended c) a.ensured b.ensured, refl)
-
-pub meets_questions_refusal_in : Meets refusal_in.ended (λ M 𝓤 𝓛. refusal_in.clauses 𝓛) refusal_in_symbol.name refusal_in_symbol.code
-meets_questions_refusal_in M = refusal_in_met.met
-
-pub tight_questions_refusal_in : Tight refusal_in.ended (λ M 𝓤 𝓛. refusal_in.clauses 𝓛)
-tight_questions_refusal_in c r q w v a b = (equal (result refusal_in.ended c) a.ensured b.ensured, refl)
 
 pub meets_questions_type_extent : Meets type_extent.ended (λ M 𝓤 𝓛. type_extent.clauses 𝓛) type_extent_symbol.name type_extent_symbol.code
 meets_questions_type_extent M = type_extent_met.met

@@ -6,18 +6,15 @@ use Rattle.tightness.proofs.Laws.{bytes, equal, result, settle}
 use Rattle.types.specs.contracts.offset_after
 use Rattle.types.proofs.offset_after.Met as offset_after_met
 use Rattle.types.proofs.offset_after.Symbol as offset_after_symbol
+use Rattle.types.specs.contracts.end_after
+use Rattle.types.proofs.end_after.Met as end_after_met
+use Rattle.types.proofs.end_after.Symbol as end_after_symbol
 use Rattle.types.specs.contracts.judge
 use Rattle.types.proofs.judge.Met as judge_met
 use Rattle.types.proofs.judge.Symbol as judge_symbol
-use Rattle.types.specs.contracts.refusal_for
-use Rattle.types.proofs.refusal_for.Met as refusal_for_met
-use Rattle.types.proofs.refusal_for.Symbol as refusal_for_symbol
-use Rattle.types.specs.contracts.entries
-use Rattle.types.proofs.entries.Met as entries_met
-use Rattle.types.proofs.entries.Symbol as entries_symbol
-use Rattle.types.specs.contracts.wide
-use Rattle.types.proofs.wide.Met as wide_met
-use Rattle.types.proofs.wide.Symbol as wide_symbol
+use Rattle.types.specs.contracts.entry_of
+use Rattle.types.proofs.entry_of.Met as entry_of_met
+use Rattle.types.proofs.entry_of.Symbol as entry_of_symbol
 use Rattle.types.specs.contracts.extent_by
 use Rattle.types.proofs.extent_by.Met as extent_by_met
 use Rattle.types.proofs.extent_by.Symbol as extent_by_symbol
@@ -31,6 +28,12 @@ meets_types_offset_after M = offset_after_met.met
 pub tight_types_offset_after : Tight offset_after.ended (λ M 𝓤 𝓛. offset_after.clauses 𝓛)
 tight_types_offset_after c r q w v a b = (settle (result offset_after.ended c) a.ensured b.ensured (λ e f i. record { 0 = (e ∙ sym f) i }), refl)
 
+pub meets_types_end_after : Meets end_after.ended (λ M 𝓤 𝓛. end_after.clauses 𝓛) end_after_symbol.name end_after_symbol.code
+meets_types_end_after M = end_after_met.met
+
+pub tight_types_end_after : Tight end_after.ended (λ M 𝓤 𝓛. end_after.clauses 𝓛)
+tight_types_end_after c r q w v a b = (settle (result end_after.ended c) a.ensured b.ensured (λ e f i. record { 0 = (e ∙ sym f) i }), refl)
+
 pub meets_types_judge : Meets judge.ended (λ M 𝓤 𝓛. judge.clauses 𝓛) judge_symbol.name judge_symbol.code
 meets_types_judge M = judge_met.met
 
@@ -40,23 +43,11 @@ tight_types_judge c r q w v a b = (settle (result judge.ended c) a.ensured b.ens
     same_table : w.1.0 ≡ v.1.0
     same_table = settle bytes a.ensured b.ensured (λ e f. e.1 ∙ sym f.1)
 
-pub meets_types_refusal_for : Meets refusal_for.ended (λ M 𝓤 𝓛. refusal_for.clauses 𝓛) refusal_for_symbol.name refusal_for_symbol.code
-meets_types_refusal_for M = refusal_for_met.met
+pub meets_types_entry_of : Meets entry_of.ended (λ M 𝓤 𝓛. entry_of.clauses 𝓛) entry_of_symbol.name entry_of_symbol.code
+meets_types_entry_of M = entry_of_met.met
 
-pub tight_types_refusal_for : Tight refusal_for.ended (λ M 𝓤 𝓛. refusal_for.clauses 𝓛)
-tight_types_refusal_for c r q w v a b = (equal (result refusal_for.ended c) a.ensured b.ensured, refl)
-
-pub meets_types_entries : Meets entries.ended (λ M 𝓤 𝓛. entries.clauses 𝓛) entries_symbol.name entries_symbol.code
-meets_types_entries M = entries_met.met
-
-pub tight_types_entries : Tight entries.ended (λ M 𝓤 𝓛. entries.clauses 𝓛)
-tight_types_entries c r q w v a b = (settle (result entries.ended c) a.ensured b.ensured (λ e f. e.0 ∙ sym f.0), refl)
-
-pub meets_types_wide : Meets wide.ended (λ M 𝓤 𝓛. wide.clauses 𝓛) wide_symbol.name wide_symbol.code
-meets_types_wide M = wide_met.met
-
-pub tight_types_wide : Tight wide.ended (λ M 𝓤 𝓛. wide.clauses 𝓛)
-tight_types_wide c r q w v a b = (equal (result wide.ended c) a.ensured b.ensured, refl)
+pub tight_types_entry_of : Tight entry_of.ended (λ M 𝓤 𝓛. entry_of.clauses 𝓛)
+tight_types_entry_of c r q w v a b = (equal (result entry_of.ended c) a.ensured b.ensured, refl)
 
 pub meets_types_extent_by : Meets extent_by.ended (λ M 𝓤 𝓛. extent_by.clauses 𝓛) extent_by_symbol.name extent_by_symbol.code
 meets_types_extent_by M = extent_by_met.met

@@ -9,9 +9,6 @@ use Rattle.uses.proofs.judge_passing.Symbol as judge_passing_symbol
 use Rattle.uses.specs.contracts.judge
 use Rattle.uses.proofs.judge.Met as judge_met
 use Rattle.uses.proofs.judge.Symbol as judge_symbol
-use Rattle.uses.specs.contracts.uses_refusal_with
-use Rattle.uses.proofs.uses_refusal_with.Met as uses_refusal_with_met
-use Rattle.uses.proofs.uses_refusal_with.Symbol as uses_refusal_with_symbol
 
 pub meets_uses_judge_passing : Meets judge_passing.ended (λ M 𝓤 𝓛. judge_passing.clauses 𝓛) judge_passing_symbol.name judge_passing_symbol.code
 meets_uses_judge_passing M = judge_passing_met.met
@@ -24,15 +21,6 @@ meets_uses_judge M = judge_met.met
 
 pub tight_uses_judge : Tight judge.ended (λ M 𝓤 𝓛. judge.clauses 𝓛)
 tight_uses_judge c r q w v a b = (settle (result judge.ended c) a.ensured b.ensured (λ e f. e.0 ∙ sym f.0), λ i. (tt, (same_table i, tt)))
-  where
-    same_table : w.1.0 ≡ v.1.0
-    same_table = settle bytes a.ensured b.ensured (λ e f. e.1 ∙ sym f.1)
-
-pub meets_uses_uses_refusal_with : Meets uses_refusal_with.ended (λ M 𝓤 𝓛. uses_refusal_with.clauses 𝓛) uses_refusal_with_symbol.name uses_refusal_with_symbol.code
-meets_uses_uses_refusal_with M = uses_refusal_with_met.met
-
-pub tight_uses_uses_refusal_with : Tight uses_refusal_with.ended (λ M 𝓤 𝓛. uses_refusal_with.clauses 𝓛)
-tight_uses_uses_refusal_with c r q w v a b = (settle (result uses_refusal_with.ended c) a.ensured b.ensured (λ e f. e.0 ∙ sym f.0), λ i. (tt, (same_table i, tt)))
   where
     same_table : w.1.0 ≡ v.1.0
     same_table = settle bytes a.ensured b.ensured (λ e f. e.1 ∙ sym f.1)

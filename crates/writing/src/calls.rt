@@ -19,7 +19,7 @@ pub fn write_declaration(d: &[u8], out: &mut [u8; 8192]) -> usize
     if 4096 < many {
         return many;
     }
-    let mut text = Text::new(out);
+    let mut text = Text { out, at: 0 };
     declaration_text::put_declaration(d, &mut text);
     text.at
 }

@@ -82,7 +82,7 @@ fn put_group(text: &mut Text, union: bool)
     }
 }
 
-// Type k without its sizes.
+// Type k without its sizes. By number: a kind is a byte of the description, and `type_text` is by it.
 #[cycle(put_types)]
 pub fn put_type(d: &[u8], k: usize, text: &mut Text)
     requires { Sized (model_in d.now) d.now k × (text.old.at + length (type_text d.now k) ≤ 8192) }

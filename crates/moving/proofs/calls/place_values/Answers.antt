@@ -6,7 +6,7 @@ use Rattle.std.specs.Prelude.{Err, Result}
 use Rattle.std.proofs.Common.{rules}
 use Rattle.units.specs.declared.Registers.{Registers}
 use Rattle.form.specs.declared.Refusal.{Refusal}
-use Rattle.moving.proofs.Answers.{place-laid_not, place-wrong_length, place-lengths, place-wrong_address, place-wrong_bool, place-done}
+use Rattle.moving.proofs.Answers.{place-laid_not, place-wrong_length, place-lengths, place-hidden, place-wrong_address, place-wrong_bool, place-done}
 use Rattle.moving.proofs.Turns.{whole}
 use Rattle.moving.proofs.calls.place_values.Goals as goal
 
@@ -32,7 +32,7 @@ pub returns-then-wrong_bool : goal.returns-then-wrong_bool
 returns-then-wrong_bool c = place-wrong_bool c.args.d.now c.args.hidden c.args.values.now c.args.registers.now c.args.upper.now c.args.stack.now c.in_ok-layout.layout (sym c.layout_with.ensures.0 ∙ c.in_ok-layout.was) (sym c.wrong_length.ensures ∙ c.if-wrong_length.false) _ c.wrong_address.ensures c.if-wrong_address.false _ c.wrong_bool.ensures _ c.from-then-wrong_bool.ensures c.if-wrong_bool.true
 
 pub fill_images-requires : goal.fill_images-requires
-fill_images-requires c = place-lengths c.args.d.now c.args.hidden c.args.values.now c.args.registers.now c.args.upper.now c.args.stack.now c.in_ok-layout.layout (sym c.layout_with.ensures.0 ∙ c.in_ok-layout.was) (sym c.wrong_length.ensures ∙ c.if-wrong_length.false)
+fill_images-requires c = (place-lengths c.args.d.now c.args.hidden c.args.values.now c.args.registers.now c.args.upper.now c.args.stack.now c.in_ok-layout.layout (sym c.layout_with.ensures.0 ∙ c.in_ok-layout.was) (sym c.wrong_length.ensures ∙ c.if-wrong_length.false), place-hidden c.args.d.now c.args.hidden c.args.values.now c.args.registers.now c.args.upper.now c.args.stack.now c.in_ok-layout.layout (sym c.layout_with.ensures.0 ∙ c.in_ok-layout.was) (sym c.wrong_length.ensures ∙ c.if-wrong_length.false))
 
 pub returns : goal.returns
 returns c = place-done c.args.d.now c.args.hidden c.args.values.now c.args.registers.now c.args.upper.now c.args.stack.now c.in_ok-layout.layout (sym c.layout_with.ensures.0 ∙ c.in_ok-layout.was) (sym c.wrong_length.ensures ∙ c.if-wrong_length.false) _ c.wrong_address.ensures c.if-wrong_address.false _ c.wrong_bool.ensures _ _ _ c.if-wrong_bool.false (omega arith) (omega arith) c.fill_images.ensures

@@ -6,10 +6,10 @@ use Rattle.moving.proofs.Turns.{turn_asks, turn_move, step_pair}
 use Rattle.moving.proofs.filling.place_all.Goals as goal
 
 pub loop-i-init : goal.loop-i-init
-loop-i-init c = placing-first _ _ _ _ _ _ c.requires (c.fresh-laying.ensures ∙ ap laying_fresh c.hidden.ensures)
+loop-i-init c = placing-first _ _ _ _ _ _ c.requires.0 (c.fresh-laying.ensures ∙ ap laying_fresh c.requires.1)
 
 pub place_argument-placement-requires : goal.place_argument-placement-requires
-place_argument-placement-requires c = turn_asks _ _ _ (omega (arith, c.loop-i-test.true, c.arguments-i-end.ensures)) c.loop-i.invariant.turn c.requires.accepted
+place_argument-placement-requires c = turn_asks _ _ _ (omega (arith, c.loop-i-test.true, c.arguments-i-end.ensures)) c.loop-i.invariant.turn c.requires.0.accepted
 
 pub place_one-requires : goal.place_one-requires
 place_one-requires c = turn_move _ _ _ (omega (arith, c.loop-i-test.true, c.arguments-i-end.ensures)) c.loop-i.invariant.turn _ (step_pair _ _ _ _ _ c.place_argument-placement.ensures.0 c.place_argument-placement.ensures.1) _ _ _ _ c.loop-i.invariant.lent

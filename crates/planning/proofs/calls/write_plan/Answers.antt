@@ -6,11 +6,11 @@ use Rattle.plans.specs.Cuts.{plan_of}
 use Rattle.planning.proofs.Writing.{length_over}
 use mathlib.Core.Path.{refl}
 use native.Mathlib.Omega.{arith}
-use Rattle.planning.proofs.Heads.{lists_ask, room-eights, room-fours, room-parts, room-bools, order, counts-small, whole-written}
+use Rattle.planning.proofs.Heads.{is_hidden, lists_ask, room-eights, room-fours, room-parts, room-bools, order, counts-small, whole-written}
 use Rattle.planning.proofs.calls.write_plan.Goals as goal
 
 pub join_all-count-requires : goal.join_all-count-requires
-join_all-count-requires c = (c.requires.0, refl)
+join_all-count-requires c = (c.requires.0, refl, is_hidden c.args.described.bytes.now c.requires.0 _ c.requires.1)
 
 pub write_kind-fours-requires : goal.write_kind-fours-requires
 write_kind-fours-requires c = (omega (arith, c.join_all-count.ensures.1), room-eights c.args.described.bytes.now c.requires.0 _ c.join_all-count.ensures.0 _ c.requires.2, lists_ask c.args.described.bytes.now c.requires.0 _ c.join_all-count.ensures.0)

@@ -6,7 +6,7 @@ use Rattle.moving.proofs.Turns.{turn_asks, step_pair}
 use Rattle.planning.proofs.joining.join_all.Goals as goal
 
 pub loop-i-init : goal.loop-i-init
-loop-i-init c = joining_first _ _ _ (c.fresh-laying.ensures ∙ ap laying_fresh c.hidden.ensures) c.requires.1
+loop-i-init c = joining_first _ _ _ (c.fresh-laying.ensures ∙ ap laying_fresh c.requires.2) c.requires.1
 
 pub place_argument-placement-requires : goal.place_argument-placement-requires
 place_argument-placement-requires c = (turn_asks _ _ _ (omega (arith, c.loop-i-test.true, c.arguments-i-end.ensures)) c.loop-i.invariant.turn c.requires.0)

@@ -2,8 +2,6 @@
 -- Assumes nothing.
 use mathlib.Core.Bool.{false}
 use mathlib.Core.Path.{sym, ◌∙◌}
-use Prim.Native.Nat.{◌<◌}
-use native.Mathlib.Omega.{arith}
 use borrow.Author.Tests.{not-true, not-false, eqb-true, eqb-false}
 use Rattle.std.proofs.lemmas.Result.{err_from_is_err_and}
 use Rattle.types.proofs.Table.{known-low}
@@ -43,12 +41,6 @@ pub bounds-table-ty : goal.bounds-table-ty
 bounds-table-ty c =
     let tabled = c.in_ok-layout.ensures.2 (laid-accepted c.args.d.now _ (sym c.in_ok-layout.ensures.0)).0 in
     known-low c.args.d.now _ tabled.sizes _ (sized-here c.args.station c.args.d.now c.args.walk c.args.stack.now c.args.asked _ (sym c.in_ok-layout.ensures.0) c.if-walk-station.false (sym c.is_astray.ensures ∙ c.if-is_astray.false) (λ q. c.if-walk-arguments.false (q ∙ sym c.arguments.ensures)) _ c.argument_at-ty.ensures)
-
-pub offset_bounds-table-ty : goal.offset_bounds-table-ty
-offset_bounds-table-ty c =
-    let tabled = c.in_ok-layout.ensures.2 (laid-accepted c.args.d.now _ (sym c.in_ok-layout.ensures.0)).0 in
-    let low : c.argument_at-ty.result < 64 = known-low c.args.d.now _ tabled.sizes _ (sized-here c.args.station c.args.d.now c.args.walk c.args.stack.now c.args.asked _ (sym c.in_ok-layout.ensures.0) c.if-walk-station.false (sym c.is_astray.ensures ∙ c.if-is_astray.false) (λ q. c.if-walk-arguments.false (q ∙ sym c.arguments.ensures)) _ c.argument_at-ty.ensures) in
-    omega arith
 
 pub returns : goal.returns
 returns c =
