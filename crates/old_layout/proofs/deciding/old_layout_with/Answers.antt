@@ -14,7 +14,7 @@ returns-in_err-judge c =
     (passed-on _ c.from_residual.ensures.1 ∙ answer-judged c.args.d.now _ c.in_err-judge.ensures.0, c.judge.ensures.1, λ e. c.judge.ensures.2 (accepted-uses c.args.d.now e))
 
 pub invariant_of-layout : goal.invariant_of-layout
-invariant_of-layout c = ?
+invariant_of-layout c = let right = passed _ _ c.in_ok-judge.ensures.0 in record { known = record { right = right; sizes = c.judge.ensures.2 right } }
 
 pub returns-then-gt : goal.returns-then-gt
 returns-then-gt c =
