@@ -48,20 +48,6 @@ fn copy_run(members: &mut [u8], m: usize, run: &[u8])
 }
 
 impl Rows {
-    // No rows yet.
-    pub fn new() -> Self
-        ensures { rows_at result.kinds result.seconds result.counts result.members result.types ≡ [] }
-    {
-        Rows {
-            kinds: [0; 64],
-            seconds: [0; 64],
-            counts: [0; 64],
-            members: [0; 255],
-            types: 0,
-            used: 0,
-        }
-    }
-
     // Whether row k is this row.
     fn is_row(&self, k: usize, row: &Row) -> bool
         requires { k < self.now.types }

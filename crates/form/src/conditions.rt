@@ -95,7 +95,7 @@ fn broken_record(d: &[u8], k: usize) -> bool
 }
 
 // The first type whose record is broken.
-pub fn lowest_broken(d: &[u8]) -> Option<usize>
+pub fn first_broken(d: &[u8]) -> Option<usize>
     requires { Whole d.now }
     ensures { result ≡ first_within (broken_record d.now) 0 (types_in d.now) }
 {

@@ -25,7 +25,7 @@ pub fn judge(d: &[u8]) -> Result<(), Refusal>
     if conditions::wrong_length(d) {
         return Err(Refusal::from(Reason::WrongLength));
     }
-    if let Some(k) = conditions::lowest_broken(d) {
+    if let Some(k) = conditions::first_broken(d) {
         return Err(Refusal::of_type(Reason::WrongRecord, k));
     }
     Ok(())

@@ -23,6 +23,7 @@ const NO_WALK: Walk = Walk {
 };
 
 // What is lent, the station and the walk records apart: the seat's room and the two images, and how many bytes of each.
+#[derive(Drop)]
 struct Desk {
     room: [u8; 600],
     registers: [u8; 4096],
@@ -71,6 +72,14 @@ fn print_walk(rt: &impl Print, walk: Walk) -> io::Result<()> {
     )
 }
 
+// A byte more, modulo 65,521.
+fn with_byte(passed: u64, byte: u8) -> u64
+    requires { passed < 65521 }
+    ensures { result < 65521 }
+{
+    (passed + u64::from(byte)) % 65521
+}
+
 // The sum of (index + 1) times byte, modulo 65,521: from the end on, each byte counts once more at every step.
 fn checksum(room: &[u8]) -> u64
     ensures { result < 65521 }
@@ -78,7 +87,7 @@ fn checksum(room: &[u8]) -> u64
     let mut passed = 0;
     let mut sum = 0;
     for &byte in room.iter().rev() {
-        passed = (passed + u64::from(byte)) % 65521;
+        passed = with_byte(passed, byte);
         sum = (sum + passed) % 65521;
     }
     sum
@@ -127,6 +136,7 @@ fn read_sized(rt: &impl Input, room: &mut [u8]) -> usize
 // ---- the host
 
 // The station, and four walk records.
+#[derive(Drop)]
 struct Host {
     station: Station,
     walks: [Walk; 4],

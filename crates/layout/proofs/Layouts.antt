@@ -25,7 +25,7 @@ use Rattle.layout.specs.Arguments.{is_named, return_place, returned_size, hidden
 use Rattle.layout.specs.Asks.{Before, AskRecord, Alike}
 use Rattle.layout.specs.Placements.{laying_fresh, laying_at, step_at, placement_at}
 use Rattle.layout.specs.Verdict.{verdict}
-use Rattle.layout.specs.Layout.{values_of, layout_of, layout_answer, check_answer, refusal_in, table_after}
+use Rattle.layout.specs.Layout.{values_of, layout_of, layout_answer, check_answer, table_after}
 use Rattle.layout.specs.declared.Layout.{Layout}
 use Rattle.layout.specs.declared.placements.Laying.{Laying}
 use Rattle.layout.specs.declared.placements.Placement.{Placement}
@@ -163,14 +163,6 @@ refused-verdict d r e = by (eqb (verdict d) 0) refl
     by : (b : Bool) → eqb (verdict d) 0 ≡ b → r ≡ refusal_for d (verdict d)
     by true q = absurd (let z : Err r ≡ Ok (layout_of d) = sym e ∙ answered d true q in let f : ◌≡◌ {A = ℕ} 0 1 = cc in omega arith)
     by false q = let z : Err r ≡ Err (refusal_for d (verdict d)) = sym e ∙ answered d false q in cc
-
--- an answer carries the description's refusal
-pub told : (d : List ℕ) → refusal_in (layout_answer d) ≡ refusal_for d (verdict d)
-told d = by (eqb (verdict d) 0) refl
-  where
-    by : (b : Bool) → eqb (verdict d) 0 ≡ b → refusal_in (layout_answer d) ≡ refusal_for d (verdict d)
-    by true q = ap refusal_in (answered d true q) ∙ sym (no_type d 0 refl refl) ∙ ap (refusal_for d) (sym (eqb-true (verdict d) 0 q))
-    by false q = ap refusal_in (answered d false q)
 
 -- no answer is 0 and refused: a refusal that is passed on has a number
 pub refused-nonzero : (d : List ℕ) (r : Refusal) → layout_answer d ≡ Err r → verdict d ≡ 0 → ⊥

@@ -3,7 +3,7 @@
 use Rattle.std.specs.Prelude.{cond, List, ℕ, eqb, Err, Ok, Result}
 use Rattle.description.specs.Description.{types_in, named_in, arguments_in}
 use Rattle.form.specs.declared.Refusal.{Refusal}
-use Rattle.form.specs.Reading.{refusal_of, judgment}
+use Rattle.form.specs.Reading.{judgment}
 use Rattle.types.specs.Wrong.{refusal_for}
 use Rattle.types.specs.Table.{filled, sizes_after}
 use Rattle.classify.specs.Table.{full_entry}
@@ -39,11 +39,6 @@ layout_answer d = cond (eqb (verdict d) 0) (Ok (layout_of d)) (Err (refusal_for 
 -- the verdict alone
 unfoldable pub check_answer : List ℕ → Result (Unit {0}) Refusal
 check_answer d = judgment (verdict d) (refusal_for d (verdict d))
-
--- the refusal that an answer carries
-abbrev pub refusal_in : Result Layout Refusal → Refusal
-refusal_in (Ok l) = refusal_of 0
-refusal_in (Err r) = r
 
 -- the table once it is worked out: classes too, where none of 1 to 9 refuses
 unfoldable pub table_after : List ℕ → List ℕ → List ℕ

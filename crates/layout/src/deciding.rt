@@ -6,7 +6,7 @@ ghost use Rattle.types.specs.Wrong.{refusal_for};
 ghost use Rattle.classify.specs.Table.{Tabled};
 ghost use Rattle.uses.specs.Uses.{uses_refusal};
 ghost use Rattle.layout.specs.Arguments.{used_at};
-ghost use Rattle.layout.specs.Layout.{layout_of, refusal_in, layout_answer, check_answer, table_after};
+ghost use Rattle.layout.specs.Layout.{layout_of, layout_answer, check_answer, table_after};
 ghost use Rattle.layout.specs.Verdict.{verdict};
 
 use crate::{Described, Laying, Layout};
@@ -47,18 +47,6 @@ impl<'a> Described<'a> {
             hidden,
             named,
         }
-    }
-}
-
-// ---- what an answer carries
-
-// The refusal that an answer carries, for a caller that passes it on.
-pub fn refusal_in(answer: Result<Layout, Refusal>) -> Refusal
-    ensures { result ≡ refusal_in answer }
-{
-    match answer {
-        Ok(_) => form::refusal_of(0),
-        Err(refusal) => refusal,
     }
 }
 

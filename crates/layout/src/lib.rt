@@ -1,7 +1,7 @@
 // The layout of a call (document 01, "Places"): the verdict on a description, 1 to 10, what its arguments take together, and one record for each.
 #![tactic(auto)]
 
-pub use deciding::{check, layout_of, layout_with, refusal_in};
+pub use deciding::{check, layout_of, layout_with};
 pub use described::Described;
 pub use lent_list::{begin_with, lay_out};
 pub use needing::{StackNeed, needs_stack};

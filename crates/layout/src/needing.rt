@@ -6,7 +6,7 @@ use crate::{Described, Laying, deciding};
 use form::Refusal;
 use units::Bytes;
 
-// Whether an argument goes to the stack, and how many arguments were looked at to know it.
+// Whether an argument goes to the stack, and how many arguments were looked at to know it: told of both answers, so it is no Option (`cb_needs_stack`).
 #[derive(Clone, Copy)]
 pub struct StackNeed {
     pub needed: bool,

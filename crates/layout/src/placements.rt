@@ -117,7 +117,7 @@ impl<'a> Described<'a> {
     }
 
     // Whether a hidden address is passed for it.
-    pub(crate) fn hidden(self) -> bool
+    pub fn hidden(self) -> bool
         ensures { result ≡ hidden self.entry.bytes.now }
     {
         match self.returned() {

@@ -1,5 +1,6 @@
 -- The layout of the 386 kind from its parts, and what an answer says. Assumes nothing.
-use Rattle.std.specs.Prelude.{Err, Ok}
+use Rattle.std.specs.Prelude.{Err, Ok, Result, IsErrAnd}
+use Rattle.std.proofs.lemmas.Result.{err_from_is_err_and}
 use mathlib.Core.Path.{◌≡◌, refl, sym, ap, ◌∙◌}
 use mathlib.Core.Bool.{Bool, true, false, cond}
 use mathlib.Core.List.{List}
@@ -46,6 +47,10 @@ module _ (d : List ℕ) (first all : Laying) (fl : IsLaid d (named_in d) first) 
       let popped : r.popped.0 ≡ cond (hidden d) 4 0 = b ∙ ap (λ (h : Bool). cond h 4 0) q in
       let start : r.start.0 ≡ (used_at d (named_in d)).stack.0 = n ∙ fl.offset in
       λ i. record { area = record { 0 = area i }; values = record { 0 = values i }; returns = p i; returned = record { 0 = s i }; hidden = q i; popped = record { 0 = popped i }; start = record { 0 = start i } }
+
+-- what a `?` hands on
+pub passed-on : {T : Type 0} {e : Refusal} (r : Result T Refusal) → IsErrAnd r (λ x. x ≡ e) → r ≡ Err e
+passed-on r h = let y = err_from_is_err_and r h in y.1 ∙ ap Err y.2
 
 -- the answer
 answered : (d : List ℕ) (b : Bool) → eqb (verdict d) 0 ≡ b → layout_answer d ≡ cond b (Ok (layout_of d)) (Err (refusal_for d (verdict d)))

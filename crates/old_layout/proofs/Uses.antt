@@ -7,7 +7,7 @@ use Prim.Native.Nat.{ℕ, ◌-◌, ◌≤◌, ◌<◌}
 use native.Mathlib.Omega.{arith}
 use borrow.Author.Tests.{ltb-false}
 use lib.Dec.{ltb, eqb}
-use Rattle.description.specs.Description.{types_in, named_in, arguments_in, return_in, argument_at, Whole}
+use Rattle.description.specs.Description.{named_in, arguments_in, return_in, argument_at, Whole}
 use Rattle.std.specs.Prelude.{Err}
 use Rattle.form.specs.declared.Refusal.{Refusal}
 use Rattle.form.specs.Reading.{judgment, refusal_of}

@@ -38,7 +38,6 @@ impl<'a> OldDescribed<'a> {
     // ---- what is returned
 
     // Whether a hidden address is passed: for a struct or a union.
-    #[tactic(auto, unfolding(Rattle::intel386::specs::Arguments::hidden))]
     fn hidden(self) -> bool
         ensures { result ≡ hidden self.entry.bytes.now }
     {

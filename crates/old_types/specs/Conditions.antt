@@ -62,9 +62,3 @@ types_refusal d = first (types_order d)
 -- the refusal under number n: 6 and 7 name a type (request 2026-01)
 unfoldable pub refusal_for : List ℕ → ℕ → Refusal
 refusal_for d n = refusal_by (first_broken d) (first_large d) n
-
--- n was judged in order: 6 is not given before the records are there, nor 7 before each obeys the rule of its kind and no code is left out
-pub record Judged (d : List ℕ) (n : ℕ) : Type 0 where
-  pub whole : n ≡ 6 → Whole d
-  pub known : n ≡ 6 → first_broken d < 64
-  pub kept : n ≡ 7 → kept_refusal d ≡ 0

@@ -15,7 +15,7 @@ use returning::Parts;
 
 // ---- what stands before the lists
 
-// What a plan says of the hidden address: 0 none, 2 one that has to have 32 bits, 1 any other.
+// What a plan says of the hidden address: 0 none, 2 one that has to have 32 bits, 1 any other. A number, since it is one of the plan's (plans/specs/Plans.antt).
 fn address_kind(d: &[u8], used: bool) -> usize
     requires { 11 ≤ length d.now }
     ensures { result ≡ cond used (address_kind (model_in d.now)) 0 }

@@ -1,4 +1,5 @@
 // The moves of all arguments, as numbers in a row, three each: source, target and bytes. Neighbours are joined as they come.
+// A fixed list and how many moves it has, since there is no heap: 128 moves at most, three numbers each.
 ghost use Rattle.std.specs.Prelude.{◌≡◌, true, ◌+◌, ◌*◌, ◌-◌, ◌≤◌, ◌<◌, length, get_or};
 ghost use Rattle.places.specs.Recorded.{place_of};
 ghost use Rattle.layout.specs.Arguments.{hidden, shapes, used_first};

@@ -1,4 +1,6 @@
 // Numbers of 16 bits in a lent list: read, and written one behind the other.
+// By index: each call answers where the next number goes, and its clause says by that index what the whole list is then; a cursor would hide the list that the
+// plan is promised of.
 ghost use Rattle.std.specs.Prelude.{◌≡◌, cond, [], ◌∷◌, ◌+◌, ◌≤◌, ◌<◌, length, get_or};
 ghost use Rattle.planning.specs.Planning.{overwritten};
 

@@ -2,12 +2,12 @@
 use mathlib.Core.Path.{◌≡◌, refl, sym, ap, ◌∙◌}
 use mathlib.Core.Bool.{Bool, true, false, true≢false, ◌&&◌, ◌||◌}
 use mathlib.Core.List.{List, [], ◌∷◌}
-use Prim.Native.Nat.{ℕ, suc, ◌+◌, ◌-◌, ◌≤◌, ◌<◌}
+use Prim.Native.Nat.{ℕ, zero, suc, ◌+◌, ◌-◌, ◌≤◌, ◌<◌}
 use native.Mathlib.Omega.{arith}
-use lib.Dec.{eqb, ltb}
+use lib.Dec.{eqb}
 use lib.ListN.{length, get_or, drop, take, drop_of_length-le}
-use lib.Seq.{slice, slice-cons, slice_empty, length-slice, get_or-drop, get_or-take, drop-cons, drop-length}
-use borrow.Author.Tests.{ne_eqb, eq-eqb, eqb-true, eqb-false, ltb-true, ltb-false}
+use lib.Seq.{slice, slice-cons, slice_empty, get_or-drop, get_or-take, drop-cons, drop-length}
+use borrow.Author.Tests.{ne_eqb, eq-eqb}
 use Rattle.grammar.specs.Tokens.{Class, blank, letter, digit, dot, alone, class_of, is_blank, is_letter, is_digit, joins}
 use Rattle.grammar.specs.Grammar.{Grammar, same, all_digits, is_none, is_number, is_name, word_kind, kind_of}
 use Rattle.grammar.specs.Machine.{feed, live, begins, some_fixed, possible, joins_run}
@@ -16,6 +16,19 @@ use Rattle.reading.specs.Coded.{class_code}
 
 pub slice_at : (f t : ℕ) (l : List ℕ) (j : ℕ) → f + j < t → get_or (slice f t l) j 0 ≡ get_or l (f + j) 0
 slice_at f t l j h = get_or-drop f (take t l) j 0 ∙ get_or-take t l (f + j) 0 h
+
+-- a part of a text, as code takes it
+take-drop : (a c : ℕ) (l : List ℕ) → take c (drop a l) ≡ drop a (take (a + c) l)
+take-drop zero c l = let z : 0 + c ≡ c = omega arith in rw z refl
+take-drop (suc a) c [] = let z : suc a + c ≡ suc (a + c) = omega arith in rw z (nil c)
+  where
+    nil : (c : ℕ) → ◌≡◌ {A = List ℕ} (take c []) []
+    nil zero = refl
+    nil (suc c) = refl
+take-drop (suc a) c (x ∷ l) = let z : suc a + c ≡ suc (a + c) = omega arith in rw z (take-drop a c l)
+
+pub part-slice : (f t : ℕ) (l : List ℕ) → f ≤ t → take (t - f) (drop f l) ≡ slice f t l
+part-slice f t l h = let e : f + (t - f) ≡ t = omega arith in take-drop f (t - f) l ∙ ap (λ (n : ℕ). drop f (take n l)) e
 
 begins-long : (w s : List ℕ) → length s < length w → begins w s ≡ false
 begins-long [] s h = absurd (omega arith)
@@ -30,30 +43,28 @@ begins-step : (w s : List ℕ) (j : ℕ) → j < length w → j < length s
     → begins (drop j w) (drop j s) ≡ (eqb (get_or s j 0) (get_or w j 0) && begins (drop (suc j) w) (drop (suc j) s))
 begins-step w s j h l = rw (drop-cons w j 0 h, drop-cons s j 0 l) refl
 
-module _ (text : List ℕ) (start end : ℕ) (s : List ℕ) (inside : end ≤ length text) where
-  pub begins-too_long : (n x : ℕ) → x ≡ length s → x < end - start → false ≡ begins (slice start end text) s
-  begins-too_long n x e h = sym (begins-long (slice start end text) s (omega (arith, length-slice start end text inside)))
+module _ (token s : List ℕ) where
+  pub begins-too_long : (n x : ℕ) → x ≡ length s → x < length token → false ≡ begins token s
+  begins-too_long n x e h = sym (begins-long token s (omega arith))
 
-  pub begins-differs : (j x y n : ℕ) → begins (drop j (slice start end text)) (drop j s) ≡ begins (slice start end text) s
-      → n ≡ length s → end - start ≤ n → j < end - start → x ≡ get_or s j 0 → y ≡ get_or text (start + j) 0 → (x ≡ y → ⊥) → false ≡ begins (slice start end text) s
+  pub begins-differs : (j x y n : ℕ) → begins (drop j token) (drop j s) ≡ begins token s
+      → n ≡ length s → length token ≤ n → j < length token → x ≡ get_or s j 0 → y ≡ get_or token j 0 → (x ≡ y → ⊥) → false ≡ begins token s
   begins-differs j x y n i m o h p q d =
-      let w = slice_at start end text j (omega arith) in
-      let e : eqb (get_or s j 0) (get_or (slice start end text) j 0) ≡ false = ne_eqb _ _ (λ z. d (p ∙ z ∙ w ∙ sym q)) in
-      sym (sym i ∙ begins-step (slice start end text) s j (omega (arith, length-slice start end text inside)) (omega arith) ∙ rw e refl)
+      let e : eqb (get_or s j 0) (get_or token j 0) ≡ false = ne_eqb _ _ (λ z. d (p ∙ z ∙ sym q)) in
+      sym (sym i ∙ begins-step token s j (omega arith) (omega arith) ∙ rw e refl)
 
-  pub begins-again : (j x y n : ℕ) → begins (drop j (slice start end text)) (drop j s) ≡ begins (slice start end text) s
-      → n ≡ length s → end - start ≤ n → j < end - start → x ≡ get_or s j 0 → y ≡ get_or text (start + j) 0 → x ≡ y
-      → begins (drop (j + 1) (slice start end text)) (drop (j + 1) s) ≡ begins (slice start end text) s
+  pub begins-again : (j x y n : ℕ) → begins (drop j token) (drop j s) ≡ begins token s
+      → n ≡ length s → length token ≤ n → j < length token → x ≡ get_or s j 0 → y ≡ get_or token j 0 → x ≡ y
+      → begins (drop (j + 1) token) (drop (j + 1) s) ≡ begins token s
   begins-again j x y n i m o h p q d =
-      let w = slice_at start end text j (omega arith) in
-      let e : eqb (get_or s j 0) (get_or (slice start end text) j 0) ≡ true = eq-eqb _ _ (sym p ∙ d ∙ q ∙ sym w) in
+      let e : eqb (get_or s j 0) (get_or token j 0) ≡ true = eq-eqb _ _ (sym p ∙ d ∙ q) in
       let z : j + 1 ≡ suc j = omega arith in
-      rw z (sym (begins-step (slice start end text) s j (omega (arith, length-slice start end text inside)) (omega arith) ∙ rw e refl) ∙ i)
+      rw z (sym (begins-step token s j (omega arith) (omega arith) ∙ rw e refl) ∙ i)
 
-  pub begins-done : (j : ℕ) → begins (drop j (slice start end text)) (drop j s) ≡ begins (slice start end text) s → j ≡ end - start → true ≡ begins (slice start end text) s
+  pub begins-done : (j : ℕ) → begins (drop j token) (drop j s) ≡ begins token s → j ≡ length token → true ≡ begins token s
   begins-done j i h =
-      let e : j ≡ length (slice start end text) = h ∙ sym (length-slice start end text inside) in
-      rw (e, drop-length (slice start end text)) at i
+      let e : j ≡ length token = h in
+      rw (e, drop-length token) at i
 
   same-begins : (w s : List ℕ) → length s ≡ length w → begins w s ≡ same s w
   same-begins [] [] h = refl
@@ -71,11 +82,11 @@ module _ (text : List ℕ) (start end : ℕ) (s : List ℕ) (inside : end ≤ le
       by true q = q
       by false q = refl
 
-  pub is-other : (n : ℕ) → n ≡ length s → (n ≡ end - start → ⊥) → false ≡ same s (slice start end text)
-  is-other n e h = sym (same_length (slice start end text) s (λ q. h (omega (arith, length-slice start end text inside))))
+  pub is-other : (n : ℕ) → n ≡ length s → (n ≡ length token → ⊥) → false ≡ same s token
+  is-other n e h = sym (same_length token s (λ q. h (omega arith)))
 
-  pub is_same : (n : ℕ) (b : Bool) → n ≡ length s → n ≡ end - start → b ≡ begins (slice start end text) s → b ≡ same s (slice start end text)
-  is_same n b e h q = q ∙ same-begins (slice start end text) s (omega (arith, length-slice start end text inside))
+  pub is_same : (n : ℕ) (b : Bool) → n ≡ length s → n ≡ length token → b ≡ begins token s → b ≡ same s token
+  is_same n b e h q = q ∙ same-begins token s (omega arith)
 
 pub is_digit_lem : (c : Class) → class_code c ≡ 2 → is_digit c ≡ true
 is_digit_lem blank h = absurd (omega arith)
@@ -119,57 +130,49 @@ no_blank digit h = refl
 no_blank dot h = refl
 no_blank alone h = refl
 
-module _ (text : List ℕ) (start end : ℕ) (some : start < end) (inside : end ≤ length text) where
-  front : slice start end text ≡ get_or text start 0 ∷ slice (suc start) end text
-  front = slice-cons start end text 0 some inside
+module _ (token : List ℕ) (some : 0 < length token) where
+  front : token ≡ get_or token 0 0 ∷ drop 1 token
+  front = drop-cons token 0 0 some
 
-  pub number-none : (x : ℕ) → x ≡ class_code (class_of (get_or text start 0)) → (x ≡ 2 → ⊥) → false ≡ is_number (slice start end text)
-  number-none x e h = rw (front, no_digit (class_of (get_or text start 0)) (λ q. h (e ∙ q))) refl
+  pub number-none : (x : ℕ) → x ≡ class_code (class_of (get_or token 0 0)) → (x ≡ 2 → ⊥) → false ≡ is_number token
+  number-none x e h = rw (front, no_digit (class_of (get_or token 0 0)) (λ q. h (e ∙ q))) refl
 
-  pub digits-none : (x y j : ℕ) → x ≡ class_code (class_of (get_or text start 0)) → x ≡ 2
-      → all_digits (slice j end text) ≡ all_digits (slice (start + 1) end text) → j < end → y ≡ class_code (class_of (get_or text j 0)) → (y ≡ 2 → ⊥)
-      → false ≡ is_number (slice start end text)
+  pub digits-none : (x y j : ℕ) → x ≡ class_code (class_of (get_or token 0 0)) → x ≡ 2
+      → all_digits (drop j token) ≡ all_digits (drop 1 token) → j < length token → y ≡ class_code (class_of (get_or token j 0)) → (y ≡ 2 → ⊥)
+      → false ≡ is_number token
   digits-none x y j e h i l f n =
-      let z : start + 1 ≡ suc start = omega arith in
-      let v : all_digits (slice j end text) ≡ false = rw (slice-cons j end text 0 l inside, no_digit (class_of (get_or text j 0)) (λ q. n (f ∙ q))) refl in
-      let a : all_digits (slice (suc start) end text) ≡ false = rw z at (sym i ∙ v) in
-      rw (front, is_digit_lem (class_of (get_or text start 0)) (sym e ∙ h), a) refl
+      let v : all_digits (drop j token) ≡ false = rw (drop-cons token j 0 l, no_digit (class_of (get_or token j 0)) (λ q. n (f ∙ q))) refl in
+      let a : all_digits (drop 1 token) ≡ false = sym i ∙ v in
+      rw (front, is_digit_lem (class_of (get_or token 0 0)) (sym e ∙ h), a) refl
 
-  pub digits-again : (y j : ℕ) → all_digits (slice j end text) ≡ all_digits (slice (start + 1) end text) → j < end → y ≡ class_code (class_of (get_or text j 0)) → y ≡ 2
-      → all_digits (slice (j + 1) end text) ≡ all_digits (slice (start + 1) end text)
+  pub digits-again : (y j : ℕ) → all_digits (drop j token) ≡ all_digits (drop 1 token) → j < length token → y ≡ class_code (class_of (get_or token j 0)) → y ≡ 2
+      → all_digits (drop (j + 1) token) ≡ all_digits (drop 1 token)
   digits-again y j i l f n =
       let z : j + 1 ≡ suc j = omega arith in
-      let a : all_digits (slice j end text) ≡ all_digits (slice (suc j) end text) =
-      rw (slice-cons j end text 0 l inside, is_digit_lem (class_of (get_or text j 0)) (sym f ∙ n)) refl in
+      let a : all_digits (drop j token) ≡ all_digits (drop (suc j) token) =
+      rw (drop-cons token j 0 l, is_digit_lem (class_of (get_or token j 0)) (sym f ∙ n)) refl in
       rw z (sym a ∙ i)
 
-  all_digits_lem : (j : ℕ) → all_digits (slice j end text) ≡ all_digits (slice (start + 1) end text) → end ≤ j → j ≤ end → all_digits (slice (suc start) end text) ≡ true
+  all_digits_lem : (j : ℕ) → all_digits (drop j token) ≡ all_digits (drop 1 token) → length token ≤ j → j ≤ length token → all_digits (drop 1 token) ≡ true
   all_digits_lem j i l m =
-      let z : start + 1 ≡ suc start = omega arith in
-      let y : j ≡ end = omega arith in
-      let v : all_digits (slice j end text) ≡ true = rw (y, slice_empty end text) refl in
-      rw z at (sym i ∙ v)
+      let y : j ≡ length token = omega arith in
+      let v : all_digits (drop j token) ≡ true = rw (y, drop-length token) refl in
+      sym i ∙ v
 
-  pub number-plain : (x j b : ℕ) → x ≡ class_code (class_of (get_or text start 0)) → x ≡ 2
-      → all_digits (slice j end text) ≡ all_digits (slice (start + 1) end text) → end ≤ j → j ≤ end → b ≡ get_or text start 0 → (b ≡ 48 → ⊥) → true ≡ is_number (slice start end text)
+  pub number-plain : (x j b : ℕ) → x ≡ class_code (class_of (get_or token 0 0)) → x ≡ 2
+      → all_digits (drop j token) ≡ all_digits (drop 1 token) → length token ≤ j → j ≤ length token → b ≡ get_or token 0 0 → (b ≡ 48 → ⊥) → true ≡ is_number token
   number-plain x j b e h i l m f n =
-      rw (front, is_digit_lem (class_of (get_or text start 0)) (sym e ∙ h), all_digits_lem j i l m, ne_eqb (get_or text start 0) 48 (λ q. n (f ∙ q))) refl
+      rw (front, is_digit_lem (class_of (get_or token 0 0)) (sym e ∙ h), all_digits_lem j i l m, ne_eqb (get_or token 0 0) 48 (λ q. n (f ∙ q))) refl
 
-  last_none : (e : Bool) → eqb (start + 1) end ≡ e → e ≡ is_none (slice (suc start) end text)
-  last_none true h = let q : suc start ≡ end = omega (arith, eqb-true (start + 1) end h) in rw (q, slice_empty end text) refl
-  last_none false h = rw (slice-cons (suc start) end text 0 (last (eqb-false (start + 1) end h)) inside) refl
-    where
-      last : (start + 1 ≡ end → ⊥) → suc start < end
-      last n = by (ltb (suc start) end) refl
-        where
-          by : (b : Bool) → ltb (suc start) end ≡ b → suc start < end
-          by true q = ltb-true (suc start) end q
-          by false q = absurd (n (omega (arith, ltb-false (suc start) end q)))
+  last_none : (t : List ℕ) (e : Bool) → 0 < length t → eqb (length t) 1 ≡ e → e ≡ is_none (drop 1 t)
+  last_none [] e l h = absurd (omega arith)
+  last_none (x ∷ []) e l h = sym h
+  last_none (x ∷ y ∷ t) e l h = sym h ∙ ne_eqb (length (x ∷ y ∷ t)) 1 (λ q. omega arith)
 
-  pub number-zero : (x j b : ℕ) (z : Bool) → x ≡ class_code (class_of (get_or text start 0)) → x ≡ 2
-      → all_digits (slice j end text) ≡ all_digits (slice (start + 1) end text) → end ≤ j → j ≤ end → b ≡ get_or text start 0 → b ≡ 48 → eqb (start + 1) end ≡ z → z ≡ is_number (slice start end text)
+  pub number-zero : (x j b : ℕ) (z : Bool) → x ≡ class_code (class_of (get_or token 0 0)) → x ≡ 2
+      → all_digits (drop j token) ≡ all_digits (drop 1 token) → length token ≤ j → j ≤ length token → b ≡ get_or token 0 0 → b ≡ 48 → eqb (length token) 1 ≡ z → z ≡ is_number token
   number-zero x j b z e h i l m f n q =
-      last_none z q ∙ sym (rw (front, is_digit_lem (class_of (get_or text start 0)) (sym e ∙ h), all_digits_lem j i l m, eq-eqb (get_or text start 0) 48 (sym f ∙ n)) refl)
+      last_none token z some q ∙ sym (rw (front, is_digit_lem (class_of (get_or token 0 0)) (sym e ∙ h), all_digits_lem j i l m, eq-eqb (get_or token 0 0) 48 (sym f ∙ n)) refl)
 
 pub joins-dot : (c d : Class) (x y : ℕ) → x ≡ class_code c → y ≡ class_code d → x ≡ 3 → eqb y 3 ≡ joins c d
 joins-dot c d x y p q h = rw q (by c d (sym p ∙ h))
@@ -259,38 +262,38 @@ past-spellings i h = drop_of_length-le spellings {i = i} (omega (arith, spelling
 pub fixed_none : (g : Grammar) (ns w : List ℕ) (i : ℕ) → some_fixed g ns (drop i spellings) (i + 3) w ≡ some_fixed g ns spellings 3 w → 45 ≤ i → false ≡ some_fixed g ns spellings 3 w
 fixed_none g ns w i h l = rw (past-spellings i l) at h
 
-pub kind-name : (text : List ℕ) (start end i x : ℕ) → start < end → end ≤ length text
-    → word_kind (drop i spellings) (i + 3) (slice start end text) ≡ word_kind spellings 3 (slice start end text) → 45 ≤ i
-    → is_number (slice start end text) ≡ false → x ≡ class_code (class_of (get_or text start 0)) → x ≡ 1 → 1 ≡ kind_of spellings (slice start end text)
+pub kind-name : (token : List ℕ) (i x : ℕ) → 0 < length token
+    → word_kind (drop i spellings) (i + 3) token ≡ word_kind spellings 3 token → 45 ≤ i
+    → is_number token ≡ false → x ≡ class_code (class_of (get_or token 0 0)) → x ≡ 1 → 1 ≡ kind_of spellings token
 unfolding kind_of
-kind-name text start end i x l m h o n q t =
-    let s : is_name (slice start end text) ≡ true = rw (slice-cons start end text 0 l m) (is-letter (class_of (get_or text start 0)) (sym q ∙ t)) in
-    let e : word_kind (drop i spellings) (i + 3) (slice start end text) ≡ 1 = rw (past-spellings i o, s) refl in
+kind-name token i x l h o n q t =
+    let s : is_name token ≡ true = rw (drop-cons token 0 0 l) (is-letter (class_of (get_or token 0 0)) (sym q ∙ t)) in
+    let e : word_kind (drop i spellings) (i + 3) token ≡ 1 = rw (past-spellings i o, s) refl in
     rw n (sym e ∙ h)
 
-pub kind-none : (text : List ℕ) (start end i x : ℕ) → start < end → end ≤ length text
-    → word_kind (drop i spellings) (i + 3) (slice start end text) ≡ word_kind spellings 3 (slice start end text) → 45 ≤ i
-    → is_number (slice start end text) ≡ false → x ≡ class_code (class_of (get_or text start 0)) → (x ≡ 1 → ⊥) → 2 ≡ kind_of spellings (slice start end text)
+pub kind-none : (token : List ℕ) (i x : ℕ) → 0 < length token
+    → word_kind (drop i spellings) (i + 3) token ≡ word_kind spellings 3 token → 45 ≤ i
+    → is_number token ≡ false → x ≡ class_code (class_of (get_or token 0 0)) → (x ≡ 1 → ⊥) → 2 ≡ kind_of spellings token
 unfolding kind_of
-kind-none text start end i x l m h o n q t =
-    let s : is_name (slice start end text) ≡ false = rw (slice-cons start end text 0 l m) (no_letter (class_of (get_or text start 0)) (λ u. t (q ∙ u))) in
-    let e : word_kind (drop i spellings) (i + 3) (slice start end text) ≡ 2 = rw (past-spellings i o, s) refl in
+kind-none token i x l h o n q t =
+    let s : is_name token ≡ false = rw (drop-cons token 0 0 l) (no_letter (class_of (get_or token 0 0)) (λ u. t (q ∙ u))) in
+    let e : word_kind (drop i spellings) (i + 3) token ≡ 2 = rw (past-spellings i o, s) refl in
     rw n (sym e ∙ h)
 
 -- a token that may come next begins so: as a number, as a name, as a fixed token
-name_is : (text : List ℕ) (start end : ℕ) → start < end → end ≤ length text → is_name (slice start end text) ≡ is_letter (class_of (get_or text start 0))
-name_is text start end l m = rw (slice-cons start end text 0 l m) refl
+name_is : (token : List ℕ) → 0 < length token → is_name token ≡ is_letter (class_of (get_or token 0 0))
+name_is token l = rw (drop-cons token 0 0 l) refl
 
 pub could_by : (g : Grammar) (ns w : List ℕ) (a b c : Bool) → (is_number w && live (feed g ns 0)) ≡ a → (is_name w && live (feed g ns 1)) ≡ b
     → some_fixed g ns g.spellings 3 w ≡ c → (a || (b || c)) ≡ possible g ns w
 unfolding possible
 could_by g ns w a b c p q r = sym (rw (p, q, r) refl)
 
-pub letter_name : (text : List ℕ) (start end x : ℕ) → start < end → end ≤ length text → x ≡ class_code (class_of (get_or text start 0)) → x ≡ 1 → is_name (slice start end text) ≡ true
-letter_name text start end x l m q t = name_is text start end l m ∙ is-letter (class_of (get_or text start 0)) (sym q ∙ t)
+pub letter_name : (token : List ℕ) (x : ℕ) → 0 < length token → x ≡ class_code (class_of (get_or token 0 0)) → x ≡ 1 → is_name token ≡ true
+letter_name token x l q t = name_is token l ∙ is-letter (class_of (get_or token 0 0)) (sym q ∙ t)
 
-pub letter_no_name : (text : List ℕ) (start end x : ℕ) → start < end → end ≤ length text → x ≡ class_code (class_of (get_or text start 0)) → (x ≡ 1 → ⊥) → is_name (slice start end text) ≡ false
-letter_no_name text start end x l m q t = name_is text start end l m ∙ no_letter (class_of (get_or text start 0)) (λ u. t (q ∙ u))
+pub letter_no_name : (token : List ℕ) (x : ℕ) → 0 < length token → x ≡ class_code (class_of (get_or token 0 0)) → (x ≡ 1 → ⊥) → is_name token ≡ false
+letter_no_name token x l q t = name_is token l ∙ no_letter (class_of (get_or token 0 0)) (λ u. t (q ∙ u))
 
 pub not_both : (a b : Bool) → a ≡ false → (a && b) ≡ false
 not_both a b h = rw h refl

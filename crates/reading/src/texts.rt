@@ -10,20 +10,19 @@ use crate::symbols::Symbols;
 use crate::tables::Class;
 use crate::{ReadError, tables, tokens};
 
-// Whether they begin the fixed token number i, and this may come next.
-fn fixed_fits(symbols: &Symbols, text: &[u8], start: usize, end: usize, i: usize) -> bool
-    requires { (start ≤ end) × (end ≤ length text.now) × (i < 45) }
-    ensures { result ≡ (begins (slice start end text.now) (get_or spellings i []) && live (feed declarations (tops symbols.now.cells symbols.now.depth) (i + 3))) }
+// Whether these bytes begin the fixed token number i, and this may come next.
+fn fixed_fits(symbols: &Symbols, token: &[u8], i: usize) -> bool
+    requires { i < 45 }
+    ensures { result ≡ (begins token.now (get_or spellings i []) && live (feed declarations (tops symbols.now.cells symbols.now.depth) (i + 3))) }
 {
-    tokens::begins_token(text, start, end, i) && symbols.may_come(i + 3)
+    tokens::begins_token(token, i) && symbols.may_come(i + 3)
 }
 
-fn some_fixed(symbols: &Symbols, text: &[u8], start: usize, end: usize) -> bool
-    requires { (start ≤ end) × (end ≤ length text.now) }
-    ensures { result ≡ some_fixed declarations (tops symbols.now.cells symbols.now.depth) spellings 3 (slice start end text.now) }
+fn some_fixed(symbols: &Symbols, token: &[u8]) -> bool
+    ensures { result ≡ some_fixed declarations (tops symbols.now.cells symbols.now.depth) spellings 3 token.now }
 {
     for i in 0..45 {
-        if fixed_fits(symbols, text, start, end, i) {
+        if fixed_fits(symbols, token, i) {
             return true;
         }
     }
@@ -38,21 +37,19 @@ fn number_fits(symbols: &Symbols, number: bool) -> bool
 }
 
 // Whether they begin a name, and one may come next.
-fn name_fits(symbols: &Symbols, text: &[u8], start: usize, end: usize) -> bool
-    requires { (start < end) × (end ≤ length text.now) }
-    ensures { result ≡ (is_name (slice start end text.now) && live (feed declarations (tops symbols.now.cells symbols.now.depth) 1)) }
+fn name_fits(symbols: &Symbols, token: &[u8]) -> bool
+    requires { 0 < length token.now }
+    ensures { result ≡ (is_name token.now && live (feed declarations (tops symbols.now.cells symbols.now.depth) 1)) }
 {
-    tables::has_class(text[start], Class::Letter) && symbols.may_come(1)
+    tables::has_class(token[0], Class::Letter) && symbols.may_come(1)
 }
 
 // Whether they begin a token that may come next, where it is told whether they are a number.
-fn could(symbols: &Symbols, text: &[u8], start: usize, end: usize, number: bool) -> bool
-    requires { (start < end) × (end ≤ length text.now) × (number ≡ is_number (slice start end text.now)) }
-    ensures { result ≡ possible declarations (tops symbols.now.cells symbols.now.depth) (slice start end text.now) }
+fn could(symbols: &Symbols, token: &[u8], number: bool) -> bool
+    requires { (0 < length token.now) × (number ≡ is_number token.now) }
+    ensures { result ≡ possible declarations (tops symbols.now.cells symbols.now.depth) token.now }
 {
-    number_fits(symbols, number)
-        || name_fits(symbols, text, start, end)
-        || some_fixed(symbols, text, start, end)
+    number_fits(symbols, number) || name_fits(symbols, token) || some_fixed(symbols, token)
 }
 
 // The token before i is whole: whether it may come, and then the symbols are those behind it.
@@ -61,7 +58,7 @@ fn end_token(symbols: &mut Symbols, text: &[u8], start: usize, i: usize) -> bool
     ensures { LeadsTo (flush declarations (slice start i text.now) (tops symbols.old.cells symbols.old.depth) []) result symbols.new.cells symbols.new.depth
         × (symbols.new.depth ≤ symbols.old.depth + 4 * (i - start)) }
 {
-    start == i || symbols.lead(tokens::kind_of(text, start, i))
+    start == i || symbols.lead(tokens::kind_of(&text[start..i]))
 }
 
 // One byte more, where it is told whether the token before it is a number so far: where the token begins that is being read then, if some text fits behind it.
@@ -77,7 +74,7 @@ fn read_byte(
 {
     if tokens::joins_on(text, start, i) {
         let more = tokens::number_on(text, start, i, number);
-        return could(symbols, text, start, i + 1, more).then_some(start);
+        return could(symbols, &text[start..i + 1], more).then_some(start);
     }
     if !end_token(symbols, text, start, i) {
         return None;
@@ -86,7 +83,7 @@ fn read_byte(
         return Some(i + 1);
     }
     let digit = tokens::number_on(text, i, i, false);
-    could(symbols, text, i, i + 1, digit).then_some(i)
+    could(symbols, &text[i..i + 1], digit).then_some(i)
 }
 
 // The end of the text.

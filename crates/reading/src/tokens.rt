@@ -9,17 +9,16 @@ ghost use Rattle.grammar.specs.Prototype.{spellings};
 use crate::tables;
 use crate::tables::Class;
 
-// Whether the bytes from start to end begin the fixed token number i.
-pub fn begins_token(text: &[u8], start: usize, end: usize, i: usize) -> bool
-    requires { (start ≤ end) × (end ≤ length text.now) × (i < 45) }
-    ensures { result ≡ begins (slice start end text.now) (get_or spellings i []) }
+// Whether these bytes begin the fixed token number i.
+pub fn begins_token(token: &[u8], i: usize) -> bool
+    requires { i < 45 }
+    ensures { result ≡ begins token.now (get_or spellings i []) }
 {
-    let n = end - start;
-    if tables::spelling_length(i) < n {
+    if tables::spelling_length(i) < token.len() {
         return false;
     }
-    for j in 0..n {
-        if tables::spelling_byte(i, j) != text[start + j] {
+    for j in 0..token.len() {
+        if tables::spelling_byte(i, j) != token[j] {
             return false;
         }
     }
@@ -27,28 +26,28 @@ pub fn begins_token(text: &[u8], start: usize, end: usize, i: usize) -> bool
 }
 
 // Whether they are that token.
-fn is_token(text: &[u8], start: usize, end: usize, i: usize) -> bool
-    requires { (start ≤ end) × (end ≤ length text.now) × (i < 45) }
-    ensures { result ≡ same (get_or spellings i []) (slice start end text.now) }
+fn is_token(token: &[u8], i: usize) -> bool
+    requires { i < 45 }
+    ensures { result ≡ same (get_or spellings i []) token.now }
 {
-    tables::spelling_length(i) == end - start && begins_token(text, start, end, i)
+    tables::spelling_length(i) == token.len() && begins_token(token, i)
 }
 
 // Whether they are a number: digits, with no zero in front of others.
-pub fn is_number(text: &[u8], start: usize, end: usize) -> bool
-    requires { (start < end) × (end ≤ length text.now) }
-    ensures { result ≡ is_number (slice start end text.now) }
+pub fn is_number(token: &[u8]) -> bool
+    requires { 0 < length token.now }
+    ensures { result ≡ is_number token.now }
 {
-    let first = text[start];
+    let first = token[0];
     if !tables::has_class(first, Class::Digit) {
         return false;
     }
-    for j in start + 1..end {
-        if !tables::has_class(text[j], Class::Digit) {
+    for j in 1..token.len() {
+        if !tables::has_class(token[j], Class::Digit) {
             return false;
         }
     }
-    first != b'0' || start + 1 == end
+    first != b'0' || token.len() == 1
 }
 
 // Whether the token that begins at start is a number with the byte at i too, where it is told whether it is one before that byte: so no token is looked through for each of its bytes.
@@ -70,23 +69,23 @@ pub fn number_by(text: &[u8], start: usize, i: usize, next: usize, number: bool)
     if next == start {
         return number_on(text, start, i, number);
     }
-    next <= i && is_number(text, next, i + 1)
+    next <= i && is_number(&text[next..i + 1])
 }
 
-// The kind of the token that they are. A number: `rule` and `kind_of` of the grammar have kinds by number, and its tables are indexed by it.
-pub fn kind_of(text: &[u8], start: usize, end: usize) -> usize
-    requires { (start < end) × (end ≤ length text.now) }
-    ensures { (result ≡ kind_of spellings (slice start end text.now)) × (result < 48) }
+// The kind of the token that they are. A number: the grammar's `rule` and `kind_of` have kinds by number, and its tables are indexed by it.
+pub fn kind_of(token: &[u8]) -> usize
+    requires { 0 < length token.now }
+    ensures { (result ≡ kind_of spellings token.now) × (result < 48) }
 {
-    if is_number(text, start, end) {
+    if is_number(token) {
         return 0;
     }
     for i in 0..45 {
-        if is_token(text, start, end, i) {
+        if is_token(token, i) {
             return i + 3;
         }
     }
-    if tables::has_class(text[start], Class::Letter) {
+    if tables::has_class(token[0], Class::Letter) {
         1
     } else {
         2

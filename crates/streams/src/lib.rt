@@ -13,6 +13,7 @@ use std::io::Read;
 pub const RECORDS: usize = 100000;
 
 // Bytes in base 16, two digits each, behind a blank; nothing where there are none.
+#[derive(Clone, Copy)]
 pub struct Hex<'a>(pub &'a [u8]);
 
 impl fmt::Display for Hex<'_> {

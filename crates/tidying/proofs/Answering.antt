@@ -11,7 +11,7 @@ use lib.ListN.{length, get_or}
 use Rattle.description.specs.Description.{return_in}
 use Rattle.form.specs.Order.{rule, NoneHolds, Answers, Positive}
 use Rattle.form.specs.declared.Refusal.{Refusal}
-use Rattle.form.specs.Reading.{refusal_at, refusal_by, refusal_of}
+use Rattle.form.specs.Reading.{refusal_of}
 use Rattle.form.proofs.Order.{refuses-exactly, accepts-exactly, first-before, first-behind, first-both, positive-append}
 use Rattle.types.specs.Decode.{ty_at}
 use Rattle.units.specs.declared.Bytes.{Bytes}

@@ -1,6 +1,6 @@
 -- The marks of types: what the functions that mark them cite, and that types with different marks are different. Assumes nothing.
 use mathlib.Core.Path.{◌≡◌, refl, sym, ap, ◌∙◌}
-use mathlib.Core.Bool.{Bool, true, false}
+use mathlib.Core.Bool.{Bool, true, false, cond}
 use mathlib.Core.List.{List}
 use Prim.Native.Nat.{ℕ, ◌+◌, ◌-◌, ◌≤◌, ◌<◌}
 use native.Mathlib.Omega.{arith}
@@ -119,6 +119,14 @@ module _ (d marks : List ℕ) (right : uses_refusal d ≡ 0) (k : ℕ) (known : 
 
   pub mark-top : kind_at d k ≤ 3
   mark-top = kind-top d k sized
+
+  -- what the mark of a group begins with
+  pub group-start : 2 ≤ kind_at d k → cond (eqb (kind_at d k) 3) 3 2 ≡ kind_at d k
+  group-start l = by (eqb (kind_at d k) 3) refl
+    where
+      by : (b : Bool) → eqb (kind_at d k) 3 ≡ b → cond b 3 2 ≡ kind_at d k
+      by true e = sym (eqb-true (kind_at d k) 3 e)
+      by false e = omega (arith, eqb-false (kind_at d k) 3 e, l, mark-top)
 
   pub mark-group : 2 ≤ kind_at d k → mark_tys (kind_at d k) (tys_from (ty_at d) d (a_at d k) (count_at d k)) ≡ mark_ty (ty_at d k)
   mark-group l = sym (ap mark_ty (at-group d k sized l) ∙ group-mark (kind_at d k) (tys_from (ty_at d) d (a_at d k) (count_at d k)) l mark-top)

@@ -317,9 +317,6 @@ module _ (d : List ℕ) (right : uses_refusal d ≡ 0) where
     pub kind-byte_low : kind_at d k < 256
     kind-byte_low = omega (arith, kind-top d k sized-k)
 
-    pub code_low : kind_at d k ≡ 0 → a_at d k < 256
-    code_low e = omega (arith, (sized-ruled d k sized-k).code e)
-
     pub element_low : kind_at d k ≡ 1 → a_at d k < 64
     element_low e = omega (arith, right_few, known, (sized-ruled d k sized-k).element e)
 

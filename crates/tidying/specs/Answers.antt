@@ -7,6 +7,7 @@ use Rattle.layout.specs.Verdict.{check_order}
 use Rattle.tidying.specs.Call.{call_of}
 use Rattle.tidying.specs.Numbering.{table_of}
 use Rattle.tidying.specs.Tidy.{separate, tidy_of}
+use Rattle.form.specs.Reading.{judgment}
 use Rattle.form.specs.declared.Refusal.{Refusal}
 use Rattle.units.specs.declared.Bytes.{Bytes}
 
@@ -45,4 +46,4 @@ tidy_after d out = cond (eqb (tidy_refusal d (length out)) 0) (tidied d) out
 
 -- and what is answered
 unfoldable pub tidy_answer : List ℕ → ℕ → Result (Unit {0}) Refusal
-tidy_answer d room = cond (eqb (tidy_refusal d room) 0) (Ok tt) (Err (refusal_for d (tidy_refusal d room)))
+tidy_answer d room = judgment (tidy_refusal d room) (refusal_for d (tidy_refusal d room))

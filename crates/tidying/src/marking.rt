@@ -1,10 +1,12 @@
 // A mark for each type, equal for equal types: of types with different marks no part is compared, so that runs that are nearly equal cost little (document 02,
 // request 2026-03, "equal ones once").
-ghost use Rattle.std.specs.Prelude.{◌≡◌, ◌<◌};
+ghost use Rattle.std.specs.Prelude.{◌≡◌, ◌<◌, cond};
 ghost use Rattle.description.specs.Description.{types_in};
 ghost use Rattle.types.specs.Decode.{ty_at, tys_from};
 ghost use Rattle.uses.specs.Uses.{uses_refusal};
 ghost use Rattle.tidying.specs.Marks.{mixed, mark_ty, mark_tys, Marked, AskMarks};
+
+use description::TypeRecord;
 
 // A description that none of 1 to 9 refuses, with the mark of each of its types.
 #[derive(Clone, Copy)]
@@ -20,6 +22,13 @@ fn mix(mark: u32, next: u32) -> u32
     ensures { result ≡ mixed mark next }
 {
     mark.wrapping_mul(2654435761).wrapping_add(next)
+}
+
+// What the mark of a struct or of a union begins with.
+fn group_mark(union: bool) -> u32
+    ensures { result ≡ cond union 3 2 }
+{
+    if union { 3 } else { 2 }
 }
 
 // The mark of `count` members from place `first` on, behind what is mixed so far.
@@ -39,17 +48,18 @@ fn mark_of(d: &[u8], marks: &[u32; 64], k: usize) -> u32
     requires { (uses_refusal d.now ≡ 0) × (k < types_in d.now) × Marked d.now marks.now k }
     ensures { result ≡ mark_ty (ty_at d.now k) }
 {
-    let kind = description::kind_at(d, k);
-    let a = description::a_at(d, k);
-    if kind == 0 {
-        return mix(0, a as u32);
+    match description::record_at(d, k) {
+        TypeRecord::Basic { code, .. } => mix(0, code as u32),
+        TypeRecord::Array { element, count } => {
+            let counted = mix(1, count as u32);
+            mix(counted, marks[element])
+        }
+        TypeRecord::Group {
+            union,
+            first,
+            count,
+        } => mark_members(d, marks, first, count, group_mark(union)),
     }
-    let count = description::count_at(d, k);
-    if kind == 1 {
-        let counted = mix(1, count as u32);
-        return mix(counted, marks[a]);
-    }
-    mark_members(d, marks, a, count, kind as u32)
 }
 
 // The marks of all types, from number 0 upward.

@@ -12,6 +12,7 @@ ghost use Rattle.tidying.specs.Ordered.{Below-prop};
 ghost use Rattle.tidying.specs.Asks.{Has, tabled, Parts, Numbers, AskRuns, AskSame, Completable, unnumbered, AskMembers, Onward, AskNew, Lowest, blanks, Numbered, AllNumbered};
 
 use crate::marking::MarkedTypes;
+use description::TypeRecord;
 
 // The number of a type that has none yet: no type has it, as there are at most 64. Where a number is read, the type is known to have one, so that an
 // Option would be opened there for nothing: `is_new` asks for it.
@@ -67,7 +68,8 @@ impl<'a> Numbering<'a> {
         true
     }
 
-    // Whether types j and k, whose parts have numbers, are the same, by their records.
+    // Whether types j and k, whose parts have numbers, are the same, by their records. Kind, second byte and count are compared in turn: a match on the pair
+    // of records would name each of them twice.
     fn are_same_records(&self, j: usize, k: usize) -> bool
         requires { AskSame self.now.types.bytes.now self.now.numbers j k }
         ensures { result ≡ same_ty (ty_at self.now.types.bytes.now j) (ty_at self.now.types.bytes.now k) }
@@ -158,19 +160,20 @@ impl<'a> Numbering<'a> {
             (λ part. Onward self.now.types.bytes.now self.now.numbers k part) }
     {
         let d = self.types.bytes;
-        let kind = description::kind_at(d, k);
-        if kind == 0 {
-            return None;
-        }
-        let a = description::a_at(d, k);
-        if kind == 1 {
-            if self.is_new(a) {
-                return Some(a);
+        match description::record_at(d, k) {
+            TypeRecord::Basic { .. } => None,
+            TypeRecord::Array { element, .. } => {
+                if self.is_new(element) {
+                    Some(element)
+                } else {
+                    None
+                }
             }
-            return None;
+            TypeRecord::Group { first, count, .. } => {
+                let at = self.first_new(first, count)?;
+                Some(description::member_at(d, at))
+            }
         }
-        let at = self.first_new(a, description::count_at(d, k))?;
-        Some(description::member_at(d, at))
     }
 
     // The type that is completed first on the way to type k.

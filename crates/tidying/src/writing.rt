@@ -12,6 +12,7 @@ ghost use Rattle.tidying.specs.Asks.{AllNumbered, Stands, Written, run_length, s
 
 use crate::marking::MarkedTypes;
 use crate::numbering::Numbering;
+use description::TypeRecord;
 use form::{Reason, Refusal};
 
 // The types of a call, numbered, where their members fit: each run by itself, at most 255 members in all.
@@ -29,10 +30,10 @@ fn run_length(d: &[u8], k: usize) -> usize
     requires { Whole d.now × (k < types_in d.now) }
     ensures { (result ≡ run_length d.now k) × (result < 65536) }
 {
-    if description::kind_at(d, k) < 2 {
-        return 0;
+    match description::record_at(d, k) {
+        TypeRecord::Group { count, .. } => count,
+        _ => 0,
     }
-    description::count_at(d, k)
 }
 
 // The members of all types of a call, each run by itself.
@@ -109,16 +110,11 @@ impl<'a> Tidied<'a> {
         requires { (k < types_in self.now.numbering.types.bytes.now) × (start < 256) }
         ensures { result ≡ second_at self.now.numbering.types.bytes.now self.now.numbering.numbers k start }
     {
-        let d = self.numbering.types.bytes;
-        let kind = description::kind_at(d, k);
-        if 1 < kind {
-            return start as u8;
+        match description::record_at(self.numbering.types.bytes, k) {
+            TypeRecord::Basic { code, .. } => code as u8,
+            TypeRecord::Array { element, .. } => self.numbering.numbers[element],
+            TypeRecord::Group { .. } => start as u8,
         }
-        let a = description::a_at(d, k);
-        if kind == 0 {
-            return a as u8;
-        }
-        self.numbering.numbers[a]
     }
 
     // The record of number j, whose run, if it has one, begins at place `start`.

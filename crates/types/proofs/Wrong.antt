@@ -1,23 +1,22 @@
 -- Which type a refusal names (request 2026-01). Assumes nothing.
-use mathlib.Core.Path.{◌≡◌, refl, sym, ◌∙◌}
-use mathlib.Core.Bool.{Bool, true, false, cond}
+use mathlib.Core.Path.{◌≡◌}
+use mathlib.Core.Bool.{false}
 use mathlib.Core.Logic.{◌≢◌}
-use mathlib.Core.List.{List, ◌∷◌, ◌++◌}
+use mathlib.Core.List.{List}
 use Prim.Native.Nat.{ℕ}
 use lib.Dec.{eqb}
-use borrow.Author.Tests.{ne_eqb, lt-ltb, le-ltb, eqb-true}
+use borrow.Author.Tests.{ne_eqb, lt-ltb, le-ltb}
 use Rattle.std.specs.Prelude.{Ok, Err, Some, None}
 use Rattle.description.specs.Description.{types_in, model_in}
-use Rattle.form.specs.Order.{Rule, rule, first, Without, form_order, form_refusal}
+use Rattle.form.specs.Order.{Without, form_order, form_refusal}
 use Rattle.form.specs.Reading.{refusal_at, refusal_by, refusal_of, judgment, form_refused}
 use Rattle.form.specs.Search.{first_within}
 use Rattle.form.specs.declared.Refusal.{Refusal}
 use Rattle.form.proofs.Judgment.{passed, refused}
 use Rattle.form.proofs.Search.{within-some, within-none}
-use Rattle.form.proofs.Order.{never, none-till}
+use Rattle.form.proofs.Order.{never}
 use Rattle.form.proofs.Named.{names-none}
-use Rattle.form.proofs.Form.{six-whole, six-known}
-use Rattle.types.specs.Large.{large, first_large, too_large, types_order, types_refusal}
+use Rattle.types.specs.Large.{large, first_large, too_large, types_refusal}
 use Rattle.types.proofs.Large.{types-form, types-seven, types-right}
 use Rattle.types.specs.Wrong.{refusal_for}
 use native.Mathlib.Omega.{arith}

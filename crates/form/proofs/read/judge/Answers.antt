@@ -57,8 +57,8 @@ returns-then-wrong_length c =
       c.from-then-wrong_length.ensures,
     )
 
-pub lowest_broken-requires : goal.lowest_broken-requires
-lowest_broken-requires c = whole-right _ c.if-d-lt11.false (sym c.wrong_length.ensures ∙ c.if-wrong_length.false)
+pub first_broken-requires : goal.first_broken-requires
+first_broken-requires c = whole-right _ c.if-d-lt11.false (sym c.wrong_length.ensures ∙ c.if-wrong_length.false)
 
 pub of_type-requires : goal.of_type-requires
 of_type-requires c =
@@ -91,5 +91,5 @@ returns c =
       sym c.wrong_version.ensures ∙ c.if-wrong_version.false,
       sym c.wrong_counts.ensures ∙ c.if-wrong_counts.false,
       sym c.wrong_length.ensures ∙ c.if-wrong_length.false,
-      le-ltb (first_broken d) (types_in d) (omega (arith, within-none (broken_record d) 0 (types_in d) (sym c.in_default.is ∙ c.lowest_broken.ensures))),
+      le-ltb (first_broken d) (types_in d) (omega (arith, within-none (broken_record d) 0 (types_in d) (sym c.in_default.is ∙ c.first_broken.ensures))),
     )

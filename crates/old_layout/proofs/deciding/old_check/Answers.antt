@@ -1,8 +1,7 @@
 -- `old_check` meets its contract.
 -- Assumes nothing.
 use mathlib.Core.Path.{sym, ◌∙◌}
-use Rattle.layout.proofs.Layouts.{passed-on}
-use Rattle.old_layout.proofs.Layouts.{checked-laid, checked-refused}
+use Rattle.old_layout.proofs.Layouts.{passed-on, checked-laid, checked-refused}
 use Rattle.old_layout.proofs.deciding.old_check.Goals as goal
 
 pub returns-in_err-old_layout_of : goal.returns-in_err-old_layout_of

@@ -1,9 +1,9 @@
 -- `type_extent` meets its contract.
 -- Assumes nothing.
-use mathlib.Core.Path.{◌≡◌, sym, ap, ◌∙◌}
+use mathlib.Core.Path.{sym}
 use Rattle.std.proofs.lemmas.Result.{err_from_is_err_and}
 use Rattle.form.proofs.Judgment.{passed, passed_on, refused_on}
-use Rattle.old_types.specs.Questions.{question_refusal, extent_answer}
+use Rattle.old_types.specs.Questions.{extent_answer}
 use Rattle.old_types.proofs.Questions.{answered-sized, extent_is}
 use Rattle.old_types.proofs.Table.{known-low, known-extent}
 use Rattle.old_types.proofs.asking.old_extent.Goals as goal

@@ -1,7 +1,6 @@
 -- `judge_form` meets its contract: bit 1 is looked at where document 01's 1 to 4 do not refuse.
 -- Assumes nothing.
-use mathlib.Core.Path.{sym, ◌∙◌}
-use native.Mathlib.Omega.{arith}
+use mathlib.Core.Path.{◌∙◌}
 use Rattle.form.proofs.Form.{accepted-headed}
 use Rattle.form.proofs.Judgment.{passed}
 use Rattle.old_types.proofs.Judged.{form-passed, form-headed, form-refused_early, form-refused_late}

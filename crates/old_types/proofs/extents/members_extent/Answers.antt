@@ -3,7 +3,7 @@ use Prim.Native.Nat.{◌+◌, ◌-◌, max}
 use native.Mathlib.Omega.{arith}
 use Rattle.std.proofs.lemmas.Grind.{common_steps}
 use Rattle.old_types.proofs.Runs.{run_none, member-low, member-asks, run-rest, run-done}
-use Rattle.old_types.proofs.Table.{entry-low, entry-extent}
+use Rattle.old_types.proofs.Table.{entry-extent}
 use Rattle.old_types.proofs.extents.members_extent.Goals as goal
 
 pub end_after-size-requires : goal.end_after-size-requires

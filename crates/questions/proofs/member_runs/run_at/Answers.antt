@@ -1,12 +1,13 @@
 -- `run_at` meets its contract.
 -- Assumes nothing.
-use mathlib.Core.Path.{sym}
+use mathlib.Core.Path.{◌≡◌, sym}
 use native.Mathlib.Omega.{arith}
 use borrow.Author.Tests.{eq-eqb, lt-ltb, le-ltb}
 use Rattle.std.proofs.lemmas.Result.{err_from_is_err_and}
 use Prim.Native.Nat.{◌<◌}
 use Rattle.description.proofs.Records.{no_group}
 use Rattle.form.proofs.Judgment.{passed, refused_on}
+use Rattle.questions.specs.Questions.{question_refusal}
 use Rattle.questions.specs.Runs.{run_answer}
 use Rattle.questions.proofs.Questions.{answered-sized}
 use Rattle.questions.proofs.Runs.{run-within}
@@ -31,7 +32,7 @@ pub returns-in-Group : goal.returns-in-Group
 unfolding run_answer
 returns-in-Group c =
     let d = c.args.d.now in
-    let q = passed _ _ c.in_ok-judge.ensures.0 in
+    let q : question_refusal d c.args.t ≡ 0 = passed _ _ c.in_ok-judge.ensures.0 in
     let r = c.in-Group.ensures.1 in
     (rw (eq-eqb _ _ q, le-ltb (kind_at d c.args.t) 2 r.0, c.from-types.ensures, r.2.second, r.2.count), omega (arith, run-within d c.args.t q r.0, c.from-types.ensures, r.2.second, r.2.count))
 

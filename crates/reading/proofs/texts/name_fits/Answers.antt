@@ -6,7 +6,7 @@ use Rattle.reading.proofs.Spelling.{letter_name, letter_no_name, not_both, first
 use Rattle.reading.proofs.texts.name_fits.Goals as goal
 
 pub returns-then-has_class : goal.returns-then-has_class
-returns-then-has_class c = c.may_come.ensures ∙ sym (first-true _ _ (letter_name c.args.text.now c.args.start c.args.end _ (search rules) (search rules) refl (eqb-true _ 1 (sym c.has_class.ensures ∙ c.if-has_class.true))))
+returns-then-has_class c = c.may_come.ensures ∙ sym (first-true _ _ (letter_name c.args.token.now _ (search rules) refl (eqb-true _ 1 (sym c.has_class.ensures ∙ c.if-has_class.true))))
 
 pub returns-else-has_class : goal.returns-else-has_class
-returns-else-has_class c = c.if-has_class.false ∙ sym (not_both _ _ (letter_no_name c.args.text.now c.args.start c.args.end _ (search rules) (search rules) refl (eqb-false _ 1 (sym c.has_class.ensures ∙ c.if-has_class.false))))
+returns-else-has_class c = c.if-has_class.false ∙ sym (not_both _ _ (letter_no_name c.args.token.now _ (search rules) refl (eqb-false _ 1 (sym c.has_class.ensures ∙ c.if-has_class.false))))

@@ -2,15 +2,14 @@
 -- Assumes nothing.
 use mathlib.Core.Path.{◌∙◌}
 use mathlib.Core.List.{[]}
-use borrow.Author.Rules.{rules}
 use lib.ListN.{get_or}
 use borrow.Author.Tests.{ne_eqb}
 use Rattle.reading.proofs.Spelling.{is-other, is_same}
 use Rattle.grammar.specs.Prototype.{spellings}
 use Rattle.reading.proofs.tokens.is_token.Goals as goal
 
-pub returns-else-spelling_length-end : goal.returns-else-spelling_length-end
-returns-else-spelling_length-end c = ne_eqb _ _ c.if-spelling_length-end.false ∙ is-other c.args.text.now c.args.start c.args.end (get_or spellings c.args.i []) (search rules) _ c.spelling_length.ensures.0 c.if-spelling_length-end.false
+pub returns-else-spelling_length-token : goal.returns-else-spelling_length-token
+returns-else-spelling_length-token c = ne_eqb _ _ c.if-spelling_length-token.false ∙ is-other c.args.token.now (get_or spellings c.args.i []) _ c.spelling_length.ensures.0 c.if-spelling_length-token.false
 
-pub returns-then-spelling_length-end : goal.returns-then-spelling_length-end
-returns-then-spelling_length-end c = is_same c.args.text.now c.args.start c.args.end (get_or spellings c.args.i []) (search rules) _ _ c.spelling_length.ensures.0 c.if-spelling_length-end.true c.begins_token.ensures
+pub returns-then-spelling_length-token : goal.returns-then-spelling_length-token
+returns-then-spelling_length-token c = is_same c.args.token.now (get_or spellings c.args.i []) _ _ c.spelling_length.ensures.0 c.if-spelling_length-token.true c.begins_token.ensures

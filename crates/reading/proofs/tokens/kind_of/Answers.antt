@@ -19,7 +19,7 @@ pub loop-i-preserved : goal.loop-i-preserved
 loop-i-preserved c = (kind-next _ _ c.loop-i-test.true _ c.loop-i.invariant.0 c.is_token.ensures c.if-is_token.false, omega arith)
 
 pub returns-then-has_class : goal.returns-then-has_class
-returns-then-has_class c = (kind-name c.args.text.now c.args.start c.args.end c.loop-i.i _ (search rules) (search rules) c.loop-i.invariant.0 (omega arith) (sym c.is_number.ensures ∙ c.if-is_number.false) refl (eqb-true _ 1 (sym c.has_class.ensures ∙ c.if-has_class.true)), omega arith)
+returns-then-has_class c = (kind-name c.args.token.now c.loop-i.i _ (search rules) c.loop-i.invariant.0 (omega arith) (sym c.is_number.ensures ∙ c.if-is_number.false) refl (eqb-true _ 1 (sym c.has_class.ensures ∙ c.if-has_class.true)), omega arith)
 
 pub returns-else-has_class : goal.returns-else-has_class
-returns-else-has_class c = (kind-none c.args.text.now c.args.start c.args.end c.loop-i.i _ (search rules) (search rules) c.loop-i.invariant.0 (omega arith) (sym c.is_number.ensures ∙ c.if-is_number.false) refl (eqb-false _ 1 (sym c.has_class.ensures ∙ c.if-has_class.false)), omega arith)
+returns-else-has_class c = (kind-none c.args.token.now c.loop-i.i _ (search rules) c.loop-i.invariant.0 (omega arith) (sym c.is_number.ensures ∙ c.if-is_number.false) refl (eqb-false _ 1 (sym c.has_class.ensures ∙ c.if-has_class.false)), omega arith)

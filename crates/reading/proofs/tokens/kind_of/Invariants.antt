@@ -3,10 +3,9 @@
 use mathlib.Core.Path.{◌≡◌}
 use Prim.Native.Nat.{◌+◌, ◌≤◌}
 use lib.ListN.{drop}
-use lib.Seq.{slice}
 use Rattle.grammar.specs.Grammar.{word_kind}
 use Rattle.grammar.specs.Prototype.{spellings}
 use Rattle.reading.proofs.tokens.kind_of.Given as goal
 
 abbrev pub invariant-loop-i : goal.invariant-loop-i
-invariant-loop-i l = (word_kind (drop l.i spellings) (l.i + 3) (slice l.start l.end l.text) ≡ word_kind spellings 3 (slice l.start l.end l.text)) × (l.i ≤ 45)
+invariant-loop-i l = (word_kind (drop l.i spellings) (l.i + 3) l.token ≡ word_kind spellings 3 l.token) × (l.i ≤ 45)

@@ -7,7 +7,7 @@ use Rattle.old_layout.proofs.Arguments.{laid-first}
 use Rattle.old_layout.proofs.Layouts.{area-asks, layout_is}
 use Rattle.old_layout.proofs.Uses.{accepted-typed}
 use Rattle.description.specs.Description.{named_in, arguments_in}
-use Rattle.old_layout.proofs.laying.OldDescribed.layout.Goals as goal
+use Rattle.old_layout.proofs.described.OldDescribed.layout.Goals as goal
 
 pub byte_at-named-requires : goal.byte_at-named-requires
 byte_at-named-requires c = omega (arith, (accepted-typed c.args.self.bytes.now c.args.self.known.right).whole.headed)

@@ -6,7 +6,7 @@ use Rattle.old_layout.specs.Layout.{return_place}
 use Rattle.old_layout.proofs.Arguments.{return_known}
 use Rattle.old_layout.proofs.Uses.{accepted-typed}
 use Rattle.layout.specs.Arguments.{is_void}
-use Rattle.old_layout.proofs.laying.OldDescribed.returns.Goals as goal
+use Rattle.old_layout.proofs.described.OldDescribed.returns.Goals as goal
 
 pub byte_at-k-requires : goal.byte_at-k-requires
 byte_at-k-requires c = omega (arith, (accepted-typed c.args.self.bytes.now c.args.self.known.right).whole.headed)
