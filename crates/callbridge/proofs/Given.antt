@@ -12,7 +12,7 @@ use Rattle.form.specs.Reading.{refusal_in}
 use Rattle.types.specs.Wrong.{refusal_for}
 use Rattle.types.proofs.Wrong.{no_type}
 use Rattle.station.specs.declared.Station.{Station}
-use Rattle.station.specs.Outcome.{leaves}
+use Rattle.station.specs.Outcome.{answer_of, leaves}
 use Rattle.station.specs.Paper.{kcb}
 use Rattle.station.specs.Attachment.{attach_seat, detach_refusal, detach_station, detach_seat, change_seat}
 use Rattle.flat.specs.declared.Station.{Station as FlatStation}
@@ -37,7 +37,7 @@ number-told d (suc n) = rw (ne_eqb (suc n) 0 (λ e. omega (arith, e))) refl
 
 -- what the detach leaves of the record means what a detach leaves of the station
 pub freed-means : (s : FlatStation) (seat : List ℕ) → station_meant (freed_station s seat) ≡ detach_station (station_meant s) seat
-unfolding freed_station detach_given detach_station
+unfolding freed_station detach_given answer_of detach_station
 freed-means s seat = by (detach_refusal (station_meant s) seat) _ _
   where
     by : (n : ℕ) (x : Station) (r : Refusal)

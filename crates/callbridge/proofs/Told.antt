@@ -27,8 +27,8 @@ use Rattle.moving.specs.Answers.{place_answer, gather_answer}
 use Rattle.returning.specs.Orders.{put_refusal, take_refusal}
 use Rattle.returning.specs.Answers.{put_answer, take_answer}
 use Rattle.station.specs.declared.Station.{Station as Attached}
-use Rattle.station.specs.Paper.{kcb}
-use Rattle.station.specs.Outcome.{leaves}
+use Rattle.station.specs.Paper.{answer_under, kcb}
+use Rattle.station.specs.Outcome.{answer_of, leaves}
 use Rattle.station.specs.Attachment.{described, attach_refusal, attach_station, detach_refusal, detach_seat, change_refusal, change_station}
 use Rattle.station.proofs.Kcb.{kcb-refusal}
 use Rattle.walk.specs.Orders.{offsets_of, open_refusal, step_refusal, show_refusal}
@@ -178,13 +178,13 @@ unfolding take_answer
 taken-told d i y n = told _ d (take_refusal d i y n) _ (through taken_given (eqb (take_refusal d i y n) 0) _ _)
 
 pub attach-told : AttachTold
-unfolding attach_given
+unfolding attach_given answer_under
 attach-told s seat d =
     let n = attach_refusal kcb (station_meant s) seat d in
     told _ d n _ (ap (λ (r : Refusal). cond (eqb n 0) (Ok (flat_station (attach_station kcb (station_meant s) seat d))) (Err r)) (kcb-refusal d n))
 
 pub detach-told : DetachTold
-unfolding detach_given
+unfolding detach_given answer_of
 detach-told s seat =
     let n = detach_refusal (station_meant s) seat in (
       through refusal_in (eqb n 0) _ _ ∙ zero_of n,
@@ -206,14 +206,14 @@ change-told s seat d =
     )
 
 pub step-told : StepTold
-unfolding step_given
+unfolding step_given answer_under
 step-told s seat w a =
     let d = described (station_meant s) seat in
     let n = step_refusal kcb (station_meant s) seat (walk_meant w) a in
     told _ d n _ (ap (λ (r : Refusal). cond (eqb n 0) (Ok (flat_walk (step_walk kcb (station_meant s) seat (walk_meant w) a))) (Err r)) (kcb-refusal d n))
 
 pub finish-told : FinishTold
-unfolding finish_given
+unfolding finish_given answer_under
 finish-told s seat w a =
     let d = described (station_meant s) seat in
     let n = finish_refusal kcb (station_meant s) seat (walk_meant w) a in
