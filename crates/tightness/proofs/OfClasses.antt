@@ -2,12 +2,6 @@
 use Rattle.std.specs.Prelude.{refl}
 use Rattle.tightness.specs.Tight.{Meets, Tight}
 use Rattle.tightness.proofs.Laws.{equal, result}
-use Rattle.classes.specs.contracts.code_of
-use Rattle.classes.proofs.code_of.Met as code_of_met
-use Rattle.classes.proofs.code_of.Symbol as code_of_symbol
-use Rattle.classes.specs.contracts.is_same
-use Rattle.classes.proofs.is_same.Met as is_same_met
-use Rattle.classes.proofs.is_same.Symbol as is_same_symbol
 use Rattle.classes.specs.contracts.Class.merged as Class_merged
 use Rattle.classes.proofs.Class.merged.Met as Class_merged_met
 use Rattle.classes.proofs.Class.merged.Symbol as Class_merged_symbol
@@ -20,18 +14,6 @@ use Rattle.classes.proofs.merge_both.Symbol as merge_both_symbol
 use Rattle.classes.specs.contracts.clean_up
 use Rattle.classes.proofs.clean_up.Met as clean_up_met
 use Rattle.classes.proofs.clean_up.Symbol as clean_up_symbol
-
-pub meets_classes_code_of : Meets code_of.ended (λ M 𝓤 𝓛. code_of.clauses 𝓛) code_of_symbol.name code_of_symbol.code
-meets_classes_code_of M = code_of_met.met
-
-pub tight_classes_code_of : Tight code_of.ended (λ M 𝓤 𝓛. code_of.clauses 𝓛)
-tight_classes_code_of c r q w v a b = (equal (result code_of.ended c) a.ensured b.ensured, refl)
-
-pub meets_classes_is_same : Meets is_same.ended (λ M 𝓤 𝓛. is_same.clauses 𝓛) is_same_symbol.name is_same_symbol.code
-meets_classes_is_same M = is_same_met.met
-
-pub tight_classes_is_same : Tight is_same.ended (λ M 𝓤 𝓛. is_same.clauses 𝓛)
-tight_classes_is_same c r q w v a b = (equal (result is_same.ended c) a.ensured b.ensured, refl)
 
 pub meets_classes_Class_merged : Meets Class_merged.ended (λ M 𝓤 𝓛. Class_merged.clauses 𝓛) Class_merged_symbol.name Class_merged_symbol.code
 meets_classes_Class_merged M = Class_merged_met.met

@@ -20,6 +20,9 @@ use Rattle.form.proofs.Refusal.of_type.Symbol as Refusal_of_type_symbol
 use Rattle.form.specs.contracts.RefusalFromReason.from as RefusalFromReason_from
 use Rattle.form.proofs.RefusalFromReason.from.Met as RefusalFromReason_from_met
 use Rattle.form.proofs.RefusalFromReason.from.Symbol as RefusalFromReason_from_symbol
+use Rattle.form.specs.contracts.first_broken
+use Rattle.form.proofs.first_broken.Met as first_broken_met
+use Rattle.form.proofs.first_broken.Symbol as first_broken_symbol
 use Rattle.form.specs.contracts.judge
 use Rattle.form.proofs.judge.Met as judge_met
 use Rattle.form.proofs.judge.Symbol as judge_symbol
@@ -56,6 +59,12 @@ meets_form_RefusalFromReason_from M = RefusalFromReason_from_met.met
 
 pub tight_form_RefusalFromReason_from : Tight RefusalFromReason_from.ended (λ M 𝓤 𝓛. RefusalFromReason_from.clauses 𝓛)
 tight_form_RefusalFromReason_from c r q w v a b = (equal (result RefusalFromReason_from.ended c) a.ensured b.ensured, refl)
+
+pub meets_form_first_broken : Meets first_broken.ended (λ M 𝓤 𝓛. first_broken.clauses 𝓛) first_broken_symbol.name first_broken_symbol.code
+meets_form_first_broken M = first_broken_met.met
+
+pub tight_form_first_broken : Tight first_broken.ended (λ M 𝓤 𝓛. first_broken.clauses 𝓛)
+tight_form_first_broken c r q w v a b = (equal (result first_broken.ended c) a.ensured b.ensured, refl)
 
 pub meets_form_judge : Meets judge.ended (λ M 𝓤 𝓛. judge.clauses 𝓛) judge_symbol.name judge_symbol.code
 meets_form_judge M = judge_met.met

@@ -6,9 +6,6 @@ use Rattle.tightness.specs.Tight.{Meets, Tight}
 use Rattle.tightness.proofs.Laws.{bytes, equal, result, settle}
 use Rattle.layout.specs.contracts.placements.Laying as layout_Laying
 use Rattle.layout.specs.contracts.placements.Placement as layout_Placement
-use Rattle.layout.specs.contracts.refusal_in
-use Rattle.layout.proofs.refusal_in.Met as refusal_in_met
-use Rattle.layout.proofs.refusal_in.Symbol as refusal_in_symbol
 use Rattle.layout.specs.contracts.layout_with
 use Rattle.layout.proofs.layout_with.Met as layout_with_met
 use Rattle.layout.proofs.layout_with.Symbol as layout_with_symbol
@@ -42,18 +39,15 @@ use Rattle.layout.proofs.described.Described.named.Symbol as Described_named_sym
 use Rattle.layout.specs.contracts.described.Described.arguments as Described_arguments
 use Rattle.layout.proofs.described.Described.arguments.Met as Described_arguments_met
 use Rattle.layout.proofs.described.Described.arguments.Symbol as Described_arguments_symbol
+use Rattle.layout.specs.contracts.described.Described.hidden as Described_hidden
+use Rattle.layout.proofs.described.Described.hidden.Met as Described_hidden_met
+use Rattle.layout.proofs.described.Described.hidden.Symbol as Described_hidden_symbol
 use Rattle.layout.specs.contracts.described.Described.place_as as Described_place_as
 use Rattle.layout.proofs.described.Described.place_as.Met as Described_place_as_met
 use Rattle.layout.proofs.described.Described.place_as.Symbol as Described_place_as_symbol
 use Rattle.layout.specs.contracts.described.Described.place_argument as Described_place_argument
 use Rattle.layout.proofs.described.Described.place_argument.Met as Described_place_argument_met
 use Rattle.layout.proofs.described.Described.place_argument.Symbol as Described_place_argument_symbol
-
-pub meets_layout_refusal_in : Meets refusal_in.ended (λ M 𝓤 𝓛. refusal_in.clauses 𝓛) refusal_in_symbol.name refusal_in_symbol.code
-meets_layout_refusal_in M = refusal_in_met.met
-
-pub tight_layout_refusal_in : Tight refusal_in.ended (λ M 𝓤 𝓛. refusal_in.clauses 𝓛)
-tight_layout_refusal_in c r q w v a b = (equal (result refusal_in.ended c) a.ensured b.ensured, refl)
 
 pub meets_layout_layout_with : Meets layout_with.ended (λ M 𝓤 𝓛. layout_with.clauses 𝓛) layout_with_symbol.name layout_with_symbol.code
 meets_layout_layout_with M = layout_with_met.met
@@ -132,6 +126,12 @@ meets_layout_Described_arguments M = Described_arguments_met.met
 
 pub tight_layout_Described_arguments : Tight Described_arguments.ended (λ M 𝓤 𝓛. Described_arguments.clauses 𝓛)
 tight_layout_Described_arguments c r q w v a b = (equal (result Described_arguments.ended c) a.ensured b.ensured, refl)
+
+pub meets_layout_Described_hidden : Meets Described_hidden.ended (λ M 𝓤 𝓛. Described_hidden.clauses 𝓛) Described_hidden_symbol.name Described_hidden_symbol.code
+meets_layout_Described_hidden M = Described_hidden_met.met
+
+pub tight_layout_Described_hidden : Tight Described_hidden.ended (λ M 𝓤 𝓛. Described_hidden.clauses 𝓛)
+tight_layout_Described_hidden c r q w v a b = (equal (result Described_hidden.ended c) a.ensured b.ensured, refl)
 
 pub meets_layout_Described_place_as : Meets Described_place_as.ended (λ M 𝓤 𝓛. Described_place_as.clauses 𝓛) Described_place_as_symbol.name Described_place_as_symbol.code
 meets_layout_Described_place_as M = Described_place_as_met.met
