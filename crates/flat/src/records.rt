@@ -113,7 +113,10 @@ impl From<ReturnPlace> for Pair {
         let (first, second) = match place {
             ReturnPlace::Void | ReturnPlace::Memory => (NONE, NONE),
             ReturnPlace::One(register) => (number_in(&OF_RETURNED, register), NONE),
-            ReturnPlace::Two(low, high) => (number_in(&OF_RETURNED, low), number_in(&OF_RETURNED, high)),
+            ReturnPlace::Two(low, high) => (
+                number_in(&OF_RETURNED, low),
+                number_in(&OF_RETURNED, high),
+            ),
             ReturnPlace::St0 => (ST0, NONE),
             ReturnPlace::St0St1 => (ST0, ST1),
         };

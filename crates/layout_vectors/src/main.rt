@@ -5,7 +5,6 @@
 ghost use Rattle.std.specs.Prelude.{◌≡◌};
 ghost use Rattle.layout.specs.Layout.{layout_of};
 
-use form::Refusal;
 use layout::{Described, Laying, Layout, Placement};
 use places::{Place, Register, ReturnPlace};
 use std::{fmt, io};
@@ -143,11 +142,6 @@ fn print_laid(rt: &impl Print, described: Described, layout: Layout) -> io::Resu
     println!(rt; "values {} align {}", layout.values.0, layout.align.0)
 }
 
-// The number, and the type that breaks the rule of 6 or 7, which is 0 for the others.
-fn print_refusal(rt: &impl Print, refusal: Refusal) -> io::Result<()> {
-    println!(rt; "refused {} {}", refusal.number, refusal.ty)
-}
-
 fn answer(rt: &impl Print, d: &[u8], room: usize) -> io::Result<()> {
     let mut table = [0u32; 64];
     match layout::begin_with(d, room, &mut table) {
@@ -158,14 +152,14 @@ fn answer(rt: &impl Print, d: &[u8], room: usize) -> io::Result<()> {
             };
             print_laid(rt, described, layout)?;
         }
-        Err(refusal) => print_refusal(rt, refusal)?,
+        Err(refusal) => streams::print_refusal(rt, refusal)?,
     }
     match layout::needs_stack(d) {
         Ok(need) => {
             let answer = if need.needed { "yes" } else { "no" };
             println!(rt; "needs {answer} {}", need.looked)
         }
-        Err(refusal) => print_refusal(rt, refusal),
+        Err(refusal) => streams::print_refusal(rt, refusal),
     }
 }
 

@@ -2,14 +2,8 @@
 // the rules answers.
 #![tactic(auto)]
 
-use form::Refusal;
 use std::io;
 use streams::Hex;
-
-// The number, and the type that breaks the rule of 6 or 7, which is 0 for the others.
-fn print_refusal(rt: &impl Print, refusal: Refusal) -> io::Result<()> {
-    println!(rt; "refused {} {}", refusal.number, refusal.ty)
-}
 
 // Places, and gathers from the images as they are then, whether or not placing was refused.
 fn answer(
@@ -24,7 +18,7 @@ fn answer(
 ) -> io::Result<()> {
     match moving::place_values(d, hidden, values, registers, upper, stack) {
         Ok(count) => println!(rt; "placed {}", count.0)?,
-        Err(refusal) => print_refusal(rt, refusal)?,
+        Err(refusal) => streams::print_refusal(rt, refusal)?,
     }
     println!(rt; "registers{}", Hex(registers))?;
     println!(rt; "upper{}", Hex(upper))?;
@@ -33,7 +27,7 @@ fn answer(
     out.fill(0xEE);
     match moving::gather_values(d, registers, upper, stack, out) {
         Ok(address) => println!(rt; "gathered {address}")?,
-        Err(refusal) => print_refusal(rt, refusal)?,
+        Err(refusal) => streams::print_refusal(rt, refusal)?,
     }
     println!(rt; "values{}", Hex(out))
 }

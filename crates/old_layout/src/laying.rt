@@ -1,11 +1,13 @@
 // The arguments of a call of the 386 kind, one behind the other, and where the value is returned (request 2026-12).
-ghost use Rattle.std.specs.Prelude.{◌≡◌, cond};
+ghost use Rattle.std.specs.Prelude.{◌≡◌, ◌<◌, cond, leb};
+ghost use Rattle.description.specs.Description.{kind_at, types_in, Whole};
 ghost use Rattle.old_layout.specs.Layout.{result_of, return_place, returned_size, layout_of};
 ghost use Rattle.old_layout.specs.Asks.{IsLaid, AskArguments};
 ghost use Rattle.intel386.specs.Arguments.{hidden};
 
 use crate::described::OldDescribed;
 use crate::{OldLayout, OldReturn};
+use description::TypeRecord;
 use units::Bytes;
 
 // Where the next argument stands, and where its value begins.
@@ -13,6 +15,14 @@ use units::Bytes;
 pub struct Laying {
     pub offset: Bytes,
     pub values: Bytes,
+}
+
+// Whether type k is a struct or a union.
+fn is_group(d: &[u8], k: usize) -> bool
+    requires { Whole d.now × (k < types_in d.now) }
+    ensures { result ≡ leb 2 (kind_at d.now k) }
+{
+    matches!(description::record_at(d, k), TypeRecord::Group { .. })
 }
 
 // The bytes that a hidden address takes.
@@ -42,7 +52,7 @@ impl<'a> OldDescribed<'a> {
         ensures { result ≡ hidden self.entry.bytes.now }
     {
         let k = description::byte_at(self.bytes, 9);
-        k != 255 && 2 <= description::kind_at(self.bytes, k)
+        k != 255 && is_group(self.bytes, k)
     }
 
     // Where the value is returned.
@@ -53,7 +63,7 @@ impl<'a> OldDescribed<'a> {
         if k == 255 {
             return OldReturn::Void;
         }
-        if 2 <= description::kind_at(self.bytes, k) {
+        if is_group(self.bytes, k) {
             return OldReturn::Memory;
         }
         result_of(description::a_at(self.bytes, k))

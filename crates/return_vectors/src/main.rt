@@ -2,14 +2,8 @@
 // the rules answers.
 #![tactic(auto)]
 
-use form::Refusal;
 use std::io;
 use streams::Hex;
-
-// The number, and the type that breaks the rule of 6 or 7, which is 0 for the others.
-fn print_refusal(rt: &impl Print, refusal: Refusal) -> io::Result<()> {
-    println!(rt; "refused {} {}", refusal.number, refusal.ty)
-}
 
 // Puts, and takes from the images as they are then, whether or not putting was refused.
 fn answer(
@@ -23,7 +17,7 @@ fn answer(
 ) -> io::Result<()> {
     match returning::put_returned(d, hidden, value, image, upper) {
         Ok(()) => println!(rt; "put")?,
-        Err(refusal) => print_refusal(rt, refusal)?,
+        Err(refusal) => streams::print_refusal(rt, refusal)?,
     }
     println!(rt; "image{}", Hex(image))?;
     println!(rt; "upper{}", Hex(upper))?;
@@ -31,7 +25,7 @@ fn answer(
     out.fill(0xEE);
     match returning::take_returned(d, image, upper, out) {
         Ok(address) => println!(rt; "taken {address}")?,
-        Err(refusal) => print_refusal(rt, refusal)?,
+        Err(refusal) => streams::print_refusal(rt, refusal)?,
     }
     println!(rt; "value{}", Hex(out))
 }

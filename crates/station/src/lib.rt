@@ -43,8 +43,9 @@ fn fill(seat: &mut [u8], d: &[u8])
     requires { (length seat.old ≡ 586) × (length d.now ≤ 586) }
     ensures { seat.new ≡ seat_of d.now }
 {
-    seat.fill(0);
-    seat[..d.len()].copy_from_slice(d);
+    // Not `copy_from_slice`, which is a call of memmove where the length is not known (docs/DECISIONS.md, 97).
+    addresses::clear(seat);
+    addresses::copy(seat, 0, d, 0, d.len());
 }
 
 // ---- attaching

@@ -6,8 +6,9 @@ pub mod tool; // a command that reads one file or the standard input
 
 ghost use Rattle.std.specs.Prelude.{◌≤◌, length, IfSome};
 
-use std::fmt;
+use form::Refusal;
 use std::io::Read;
+use std::{fmt, io};
 
 // More records than any file of vectors has, so that a program ends whatever it reads.
 pub const RECORDS: usize = 100000;
@@ -26,6 +27,11 @@ impl fmt::Display for Hex<'_> {
         }
         Ok(())
     }
+}
+
+// A line with the number, and the type that breaks the rule of 6 or 7, which is 0 for the others.
+pub fn print_refusal(rt: &impl Print, refusal: Refusal) -> io::Result<()> {
+    println!(rt; "refused {} {}", refusal.number, refusal.ty)
 }
 
 // Some bytes of the standard input, at the start of buf: how many they are, 0 at the end of the input or where the read fails.

@@ -1,9 +1,8 @@
--- Zeros, and the description over the first of them.
+-- A cleared seat with the description copied into it.
 -- Assumes nothing.
-use Rattle.std.proofs.lemmas.List.{drop-replicate}
-use Rattle.station.specs.Attachment.{seat_of}
+use mathlib.Core.Path.{◌∙◌}
+use Rattle.station.proofs.Filled.{filled-seat}
 use Rattle.station.proofs.fill.Goals as goal
 
 pub returns : goal.returns
-unfolding seat_of
-returns c = rw (c.copy_from_slice.ensures.after, c.fill.ensures.after (λ y e. e), c.requires.0, drop-replicate)
+returns c = c.copy.ensures ∙ filled-seat c.args.seat.now _ c.args.d.now c.requires.0 c.requires.1 c.clear.ensures
