@@ -126,6 +126,7 @@ use Rattle.promises.proofs.MemberOffsets.{same_lie}
 use Rattle.promises.proofs.Demand3.{demand_3}
 use Rattle.promises.proofs.BringingBack.{bringing_back}
 use Rattle.walk.specs.declared.showing.Shown.{Shown}
+use Rattle.walk.specs.declared.showing.Shown.TheVariants.{Registers, Stack}
 
 -- ---- a call that is told by a number
 

@@ -12,7 +12,7 @@ use Rattle.form.specs.contracts.read_form
 use Rattle.questions.specs.contracts.type_size
 use Rattle.questions.specs.contracts.type_align
 use Rattle.walk.specs.contracts.show_number
-use Rattle.promises.specs.Meaning.{of_refusal, of_reading, of_size, of_align, Answered}
+use Rattle.promises.specs.Meaning.{of_judgment, of_reading, of_size, of_align, Answered}
 use Rattle.promises.specs.Orders.{form_order, question_order, show_order}
 
 -- something is so of every outcome that a contract admits
@@ -26,5 +26,5 @@ pub record Calls : Type 2 where
   pub aligns : Ensures type_align.ended (λ M 𝓤 𝓛. type_align.clauses 𝓛)
       (λ c r w. Answered (of_align r) (question_order c.passed.0.now c.passed.1.0) (align_ty (model_in c.passed.0.now) (ty_at c.passed.0.now c.passed.1.0)))
   pub shows : Ensures show_number.ended (λ M 𝓤 𝓛. show_number.clauses 𝓛)
-      (λ c r w. Answered (of_refusal r) (show_order c.passed.0 c.passed.1.0.now c.passed.1.1.0
+      (λ c r w. Answered (of_judgment r) (show_order c.passed.0 c.passed.1.0.now c.passed.1.1.0
       (asking c.passed.1.1.1.0.now c.passed.1.1.1.1.0.now c.passed.1.1.1.1.1.0 [])) tt)

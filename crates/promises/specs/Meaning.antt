@@ -13,6 +13,7 @@ use Rattle.units.specs.declared.Bytes.{Bytes}
 use Rattle.types.specs.declared.Extent.{Extent}
 use Rattle.units.specs.declared.Registers.{Registers}
 use Rattle.walk.specs.declared.showing.Shown.{Shown}
+use Rattle.walk.specs.declared.showing.Shown.TheVariants.{Registers as InRegisters, Stack as InStack}
 
 -- the values of an answer that accepts, or the number of a refusal: "A refusal returns its number only"
 pub data Meaning (X : Type 0) : Type 0 where
@@ -34,6 +35,11 @@ of_number n = outcome n tt
 
 abbrev pub of_refusal : Refusal → Meaning (Unit {0})
 of_refusal r = of_number r.number
+
+-- an answer that gives nothing where it accepts
+abbrev pub of_judgment : Result (Unit {0}) Refusal → Meaning (Unit {0})
+of_judgment (Ok tt) = accepted tt
+of_judgment (Err r) = refused r.number
 
 -- ---- the enums
 
@@ -109,14 +115,14 @@ pub data Part : Type 0 where
   apart : Part
 
 abbrev pub shown_part : Result (Option Shown) Refusal → Part
-shown_part (Ok (Some (Registers p))) = in_registers p.offset.0 p.length.0
-shown_part (Ok (Some (Stack p))) = in_stack p.offset.0 p.length.0
+shown_part (Ok (Some (InRegisters p))) = in_registers p.offset.0 p.length.0
+shown_part (Ok (Some (InStack p))) = in_stack p.offset.0 p.length.0
 shown_part (Ok None) = apart
 shown_part (Err r) = apart
 
 abbrev pub of_shown : Result (Option Shown) Refusal → Meaning Part
-of_shown (Ok (Some (Registers p))) = accepted (shown_part (Ok (Some (Registers p))))
-of_shown (Ok (Some (Stack p))) = accepted (shown_part (Ok (Some (Stack p))))
+of_shown (Ok (Some (InRegisters p))) = accepted (shown_part (Ok (Some (InRegisters p))))
+of_shown (Ok (Some (InStack p))) = accepted (shown_part (Ok (Some (InStack p))))
 of_shown (Ok None) = accepted apart
 of_shown (Err r) = refused r.number
 

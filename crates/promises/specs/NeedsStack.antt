@@ -9,6 +9,7 @@ use denote.Triple.Clauses.{Lasts}
 use Rattle.tightness.specs.Tight.{Call as Made, Admits}
 use Rattle.form.specs.declared.Refusal.{Refusal}
 use Rattle.form.specs.Order.{NoneHolds}
+use Rattle.layout.specs.declared.needing.StackNeed.{StackNeed as Need}
 use Rattle.layout.specs.StackNeeds.{stack_need, stack_answer, StackNeeded}
 use Rattle.flat.specs.declared.StackNeed.{StackNeed}
 use Rattle.flat.specs.declared.Layout.{Layout}
@@ -21,7 +22,7 @@ use Rattle.promises.specs.Calls.{Ensures}
 use Rattle.promises.specs.Exports.{Fills}
 
 -- yes or no, and the count of arguments looked at
-abbrev pub of_need : Result StackNeed Refusal → Meaning (Bool × ℕ)
+abbrev pub of_need : Result Need Refusal → Meaning (Bool × ℕ)
 of_need (Ok n) = accepted (n.needed, n.looked)
 of_need (Err r) = refused r.number
 

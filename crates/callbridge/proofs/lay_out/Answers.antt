@@ -1,5 +1,5 @@
 -- Record after record; a refusal leaves the list. Assumes nothing.
-use Rattle.std.proofs.Common.{◌≡◌, ℕ, length, Ok, Err, arith, refl, sym, ap, subst, ◌∙◌}
+use Rattle.std.proofs.Common.{◌≡◌, ℕ, length, Ok, arith, sym, ap, subst, ◌∙◌}
 use Rattle.description.specs.Description.{arguments_in}
 use Rattle.layout.specs.Asks.{AskRecord}
 use Rattle.layout.specs.Layout.{layout_of}
