@@ -6,6 +6,7 @@ ghost use Rattle.intel386.specs.Arguments.{hidden};
 
 use crate::described::OldDescribed;
 use crate::{OldLayout, OldReturn};
+use description::TypeRecord;
 use units::Bytes;
 
 // Where the next argument stands, and where its value begins.
@@ -42,7 +43,11 @@ impl<'a> OldDescribed<'a> {
         ensures { result ≡ hidden self.entry.bytes.now }
     {
         let k = description::byte_at(self.bytes, 9);
-        k != 255 && 2 <= description::kind_at(self.bytes, k)
+        k != 255
+            && matches!(
+                description::record_at(self.bytes, k),
+                TypeRecord::Group { .. }
+            )
     }
 
     // Where the value is returned.
@@ -53,10 +58,11 @@ impl<'a> OldDescribed<'a> {
         if k == 255 {
             return OldReturn::Void;
         }
-        if 2 <= description::kind_at(self.bytes, k) {
-            return OldReturn::Memory;
+        match description::record_at(self.bytes, k) {
+            TypeRecord::Basic { code, .. } => result_of(code),
+            // A struct or a union: no array is returned.
+            _ => OldReturn::Memory,
         }
-        result_of(description::a_at(self.bytes, k))
     }
 
     // The size of the returned type, by the table. Void has none.
