@@ -83,9 +83,6 @@ module _ (d t : List ℕ) (k i n : ℕ) (p : SizedRun (model_in d) d k i n 0 1) 
 
 -- an aggregate of 32 bytes, by its kind
 
-pub two-kinds : (kind : ℕ) → (kind ≡ 0 → ⊥) → (kind ≡ 1 → ⊥) → 2 ≤ kind
-two-kinds kind h i = omega arith
-
 group-vector : (m : Model) (u : Bool) (ts : Tys) → Filled (group u ts) → size_ty m (group u ts) ≡ 32 → classes_of m (group u ts) ≡ cond (each_fits m ts && some_vector m ts) vector memory
 unfolding Filled
 group-vector m true ts f e = union-vector m ts f e

@@ -7,6 +7,7 @@ use crate::packed_classes::Packed;
 use crate::table_words;
 use crate::table_words::Entry;
 use crate::unions::Different;
+use description::TypeRecord;
 use units::Bytes;
 
 // A description whose types are sized, and what is known so far of their classes: the table has those of its first `types` types, at offset 0, and
@@ -71,17 +72,18 @@ impl<'a> Known<'a> {
         requires { AskType self.d.now k at.0 × (k ≤ self.types) }
         ensures { pair_in result.0 ≡ classes_at (model_in self.entry.d.now) 2 (ty_at self.entry.d.now k) at.0 }
     {
-        let kind = description::kind_at(self.d, k);
-        let a = description::a_at(self.d, k);
-        if kind == 0 {
-            return Packed::from(table_words::basic_at(a, at));
+        match description::record_at(self.d, k) {
+            TypeRecord::Basic { code, .. } => Packed::from(table_words::basic_at(code, at)),
+            TypeRecord::Array { element, count } => {
+                let size = types::extent_in(self.table, element).size;
+                self.of_elements(element, count, size, at).cleaned()
+            }
+            TypeRecord::Group {
+                union,
+                first,
+                count,
+            } => self.of_members(k, first, count, union, at).cleaned(),
         }
-        let count = description::count_at(self.d, k);
-        if kind == 1 {
-            let size = types::extent_in(self.table, a).size;
-            return self.of_elements(a, count, size, at).cleaned();
-        }
-        self.of_members(k, a, count, kind == 3, at).cleaned()
     }
 
     // `count` elements of type k, of `size` bytes each, from offset `at` on, merged.

@@ -13,6 +13,7 @@ use crate::aggregates::Known;
 use crate::table_words::{Entry, Word};
 use crate::unions::Different;
 use crate::{unions, wide_aggregates};
+use description::TypeRecord;
 use units::Bytes;
 
 // Here description, table and finished answers go side by side: the answers are written between the looks, so no `Known` holds them throughout.
@@ -74,10 +75,9 @@ fn word_at(d: &[u8], k: usize, table: &[u32; 64], finished: &mut [u8; 512]) -> W
     requires { Sized (model_in d.now) d.now k × Ready d.now table.now finished.old k }
     ensures { (result.0 ≡ word_of (classes_of (model_in d.now) (ty_at d.now k))) × Right d.now finished.new }
 {
-    if description::kind_at(d, k) == 0 {
-        Word::basic(description::a_at(d, k))
-    } else {
-        aggregate_word(d, k, table, finished)
+    match description::record_at(d, k) {
+        TypeRecord::Basic { code, .. } => Word::basic(code),
+        _ => aggregate_word(d, k, table, finished),
     }
 }
 

@@ -12,6 +12,7 @@ ghost use Rattle.classify.specs.Table.{word_of};
 use crate::aggregates::Known;
 use crate::table_words;
 use crate::table_words::{Entry, Word};
+use description::TypeRecord;
 use units::Bytes;
 
 // Whether `count` members of type k from place `first` on are one vector: each fits, and one of them is a vector by itself.
@@ -31,17 +32,15 @@ fn members_wide(known: Known, k: usize, first: usize, count: usize) -> bool
     some
 }
 
-// Whether aggregate k, of 32 bytes, is one vector: an array where its element is.
+// Whether aggregate k, of 32 bytes, is one vector: an array where its element is. No basic type comes here.
 fn is_vector(known: Known, k: usize) -> bool
     requires { Sized (model_in known.d.now) known.d.now k × (kind_at known.d.now k ≡ 0 → ⊥) × (size_ty (model_in known.d.now) (ty_at known.d.now k) ≡ 32) × (k ≤ known.types) }
     ensures { classes_of (model_in known.entry.d.now) (ty_at known.entry.d.now k) ≡ cond result vector memory }
 {
-    let kind = description::kind_at(known.d, k);
-    let a = description::a_at(known.d, k);
-    if kind == 1 {
-        table_words::is_wide(known.table, a)
-    } else {
-        members_wide(known, k, a, description::count_at(known.d, k))
+    match description::record_at(known.d, k) {
+        TypeRecord::Basic { .. } => false,
+        TypeRecord::Array { element, .. } => table_words::is_wide(known.table, element),
+        TypeRecord::Group { first, count, .. } => members_wide(known, k, first, count),
     }
 }
 

@@ -9,7 +9,7 @@ ghost use Rattle.layout.specs.Layout.{values_of};
 ghost use Rattle.layout.specs.Verdict.{verdict};
 ghost use Rattle.form.specs.Search.{first_from};
 
-use description::Model;
+use description::{Model, TypeRecord};
 use layout::{Described, Layout};
 use units::Bytes;
 
@@ -53,7 +53,10 @@ pub fn is_bool(d: &[u8], k: usize) -> bool
     requires { Whole d.now × (k < types_in d.now) }
     ensures { result ≡ is_bool d.now k }
 {
-    description::kind_at(d, k) == 0 && description::a_at(d, k) == 0
+    matches!(
+        description::record_at(d, k),
+        TypeRecord::Basic { code: 0, .. }
+    )
 }
 
 // Whether type k is _Bool, and the byte is not 0 or 1.

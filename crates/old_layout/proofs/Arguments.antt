@@ -3,17 +3,20 @@
 use mathlib.Core.Path.{◌≡◌, sym, ap, ◌∙◌}
 use mathlib.Core.Bool.{Bool, true, false, cond}
 use mathlib.Core.List.{List}
+use mathlib.Core.Logic.{◌≢◌}
 use Prim.Native.Nat.{ℕ, zero, suc, ◌+◌, ◌*◌, ◌≤◌, ◌<◌}
 use native.Mathlib.Numerals.{add-one}
 use native.Mathlib.Omega.{arith}
-use borrow.Author.Tests.{ne_eqb}
+use borrow.Author.Tests.{ne_eqb, eqb-false}
 use lib.ListN.{get_or}
-use Rattle.description.specs.Description.{types_in, arguments_in, return_in, argument_at}
+use Rattle.description.specs.Description.{types_in, arguments_in, return_in, argument_at, kind_at}
 use Rattle.units.specs.Raise.{raise}
 use Rattle.units.proofs.Raise.{raise-below}
 use Rattle.types.specs.Decode.{ty_at}
 use Rattle.types.specs.Table.{IsEntry}
 use Rattle.types.specs.declared.Extent.{Extent}
+use Rattle.form.proofs.Form.{or_none}
+use Rattle.uses.specs.Uses.{wrong_number}
 use Rattle.uses.proofs.Uses.{right-below}
 use Rattle.old_types.specs.Size.{size_ty}
 use Rattle.old_types.proofs.Orders.{accepted-kept, accepted-counts, accepted-small}
@@ -35,6 +38,11 @@ module _ (d : List ℕ) (right : uses_refusal d ≡ 0) where
 
   pub return_known : (k : ℕ) → k ≡ return_in d → (k ≡ 255 → ⊥) → k < types_in d
   return_known k e n = rw e (right-below d (return_in d) (accepted-return d right (ne_eqb (return_in d) 255 (λ z. n (e ∙ z)))))
+
+  -- no array is returned
+  pub return-no-array : (k : ℕ) → k ≡ return_in d → (k ≡ 255 → ⊥) → kind_at d k ≢ 1
+  unfolding wrong_number
+  return-no-array k e n = rw e (eqb-false (kind_at d (return_in d)) 1 (or_none _ _ (accepted-return d right (ne_eqb (return_in d) 255 (λ z. n (e ∙ z))))).1)
 
   size_small : (i : ℕ) → i < arguments_in d → (shape_at d i).size ≤ 4096
   unfolding shape_at

@@ -68,30 +68,35 @@ impl<'a> Numbering<'a> {
         true
     }
 
-    // Whether types j and k, whose parts have numbers, are the same, by their records. Kind, second byte and count are compared in turn: a match on the pair
-    // of records would name each of them twice.
+    // Whether types j and k, whose parts have numbers, are the same, by their records.
     fn are_same_records(&self, j: usize, k: usize) -> bool
         requires { AskSame self.now.types.bytes.now self.now.numbers j k }
         ensures { result ≡ same_ty (ty_at self.now.types.bytes.now j) (ty_at self.now.types.bytes.now k) }
     {
         let d = self.types.bytes;
-        let kind = description::kind_at(d, j);
-        if kind != description::kind_at(d, k) {
-            return false;
+        match (description::record_at(d, j), description::record_at(d, k)) {
+            (TypeRecord::Basic { code: a, .. }, TypeRecord::Basic { code: b, .. }) => a == b,
+            (
+                TypeRecord::Array { element: a, count },
+                TypeRecord::Array {
+                    element: b,
+                    count: other,
+                },
+            ) => count == other && self.numbers[a] == self.numbers[b],
+            (
+                TypeRecord::Group {
+                    union,
+                    first: a,
+                    count,
+                },
+                TypeRecord::Group {
+                    union: is_union,
+                    first: b,
+                    count: other,
+                },
+            ) => union == is_union && count == other && self.are_same_members(a, b, count),
+            _ => false,
         }
-        let a = description::a_at(d, j);
-        let b = description::a_at(d, k);
-        if kind == 0 {
-            return a == b;
-        }
-        let count = description::count_at(d, j);
-        if count != description::count_at(d, k) {
-            return false;
-        }
-        if kind == 1 {
-            return self.numbers[a] == self.numbers[b];
-        }
-        self.are_same_members(a, b, count)
     }
 
     // The same. Types with different marks are told apart by these alone.

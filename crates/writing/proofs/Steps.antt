@@ -108,10 +108,10 @@ module _ (d : List ℕ) (k : ℕ) (s : Sized (model_in d) d k) where
   array-length a n x f e ea en ex ef =
       rw (ef, ex, ea, en) (sym (rw (ne_eqb (kind_at d k) 0 (omega (arith, e)), eq-eqb (kind_at d k) 1 e) refl) ∙ length-right d k s)
 
-  pub group-length : (kd a n : ℕ) → kd ≡ kind_at d k → 2 ≤ kind_at d k → a ≡ a_at d k → n ≡ count_at d k → members_from (length_at d) d (braces_length (eqb kd 3)) 0 a n ≡ length_at d k
+  pub group-length : (u : Bool) (a n : ℕ) → u ≡ eqb (kind_at d k) 3 → 2 ≤ kind_at d k → a ≡ a_at d k → n ≡ count_at d k → members_from (length_at d) d (braces_length u) 0 a n ≡ length_at d k
   unfolding length_from
-  group-length kd a n ek two ea en =
-      rw (ek, ea, en) (sym (rw (ne_eqb (kind_at d k) 0 (omega (arith, two)), ne_eqb (kind_at d k) 1 (omega (arith, two))) refl) ∙ length-right d k s)
+  group-length u a n eu two ea en =
+      rw (eu, ea, en) (sym (rw (ne_eqb (kind_at d k) 0 (omega (arith, two)), ne_eqb (kind_at d k) 1 (omega (arith, two))) refl) ∙ length-right d k s)
 
   pub group-asked : (a n : ℕ) → 2 ≤ kind_at d k → a ≡ a_at d k → n ≡ count_at d k → AskMembers d k a n
   group-asked a n two ea en = rw (ea, en) (group-asks d k s two)

@@ -213,20 +213,20 @@ module _ (d : List ℕ) (k : ℕ) (s : Sized (model_in d) d k) where
   pub array-done : {i : ℕ} {x y : Text} (a : ℕ) → kind_at d k ≡ 1 → a ≡ a_at d k → Puts i x y (type_text d a) → Puts (length (type_text d k)) x y (type_text d k)
   array-done a e ea w = puts_exact (puts_same w (ap (type_text d) ea ∙ sym (array-text d k s e)))
 
-  module _ (kd a n : ℕ) (ek : kd ≡ kind_at d k) (ea : a ≡ a_at d k) (en : n ≡ count_at d k) (two : 2 ≤ kind_at d k) where
-    group-whole : type_text d k ≡ group_text (eqb kd 3) ++ (members_text d 0 a n ++ bytes "} ")
-    group-whole = rw (ek, ea, en) (group-text d k s two)
+  module _ (u : Bool) (a n : ℕ) (eu : u ≡ eqb (kind_at d k) 3) (ea : a ≡ a_at d k) (en : n ≡ count_at d k) (two : 2 ≤ kind_at d k) where
+    group-whole : type_text d k ≡ group_text u ++ (members_text d 0 a n ++ bytes "} ")
+    group-whole = rw (eu, ea, en) (group-text d k s two)
 
     pub members-asked : AskMembers d k a n
     members-asked = rw (ea, en) (group-asks d k s two)
 
-    pub group-all : (start : ℕ) → start + length (type_text d k) ≤ 8192 → start + length (group_text (eqb kd 3)) + length (members_text d 0 a n) + 2 ≤ 8192
+    pub group-all : (start : ℕ) → start + length (type_text d k) ≤ 8192 → start + length (group_text u) + length (members_text d 0 a n) + 2 ≤ 8192
     group-all start h =
-        omega (arith, h, ap length group-whole, length-append (group_text (eqb kd 3)) (members_text d 0 a n ++ bytes "} "), length-append (members_text d 0 a n) (bytes "} "))
+        omega (arith, h, ap length group-whole, length-append (group_text u) (members_text d 0 a n ++ bytes "} "), length-append (members_text d 0 a n) (bytes "} "))
 
-    pub group-done : {i j l : ℕ} {x y z w : Text} → Puts i x y (group_text (eqb kd 3)) → Puts j y z (members_text d 0 a n) → Puts l z w (bytes "} ")
+    pub group-done : {i j l : ℕ} {x y z w : Text} → Puts i x y (group_text u) → Puts j y z (members_text d 0 a n) → Puts l z w (bytes "} ")
         → Puts (length (type_text d k)) x w (type_text d k)
-    group-done u v w = puts_exact (puts_same (puts_join u (puts_join v w)) (sym group-whole))
+    group-done f v w = puts_exact (puts_same (puts_join f (puts_join v w)) (sym group-whole))
 
 pub member-sized : {d : List ℕ} {k first count : ℕ} (i m : ℕ) → AskMembers d k first count → i < count → m ≡ member_at d (first + i) → (m < k) × Sized (model_in d) d m
 member-sized {d} {k} {first} {count} i m h l e =
@@ -238,6 +238,3 @@ name_text-length i = omega (arith, length-append (decimal i) (32 ∷ []))
 
 pub size-length : (n : ℕ) → length (size_text n) ≡ 5 + length (decimal n)
 size-length n = omega (arith, length-append (decimal n) (bytes " ] "))
-
-pub two-of : {k kind : ℕ} → k ≡ kind → (k ≡ 0 → ⊥) → (k ≡ 1 → ⊥) → 2 ≤ kind
-two-of e a b = omega (arith, e, a, b)

@@ -11,6 +11,8 @@ ghost use Rattle.declaring.specs.Lengths.{length_at, members_from, arguments_fro
 ghost use Rattle.writing.specs.Texts.{AskMembers};
 ghost use Rattle.writing.specs.Asks.{Lengths};
 
+use description::TypeRecord;
+
 const WORDS: [usize; 17] = [6, 5, 6, 4, 10, 9, 6, 7, 12, 11, 6, 7, 15, 16, 21, 7, 7];
 
 // An entry of the table.
@@ -83,18 +85,19 @@ fn length_of(d: &[u8], k: usize, table: &[u32; 64]) -> usize
     requires { Sized (model_in d.now) d.now k × Lengths d.now k table.now }
     ensures { result ≡ length_at d.now k }
 {
-    let kind = description::kind_at(d, k);
-    let a = description::a_at(d, k);
-    if kind == 0 {
-        return words_length(a);
+    match description::record_at(d, k) {
+        TypeRecord::Basic { code, .. } => words_length(code),
+        TypeRecord::Array { element, count } => {
+            let entry = entry_at(table, element);
+            let many = digits(count);
+            cap(entry + (5 + many))
+        }
+        TypeRecord::Group {
+            union,
+            first,
+            count,
+        } => members_length(d, k, first, count, union, table),
     }
-    let count = description::count_at(d, k);
-    if kind == 1 {
-        let element = entry_at(table, a);
-        let many = digits(count);
-        return cap(element + (5 + many));
-    }
-    members_length(d, k, a, count, kind == 3, table)
 }
 
 // The table, from number 0 upward.

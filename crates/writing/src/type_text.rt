@@ -8,6 +8,7 @@ ghost use Rattle.listing.specs.Characters.{bytes};
 ghost use Rattle.declaring.specs.Length.{words_length};
 ghost use Rattle.writing.specs.Texts.{words_text, type_text, sizes_text, members_text, group_text, AskMembers};
 
+use description::TypeRecord;
 use listing::Text;
 
 // The words of a basic type. By number: a code is a byte of the description, and `words_text` is by it.
@@ -62,9 +63,7 @@ fn put_sizes(d: &[u8], k: usize, text: &mut Text)
     requires { Sized (model_in d.now) d.now k × (text.old.at + length (sizes_text d.now k) ≤ 8192) }
     ensures { Puts (length (sizes_text d.now k)) text.old text.new (sizes_text d.now k) }
 {
-    if description::kind_at(d, k) == 1 {
-        let count = description::count_at(d, k);
-        let element = description::a_at(d, k);
+    if let TypeRecord::Array { element, count } = description::record_at(d, k) {
         put_size(text, count);
         put_sizes(d, element, text);
     }
@@ -82,26 +81,25 @@ fn put_group(text: &mut Text, union: bool)
     }
 }
 
-// Type k without its sizes. By number: a kind is a byte of the description, and `type_text` is by it.
+// Type k without its sizes.
 #[cycle(put_types)]
 pub fn put_type(d: &[u8], k: usize, text: &mut Text)
     requires { Sized (model_in d.now) d.now k × (text.old.at + length (type_text d.now k) ≤ 8192) }
     ensures { Puts (length (type_text d.now k)) text.old text.new (type_text d.now k) }
 {
-    let kind = description::kind_at(d, k);
-    let a = description::a_at(d, k);
-    if kind == 0 {
-        put_words(text, a);
-        return;
+    match description::record_at(d, k) {
+        TypeRecord::Basic { code, .. } => put_words(text, code),
+        TypeRecord::Array { element, .. } => put_type(d, element, text),
+        TypeRecord::Group {
+            union,
+            first,
+            count,
+        } => {
+            put_group(text, union);
+            put_members(d, k, first, count, text);
+            text.put(b"} ");
+        }
     }
-    if kind == 1 {
-        put_type(d, a, text);
-        return;
-    }
-    let count = description::count_at(d, k);
-    put_group(text, kind == 3);
-    put_members(d, k, a, count, text);
-    text.put(b"} ");
 }
 
 // `count` members of type k, from place `first` of the member list on.

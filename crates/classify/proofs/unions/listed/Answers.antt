@@ -9,30 +9,30 @@ use Rattle.classify.proofs.unions.listed.Goals as goal
 
 pub loop-i-init : goal.loop-i-init
 loop-i-init c =
-    let e : c.a_at-first.result + c.count_at.result - c.a_at-first.result ≡ c.count_at.result = omega arith in
-    rw e (listing_none c.args.d.now c.args.k c.a_at-first.result c.count_at.result c.requires.0 c.requires.1 c.a_at-first.ensures.0 c.count_at.ensures.0 c.count_at.ensures.1 (replicate 64 0) (length-replicate {A = ℕ} 64 0))
+    let e : c.args.first + c.args.count - c.args.first ≡ c.args.count = omega arith in
+    rw e (listing_none c.args.d.now c.args.k c.args.first c.args.count c.requires.0 c.requires.1 c.requires.3.second c.requires.3.count c.requires.3.few (replicate 64 0) (length-replicate {A = ℕ} 64 0))
 
 pub loop-i-preserved-then-seen-member : goal.loop-i-preserved-then-seen-member
 loop-i-preserved-then-seen-member c =
-    let e : c.a_at-first.result + c.count_at.result - (c.loop-i.i + 1) ≡ c.a_at-first.result + c.count_at.result - c.loop-i.i - 1 = omega arith in
-    rw e (listing-skip c.args.d.now c.args.k c.loop-i.i (c.a_at-first.result + c.count_at.result - c.loop-i.i) c.loop-i.members c.loop-i.count c.loop-i.seen c.loop-i.invariant (omega (arith, c.loop-i-test.true)) c.member_at-member.result c.member_at-member.ensures c.if-seen-member.true)
+    let e : c.args.first + c.args.count - (c.loop-i.i + 1) ≡ c.args.first + c.args.count - c.loop-i.i - 1 = omega arith in
+    rw e (listing-skip c.args.d.now c.args.k c.loop-i.i (c.args.first + c.args.count - c.loop-i.i) c.loop-i.members c.loop-i.different c.loop-i.seen c.loop-i.invariant (omega (arith, c.loop-i-test.true)) c.member_at-member.result c.member_at-member.ensures c.if-seen-member.true)
 
-pub bounds-members-count : goal.bounds-members-count
-bounds-members-count c =
-    let low = listing-low c.args.d.now c.args.k c.loop-i.i (c.a_at-first.result + c.count_at.result - c.loop-i.i) c.loop-i.members c.loop-i.count c.loop-i.seen c.loop-i.invariant (omega (arith, c.loop-i-test.true)) c.member_at-member.result c.member_at-member.ensures in
-    listing-room c.args.d.now c.args.k c.loop-i.i (c.a_at-first.result + c.count_at.result - c.loop-i.i) c.loop-i.members c.loop-i.count c.loop-i.seen c.loop-i.invariant (omega (arith, c.loop-i-test.true)) c.member_at-member.result c.member_at-member.ensures c.if-seen-member.false (omega (arith, low, c.requires.2))
+pub bounds-members-different : goal.bounds-members-different
+bounds-members-different c =
+    let low = listing-low c.args.d.now c.args.k c.loop-i.i (c.args.first + c.args.count - c.loop-i.i) c.loop-i.members c.loop-i.different c.loop-i.seen c.loop-i.invariant (omega (arith, c.loop-i-test.true)) c.member_at-member.result c.member_at-member.ensures in
+    listing-room c.args.d.now c.args.k c.loop-i.i (c.args.first + c.args.count - c.loop-i.i) c.loop-i.members c.loop-i.different c.loop-i.seen c.loop-i.invariant (omega (arith, c.loop-i-test.true)) c.member_at-member.result c.member_at-member.ensures c.if-seen-member.false (omega (arith, low, c.requires.2))
 
-pub overflow_add-count : goal.overflow_add-count
-overflow_add-count c =
-    let low = listing-low c.args.d.now c.args.k c.loop-i.i (c.a_at-first.result + c.count_at.result - c.loop-i.i) c.loop-i.members c.loop-i.count c.loop-i.seen c.loop-i.invariant (omega (arith, c.loop-i-test.true)) c.member_at-member.result c.member_at-member.ensures in
-    omega (arith, listing-room c.args.d.now c.args.k c.loop-i.i (c.a_at-first.result + c.count_at.result - c.loop-i.i) c.loop-i.members c.loop-i.count c.loop-i.seen c.loop-i.invariant (omega (arith, c.loop-i-test.true)) c.member_at-member.result c.member_at-member.ensures c.if-seen-member.false (omega (arith, low, c.requires.2)))
+pub overflow_add-different : goal.overflow_add-different
+overflow_add-different c =
+    let low = listing-low c.args.d.now c.args.k c.loop-i.i (c.args.first + c.args.count - c.loop-i.i) c.loop-i.members c.loop-i.different c.loop-i.seen c.loop-i.invariant (omega (arith, c.loop-i-test.true)) c.member_at-member.result c.member_at-member.ensures in
+    omega (arith, listing-room c.args.d.now c.args.k c.loop-i.i (c.args.first + c.args.count - c.loop-i.i) c.loop-i.members c.loop-i.different c.loop-i.seen c.loop-i.invariant (omega (arith, c.loop-i-test.true)) c.member_at-member.result c.member_at-member.ensures c.if-seen-member.false (omega (arith, low, c.requires.2)))
 
 pub loop-i-preserved : goal.loop-i-preserved
 loop-i-preserved c =
-    let e : c.a_at-first.result + c.count_at.result - (c.loop-i.i + 1) ≡ c.a_at-first.result + c.count_at.result - c.loop-i.i - 1 = omega arith in
-    let low = listing-low c.args.d.now c.args.k c.loop-i.i (c.a_at-first.result + c.count_at.result - c.loop-i.i) c.loop-i.members c.loop-i.count c.loop-i.seen c.loop-i.invariant (omega (arith, c.loop-i-test.true)) c.member_at-member.result c.member_at-member.ensures in
-    rw e (listing-more c.args.d.now c.args.k c.loop-i.i (c.a_at-first.result + c.count_at.result - c.loop-i.i) c.loop-i.members c.loop-i.count c.loop-i.seen c.loop-i.invariant (omega (arith, c.loop-i-test.true)) c.member_at-member.result c.member_at-member.ensures c.if-seen-member.false (omega (arith, low, c.requires.2)))
+    let e : c.args.first + c.args.count - (c.loop-i.i + 1) ≡ c.args.first + c.args.count - c.loop-i.i - 1 = omega arith in
+    let low = listing-low c.args.d.now c.args.k c.loop-i.i (c.args.first + c.args.count - c.loop-i.i) c.loop-i.members c.loop-i.different c.loop-i.seen c.loop-i.invariant (omega (arith, c.loop-i-test.true)) c.member_at-member.result c.member_at-member.ensures in
+    rw e (listing-more c.args.d.now c.args.k c.loop-i.i (c.args.first + c.args.count - c.loop-i.i) c.loop-i.members c.loop-i.different c.loop-i.seen c.loop-i.invariant (omega (arith, c.loop-i-test.true)) c.member_at-member.result c.member_at-member.ensures c.if-seen-member.false (omega (arith, low, c.requires.2)))
 
 pub returns : goal.returns
 returns c =
-    listing-all c.args.d.now c.args.k c.a_at-first.result c.count_at.result c.requires.0 c.requires.1 c.a_at-first.ensures.0 c.count_at.ensures.0 c.count_at.ensures.1 c.loop-i.i (c.a_at-first.result + c.count_at.result - c.loop-i.i) c.loop-i.members c.loop-i.count c.loop-i.seen c.loop-i.invariant (omega (arith, c.loop-i-test.false))
+    listing-all c.args.d.now c.args.k c.args.first c.args.count c.requires.0 c.requires.1 c.requires.3.second c.requires.3.count c.requires.3.few c.loop-i.i (c.args.first + c.args.count - c.loop-i.i) c.loop-i.members c.loop-i.different c.loop-i.seen c.loop-i.invariant (omega (arith, c.loop-i-test.false))

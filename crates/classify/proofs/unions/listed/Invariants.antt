@@ -5,4 +5,4 @@ use Rattle.classify.proofs.Skips.{Listing}
 use Rattle.classify.proofs.unions.listed.Given as goal
 
 abbrev pub invariant-loop-i : goal.invariant-loop-i
-invariant-loop-i l = Listing l.d l.k l.i (l.i-end - l.i) l.members l.count l.seen
+invariant-loop-i l = Listing l.d l.k l.i (l.i-end - l.i) l.members l.different l.seen

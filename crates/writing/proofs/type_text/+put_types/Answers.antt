@@ -1,9 +1,8 @@
 -- `put_type` and `put_members` meet their contracts: the words of a basic type, those of an array's elements, or the members in braces. Assumes nothing.
 use native.Mathlib.Omega.{arith}
-use mathlib.Core.Path.{sym, ◌∙◌}
 use Rattle.types.proofs.Trees.{sized-below}
 use Rattle.listing.proofs.Puts.{puts_behind}
-use Rattle.writing.proofs.Texts.{going_first, going_next, going_end, member-room, member-sized, name_text-length, two-of, element-below, basic-room, basic-done, array-room, array-done, members-asked, group-all, group-done}
+use Rattle.writing.proofs.Texts.{going_first, going_next, going_end, member-room, member-sized, name_text-length, element-below, basic-room, basic-done, array-room, array-done, members-asked, group-all, group-done}
 use Rattle.writing.proofs.type_text.+put_types.Goals as goal
 
 pub put_members-loop-i-init : goal.put_members-loop-i-init
@@ -42,46 +41,47 @@ pub put_members-returns : goal.put_members-returns
 put_members-returns t c =
     going_end c.loop-i.invariant c.loop-i-test.false
 
-pub put_type-kind_at-kind-requires : goal.put_type-kind_at-kind-requires
-put_type-kind_at-kind-requires t c =
-    (c.requires.0.whole, c.requires.0.known)
-
-pub put_type-a_at-a-requires : goal.put_type-a_at-a-requires
-put_type-a_at-a-requires t c =
+pub put_type-record_at-requires : goal.put_type-record_at-requires
+put_type-record_at-requires t c =
     (c.requires.0.whole, c.requires.0.known)
 
 pub put_type-put_words-requires : goal.put_type-put_words-requires
 put_type-put_words-requires t c =
-    basic-room c.args.d.now c.args.k c.requires.0 c.a_at-a.result c.args.text.now.at (sym c.kind_at-kind.ensures ∙ c.if-kind-eq0.true) c.a_at-a.ensures.0 c.requires.1
+    let r = c.in-Basic.ensures.1 in
+    basic-room c.args.d.now c.args.k c.requires.0 c.in-Basic.code c.args.text.now.at r.0 r.1.second c.requires.1
 
-pub put_type-returns-then-kind-eq0 : goal.put_type-returns-then-kind-eq0
-put_type-returns-then-kind-eq0 t c =
-    basic-done c.args.d.now c.args.k c.requires.0 c.a_at-a.result (sym c.kind_at-kind.ensures ∙ c.if-kind-eq0.true) c.a_at-a.ensures.0 c.put_words.ensures
+pub put_type-returns-in-Basic : goal.put_type-returns-in-Basic
+put_type-returns-in-Basic t c =
+    let r = c.in-Basic.ensures.1 in
+    basic-done c.args.d.now c.args.k c.requires.0 c.in-Basic.code r.0 r.1.second c.put_words.ensures
 
 pub put_type-put_type-requires : goal.put_type-put_type-requires
 put_type-put_type-requires t c =
-    let low = element-below c.args.d.now c.args.k c.requires.0 c.a_at-a.result (sym c.kind_at-kind.ensures ∙ c.if-kind-eq1.true) c.a_at-a.ensures.0 in (omega (arith, c.decreases, low), (sized-below c.args.d.now c.args.k c.requires.0 c.a_at-a.result low, array-room c.args.d.now c.args.k c.requires.0 c.a_at-a.result c.args.text.now.at (sym c.kind_at-kind.ensures ∙ c.if-kind-eq1.true) c.a_at-a.ensures.0 c.requires.1))
+    let r = c.in-Array.ensures.1 in
+    let low = element-below c.args.d.now c.args.k c.requires.0 c.in-Array.element r.0 r.1.second in
+    (omega (arith, c.decreases, low), (sized-below c.args.d.now c.args.k c.requires.0 c.in-Array.element low, array-room c.args.d.now c.args.k c.requires.0 c.in-Array.element c.args.text.now.at r.0 r.1.second c.requires.1))
 
-pub put_type-returns-then-kind-eq1 : goal.put_type-returns-then-kind-eq1
-put_type-returns-then-kind-eq1 t c =
-    array-done c.args.d.now c.args.k c.requires.0 c.a_at-a.result (sym c.kind_at-kind.ensures ∙ c.if-kind-eq1.true) c.a_at-a.ensures.0 c.put_type.ensures
-
-pub put_type-count_at-count-requires : goal.put_type-count_at-count-requires
-put_type-count_at-count-requires t c =
-    (c.requires.0.whole, c.requires.0.known)
+pub put_type-returns-in-Array : goal.put_type-returns-in-Array
+put_type-returns-in-Array t c =
+    let r = c.in-Array.ensures.1 in
+    array-done c.args.d.now c.args.k c.requires.0 c.in-Array.element r.0 r.1.second c.put_type.ensures
 
 pub put_type-put_group-requires : goal.put_type-put_group-requires
 put_type-put_group-requires t c =
-    omega (arith, group-all c.args.d.now c.args.k c.requires.0 c.kind_at-kind.result c.a_at-a.result c.count_at-count.result c.kind_at-kind.ensures c.a_at-a.ensures.0 c.count_at-count.ensures.0 (two-of c.kind_at-kind.ensures c.if-kind-eq0.false c.if-kind-eq1.false) c.args.text.now.at c.requires.1)
+    let r = c.in-Group.ensures.1 in
+    omega (arith, group-all c.args.d.now c.args.k c.requires.0 c.in-Group.union c.in-Group.first c.in-Group.count r.1 r.2.second r.2.count r.0 c.args.text.now.at c.requires.1)
 
 pub put_type-put_members-requires : goal.put_type-put_members-requires
 put_type-put_members-requires t c =
-    (omega (arith, c.decreases), (members-asked c.args.d.now c.args.k c.requires.0 c.kind_at-kind.result c.a_at-a.result c.count_at-count.result c.kind_at-kind.ensures c.a_at-a.ensures.0 c.count_at-count.ensures.0 (two-of c.kind_at-kind.ensures c.if-kind-eq0.false c.if-kind-eq1.false), omega (arith, puts_behind c.put_group.ensures, group-all c.args.d.now c.args.k c.requires.0 c.kind_at-kind.result c.a_at-a.result c.count_at-count.result c.kind_at-kind.ensures c.a_at-a.ensures.0 c.count_at-count.ensures.0 (two-of c.kind_at-kind.ensures c.if-kind-eq0.false c.if-kind-eq1.false) c.args.text.now.at c.requires.1)))
+    let r = c.in-Group.ensures.1 in
+    (omega (arith, c.decreases), (members-asked c.args.d.now c.args.k c.requires.0 c.in-Group.union c.in-Group.first c.in-Group.count r.1 r.2.second r.2.count r.0, omega (arith, puts_behind c.put_group.ensures, group-all c.args.d.now c.args.k c.requires.0 c.in-Group.union c.in-Group.first c.in-Group.count r.1 r.2.second r.2.count r.0 c.args.text.now.at c.requires.1)))
 
 pub put_type-put-requires : goal.put_type-put-requires
 put_type-put-requires t c =
-    omega (arith, puts_behind c.put_group.ensures, puts_behind c.put_members.ensures, group-all c.args.d.now c.args.k c.requires.0 c.kind_at-kind.result c.a_at-a.result c.count_at-count.result c.kind_at-kind.ensures c.a_at-a.ensures.0 c.count_at-count.ensures.0 (two-of c.kind_at-kind.ensures c.if-kind-eq0.false c.if-kind-eq1.false) c.args.text.now.at c.requires.1)
+    let r = c.in-Group.ensures.1 in
+    omega (arith, puts_behind c.put_group.ensures, puts_behind c.put_members.ensures, group-all c.args.d.now c.args.k c.requires.0 c.in-Group.union c.in-Group.first c.in-Group.count r.1 r.2.second r.2.count r.0 c.args.text.now.at c.requires.1)
 
-pub put_type-returns : goal.put_type-returns
-put_type-returns t c =
-    group-done c.args.d.now c.args.k c.requires.0 c.kind_at-kind.result c.a_at-a.result c.count_at-count.result c.kind_at-kind.ensures c.a_at-a.ensures.0 c.count_at-count.ensures.0 (two-of c.kind_at-kind.ensures c.if-kind-eq0.false c.if-kind-eq1.false) c.put_group.ensures c.put_members.ensures c.put.ensures
+pub put_type-returns-in-Group : goal.put_type-returns-in-Group
+put_type-returns-in-Group t c =
+    let r = c.in-Group.ensures.1 in
+    group-done c.args.d.now c.args.k c.requires.0 c.in-Group.union c.in-Group.first c.in-Group.count r.1 r.2.second r.2.count r.0 c.put_group.ensures c.put_members.ensures c.put.ensures

@@ -2,11 +2,10 @@
 -- Assumes nothing.
 use mathlib.Core.Bool.{Bool}
 use mathlib.Core.List.{List}
-use mathlib.Core.Path.{◌≡◌, sym, ap, ◌∙◌}
+use mathlib.Core.Path.{◌≡◌, ap, ◌∙◌}
 use Prim.Native.Nat.{ℕ, max, ◌+◌, ◌-◌, ◌≤◌}
 use native.Mathlib.Omega.{arith}
 use Rattle.std.proofs.lemmas.Grind.{common_steps}
-use lib.Dec.{eqb}
 use lib.ListN.{get_or}
 use Rattle.classify.specs.Asks.{AskMembers}
 use Rattle.classify.specs.Classify.{elements_at, classes_at, members_at}
@@ -85,30 +84,37 @@ of_members-returns t c =
 
 pub worked_out-basic_at-requires : goal.worked_out-basic_at-requires
 worked_out-basic_at-requires t c =
-    (basic-code c.args.self.d.now c.args.k c.args.at.0 c.a_at-a.result c.requires.0 c.a_at-a.ensures.0 (sym c.kind_at-kind.ensures ∙ c.if-kind-eq0.true), omega (arith, c.requires.0.fits))
+    let r = c.in-Basic.ensures.1 in
+    (basic-code c.args.self.d.now c.args.k c.args.at.0 c.in-Basic.code c.requires.0 r.1.second r.0, omega (arith, c.requires.0.fits))
 
-pub worked_out-returns-then-kind-eq0 : goal.worked_out-returns-then-kind-eq0
-worked_out-returns-then-kind-eq0 t c =
-    c.from.ensures.1 ∙ basic-done c.args.self.d.now c.args.k c.args.at.0 c.a_at-a.result c.requires.0.sized c.a_at-a.ensures.0 (sym c.kind_at-kind.ensures ∙ c.if-kind-eq0.true) c.basic_at.result c.basic_at.ensures
+pub worked_out-returns-in-Basic : goal.worked_out-returns-in-Basic
+worked_out-returns-in-Basic t c =
+    let r = c.in-Basic.ensures.1 in
+    c.from.ensures.1 ∙ basic-done c.args.self.d.now c.args.k c.args.at.0 c.in-Basic.code c.requires.0.sized r.1.second r.0 c.basic_at.result c.basic_at.ensures
 
 pub worked_out-extent_in-requires : goal.worked_out-extent_in-requires
 worked_out-extent_in-requires t c =
-    known-low c.args.self.d.now c.args.self.table.now c.args.self.ready.sizes c.a_at-a.result (sized-below c.args.self.d.now c.args.k c.requires.0.sized c.a_at-a.result (element-low c.args.self.d.now c.args.k c.a_at-a.result c.requires.0.sized c.a_at-a.ensures.0 (sym c.kind_at-kind.ensures ∙ c.if-kind-eq1.true)))
+    let r = c.in-Array.ensures.1 in
+    known-low c.args.self.d.now c.args.self.table.now c.args.self.ready.sizes c.in-Array.element (sized-below c.args.self.d.now c.args.k c.requires.0.sized c.in-Array.element (element-low c.args.self.d.now c.args.k c.in-Array.element c.requires.0.sized r.1.second r.0))
 
 pub worked_out-of_elements-requires : goal.worked_out-of_elements-requires
 worked_out-of_elements-requires t c =
-    let low = element-low c.args.self.d.now c.args.k c.a_at-a.result c.requires.0.sized c.a_at-a.ensures.0 (sym c.kind_at-kind.ensures ∙ c.if-kind-eq1.true) in
-    (omega (arith, c.decreases, low), (array-ask c.args.self.d.now c.args.k c.args.at.0 c.a_at-a.result c.requires.0 c.a_at-a.ensures.0 c.count_at-count.result c.count_at-count.ensures.0 (sym c.kind_at-kind.ensures ∙ c.if-kind-eq1.true) c.extent_in.result (known-extent c.args.self.d.now c.args.self.table.now c.args.self.ready.sizes c.a_at-a.result (sized-below c.args.self.d.now c.args.k c.requires.0.sized c.a_at-a.result low) c.extent_in.result c.extent_in.ensures), omega (arith, low, c.requires.1)))
+    let r = c.in-Array.ensures.1 in
+    let low = element-low c.args.self.d.now c.args.k c.in-Array.element c.requires.0.sized r.1.second r.0 in
+    (omega (arith, c.decreases, low), (array-ask c.args.self.d.now c.args.k c.args.at.0 c.in-Array.element c.requires.0 r.1.second c.in-Array.count r.1.count r.0 c.extent_in.result (known-extent c.args.self.d.now c.args.self.table.now c.args.self.ready.sizes c.in-Array.element (sized-below c.args.self.d.now c.args.k c.requires.0.sized c.in-Array.element low) c.extent_in.result c.extent_in.ensures), omega (arith, low, c.requires.1)))
 
-pub worked_out-returns-then-kind-eq1 : goal.worked_out-returns-then-kind-eq1
-worked_out-returns-then-kind-eq1 t c =
-    let low = element-low c.args.self.d.now c.args.k c.a_at-a.result c.requires.0.sized c.a_at-a.ensures.0 (sym c.kind_at-kind.ensures ∙ c.if-kind-eq1.true) in
-    array-done c.args.self.d.now c.args.k c.args.at.0 c.a_at-a.result c.requires.0 c.a_at-a.ensures.0 c.count_at-count.result c.count_at-count.ensures.0 (sym c.kind_at-kind.ensures ∙ c.if-kind-eq1.true) c.extent_in.result (known-extent c.args.self.d.now c.args.self.table.now c.args.self.ready.sizes c.a_at-a.result (sized-below c.args.self.d.now c.args.k c.requires.0.sized c.a_at-a.result low) c.extent_in.result c.extent_in.ensures) (pair_in c.of_elements.result.0) (pair_in c.cleaned.result.0) c.of_elements.ensures c.cleaned.ensures
+pub worked_out-returns-in-Array : goal.worked_out-returns-in-Array
+worked_out-returns-in-Array t c =
+    let r = c.in-Array.ensures.1 in
+    let low = element-low c.args.self.d.now c.args.k c.in-Array.element c.requires.0.sized r.1.second r.0 in
+    array-done c.args.self.d.now c.args.k c.args.at.0 c.in-Array.element c.requires.0 r.1.second c.in-Array.count r.1.count r.0 c.extent_in.result (known-extent c.args.self.d.now c.args.self.table.now c.args.self.ready.sizes c.in-Array.element (sized-below c.args.self.d.now c.args.k c.requires.0.sized c.in-Array.element low) c.extent_in.result c.extent_in.ensures) (pair_in c.of_elements.result.0) (pair_in c.cleaned.result.0) c.of_elements.ensures c.cleaned.ensures
 
 pub worked_out-of_members-requires : goal.worked_out-of_members-requires
 worked_out-of_members-requires t c =
-    (omega (arith, c.decreases), (group-ask c.args.self.d.now c.args.k c.args.at.0 c.a_at-a.result c.requires.0 c.a_at-a.ensures.0 c.count_at-count.result c.count_at-count.ensures.0 (omega (arith, c.kind_at-kind.ensures, c.if-kind-eq0.false, c.if-kind-eq1.false)) c.count_at-count.ensures.1 _ (ap (λ (z : ℕ). eqb z 3) c.kind_at-kind.ensures), c.requires.1))
+    let r = c.in-Group.ensures.1 in
+    (omega (arith, c.decreases), (group-ask c.args.self.d.now c.args.k c.args.at.0 c.in-Group.first c.requires.0 r.2.second c.in-Group.count r.2.count r.0 r.2.few c.in-Group.union r.1, c.requires.1))
 
-pub worked_out-returns : goal.worked_out-returns
-worked_out-returns t c =
-    group-done c.args.self.d.now c.args.k c.args.at.0 c.a_at-a.result c.requires.0 c.a_at-a.ensures.0 c.count_at-count.result c.count_at-count.ensures.0 (omega (arith, c.kind_at-kind.ensures, c.if-kind-eq0.false, c.if-kind-eq1.false)) c.count_at-count.ensures.1 _ (ap (λ (z : ℕ). eqb z 3) c.kind_at-kind.ensures) (pair_in c.of_members.result.0) (pair_in c.cleaned-2.result.0) c.of_members.ensures c.cleaned-2.ensures
+pub worked_out-returns-in-Group : goal.worked_out-returns-in-Group
+worked_out-returns-in-Group t c =
+    let r = c.in-Group.ensures.1 in
+    group-done c.args.self.d.now c.args.k c.args.at.0 c.in-Group.first c.requires.0 r.2.second c.in-Group.count r.2.count r.0 r.2.few c.in-Group.union r.1 (pair_in c.of_members.result.0) (pair_in c.cleaned-in-Group.result.0) c.of_members.ensures c.cleaned-in-Group.ensures
