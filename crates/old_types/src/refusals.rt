@@ -23,7 +23,6 @@ fn judge_kept(d: &[u8]) -> Result<(), Refusal>
 }
 
 // The number alone, or 0.
-// A number: docs/CONTRACTS.md names the call so.
 pub fn kept_refusal(d: &[u8]) -> u8
     ensures { result ≡ kept_refusal d.now }
 {
