@@ -8,6 +8,7 @@ ghost use Rattle.classify.specs.Table.{Listed};
 use description::TypeRecord;
 
 // In order of their first occurrence, `count` of them.
+// A count beside an array: fixed memory, and 64 types are the most that a description has.
 #[derive(Clone, Copy)]
 pub struct Different {
     pub members: [u8; 64],

@@ -1,5 +1,6 @@
 // All the rest at once (document 02, request 2026-05): one call takes the expected type numbers and writes all remaining arguments, packed, to
 // one buffer. The description is laid out once, every type and every length is checked before a byte is written, and the record goes to the end.
+// The calls take station, seat, walk, images and types one by one, as cb_finish_walk lends them and docs/CONTRACTS.md names them.
 #![tactic(auto)]
 
 ghost use Rattle.std.specs.Prelude.{◌≡◌, [], ◌+◌, ◌-◌, ◌≤◌, length};
@@ -21,6 +22,7 @@ use walk::Walk;
 // ---- the checks
 
 // 20: whether a type number asked differs from its argument's.
+// A loop and no `any`: its closure would need a contract of its own, that `i` is in range, and be no plainer.
 fn other_types(known: Described, position: usize, asked: &[u8]) -> bool
     requires { position + length asked.now ≡ arguments_in known.bytes.now }
     ensures { result ≡ differs kcb known.entry.bytes.now position asked.now }

@@ -89,6 +89,7 @@ fn broken_record(d: &[u8], k: usize) -> bool
         TypeRecord::Basic { code, count } => broken_basic(code, count),
         TypeRecord::Array { element, count } => broken_array(k, element, count),
         TypeRecord::Group { first, count, .. } => {
+            // By number: any kind above 3 reads as a group too.
             3 < description::kind_at(d, k) || broken_run(d, k, first, count)
         }
     }

@@ -15,6 +15,7 @@ pub struct StackNeed {
 
 impl<'a> Described<'a> {
     // The first argument that goes to the stack, if any: no stack is used before it, and some after it, since no type is empty.
+    // A loop and no `find`: what is laid out goes on from argument to argument, and a closure that changes it is no plainer.
     fn first_stacked(self) -> Option<usize>
         ensures { result ≡ first_found self.entry.bytes.now }
     {

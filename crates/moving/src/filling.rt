@@ -24,6 +24,7 @@ fn blank_images(used: bool, address: u64, registers: &mut [u8], upper: &mut [u8]
 }
 
 // ---- all arguments
+// The loop stands twice, in place_all and in gather_all: one reads the images, and the other writes them. They are three parameters, as `images` has them.
 
 // Places every argument into the images, over what stands there. Each record is worked out here, and says where the value begins (request 2026-07).
 fn place_all(

@@ -30,6 +30,7 @@ fn address_kind(d: &[u8], used: bool) -> usize
 }
 
 // 1 where a _Bool is returned, else 0.
+// A number, since it is one of the plan's (plans/specs/Plans.antt).
 fn returned_bool(d: &[u8]) -> usize
     requires { verdict d.now ≡ 0 }
     ensures { result ≡ (head_of d.now).bool }

@@ -1,4 +1,5 @@
 // Reading a text byte by byte: after each of them, whether some text fits behind it.
+// Text and the token's bounds go side by side here, since the byte behind the token is looked at too.
 ghost use Rattle.std.specs.Prelude.{◌≡◌, ◌&&◌, [], ◌+◌, ◌-◌, ◌*◌, ◌≤◌, ◌<◌, length, get_or};
 ghost use Rattle.std.proofs.Math.Seq.{slice};
 ghost use Rattle.grammar.specs.Grammar.{is_number, is_name};

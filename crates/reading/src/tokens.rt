@@ -1,4 +1,5 @@
 // The bytes of a token: which kind it is of, which fixed token it begins, and whether a byte joins it.
+// Where the byte behind a token is looked at too, the text and the token's bounds are parameters; elsewhere the token is a slice.
 ghost use Rattle.std.specs.Prelude.{◌≡◌, ◌||◌, [], ◌+◌, ◌≤◌, ◌<◌, length, get_or};
 ghost use Rattle.std.proofs.Math.Seq.{slice};
 ghost use Rattle.grammar.specs.Tokens.{class_of, is_letter, is_digit, joins};

@@ -42,6 +42,7 @@ fn read_some(rt: &impl Input, buf: &mut [u8]) -> usize
 }
 
 // Reads until buf is full, the input ends or a read fails, and answers how many bytes it put at the start of buf.
+// A `while`, since how far each read goes is what it answers.
 pub fn read_full(rt: &impl Input, buf: &mut [u8]) -> usize
     ensures { result ≤ length buf.new }
 {

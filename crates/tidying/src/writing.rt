@@ -127,6 +127,7 @@ impl<'a> Tidied<'a> {
         let kind = description::kind_at(d, k);
         let count = description::count_at(d, k);
         let second = self.second_byte(k, start);
+        // The byte of the record itself.
         [kind as u8, second, (count % 256) as u8, (count / 256) as u8]
     }
 
@@ -173,6 +174,7 @@ impl<'a> Tidied<'a> {
     }
 
     // The numbers of the arguments.
+    // The loop of write_run, over another part of the description: with a closure for the place it would be no shorter.
     fn write_arguments(&self, arguments: &mut [u8])
         requires { length arguments.old ≡ arguments_in self.now.numbering.types.bytes.now }
         ensures { (length arguments.new ≡ length arguments.old)

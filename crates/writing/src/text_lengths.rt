@@ -15,6 +15,7 @@ use description::TypeRecord;
 
 const WORDS: [usize; 17] = [6, 5, 6, 4, 10, 9, 6, 7, 12, 11, 6, 7, 15, 16, 21, 7, 7];
 
+// A table of fixed memory: 64 types at most, each of at most 4,097 bytes, filled once, number after number.
 // An entry of the table.
 fn entry_at(table: &[u32; 64], k: usize) -> usize
     requires { k < 64 }
