@@ -5,6 +5,9 @@ use mir.Syntax.{Dict}
 use Rattle.std.specs.declared.clone.Clone.{Ghosts}
 use Rattle.tightness.specs.Tight.{Meets, MeetsCopy, Tight}
 use Rattle.tightness.proofs.Laws.{equal, result}
+use Rattle.form.specs.contracts.refusal_at
+use Rattle.form.proofs.refusal_at.Met as refusal_at_met
+use Rattle.form.proofs.refusal_at.Symbol as refusal_at_symbol
 use Rattle.form.specs.contracts.refusal_of
 use Rattle.form.proofs.refusal_of.Met as refusal_of_met
 use Rattle.form.proofs.refusal_of.Symbol as refusal_of_symbol
@@ -29,6 +32,12 @@ use Rattle.form.proofs.judge.Symbol as judge_symbol
 use Rattle.form.specs.contracts.read_form
 use Rattle.form.proofs.read_form.Met as read_form_met
 use Rattle.form.proofs.read_form.Symbol as read_form_symbol
+
+pub meets_form_refusal_at : Meets refusal_at.ended (λ M 𝓤 𝓛. refusal_at.clauses 𝓛) refusal_at_symbol.name refusal_at_symbol.code
+meets_form_refusal_at M = refusal_at_met.met
+
+pub tight_form_refusal_at : Tight refusal_at.ended (λ M 𝓤 𝓛. refusal_at.clauses 𝓛)
+tight_form_refusal_at c r q w v a b = (equal (result refusal_at.ended c) a.ensured b.ensured, refl)
 
 pub meets_form_refusal_of : Meets refusal_of.ended (λ M 𝓤 𝓛. refusal_of.clauses 𝓛) refusal_of_symbol.name refusal_of_symbol.code
 meets_form_refusal_of M = refusal_of_met.met
