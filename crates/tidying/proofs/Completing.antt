@@ -1,6 +1,6 @@
 -- What the functions that number types cite, over plain values. Assumes nothing.
 use mathlib.Core.Path.{◌≡◌, refl, sym, ap, ◌∙◌}
-use mathlib.Core.Bool.{Bool, true, false, cond, beq, ◌&&◌, true≢false}
+use mathlib.Core.Bool.{Bool, true, false, cond, ◌&&◌, true≢false}
 use mathlib.Core.List.{List, [], ◌∷◌}
 use mathlib.Core.Logic.{◌⊎◌, inl, inr}
 use Prim.Native.Nat.{ℕ, zero, suc, ◌+◌, ◌-◌, ◌≤◌, ◌<◌}
@@ -11,8 +11,7 @@ use borrow.Author.Tests.{eq-eqb, ne_eqb, eqb-true, eqb-false, leb-true}
 use lib.Dec.{eqb, leb}
 use lib.ListN.{length, get_or, set, length-append, length-set}
 use lib.Seq.{get_or-set_same, get_or-set_other}
-use Rattle.description.specs.Description.{types_in, argument_at, kind_at, a_at, count_at, member_at, Whole, model_in, Reads}
-use Rattle.description.specs.declared.TypeRecord.TheVariants.{Basic, Array, Group}
+use Rattle.description.specs.Description.{types_in, argument_at, kind_at, a_at, count_at, member_at, Whole, model_in}
 use Rattle.form.specs.Search.{first_from}
 use Rattle.form.proofs.Search.{first_holds, first-least}
 use Rattle.form.specs.Conditions.{broken_record, broken_run}
@@ -148,18 +147,6 @@ unfolding same_ty
 both-groups true ts ss = refl
 both-groups false ts ss = refl
 
-beq-true : (u v : Bool) → beq u v ≡ true → u ≡ v
-beq-true true true e = refl
-beq-true true false e = sym e
-beq-true false true e = e
-beq-true false false e = refl
-
-beq-false : (u v : Bool) → beq u v ≡ false → u ≡ v → ⊥
-beq-false true true h e = true≢false h
-beq-false true false h e = true≢false e
-beq-false false true h e = true≢false (sym e)
-beq-false false false h e = true≢false h
-
 -- what a record says of its tree
 module _ (d : List ℕ) (k : ℕ) (z : Sized (model_in d) d k) where
   pub kind-top : kind_at d k ≤ 3
@@ -274,61 +261,6 @@ module _ (d new : List ℕ) (j k : ℕ) (ask : AskSame d new j k) where
           pub same-groups : same_tys (tys_from (ty_at d) d (a_at d j) (count_at d j)) (tys_from (ty_at d) d (a_at d k) (count_at d j)) ≡ same_ty (ty_at d j) (ty_at d k)
           same-groups =
               rw (at-group d j sized-j two, at-group d k sized-k two_k, kinds, counts) (sym (both-groups (eqb (kind_at d k) 3) _ _))
-
-  -- by the records of both
-  pub same-codes : (a m b n : ℕ) → Reads d j (Basic a m) → Reads d k (Basic b n) → eqb a b ≡ same_ty (ty_at d j) (ty_at d k)
-  same-codes a m b n r s = rw (r.1.second, s.1.second) (same-basic (r.0 ∙ sym s.0) r.0)
-
-  module _ (a m b n : ℕ) (r : Reads d j (Array a m)) (s : Reads d k (Array b n)) where
-    arrays : kind_at d j ≡ kind_at d k
-    arrays = r.0 ∙ sym s.0
-
-    none-basic : kind_at d j ≡ 0 → ⊥
-    none-basic e = omega (arith, r.0)
-
-    counted : m ≡ n → count_at d j ≡ count_at d k
-    counted e = sym r.1.count ∙ e ∙ s.1.count
-
-    pub elements-other : (m ≡ n → ⊥) → eqb m n ≡ same_ty (ty_at d j) (ty_at d k)
-    elements-other h = rw (ne_eqb m n h) (sym (same-counts arrays none-basic (λ e. h (r.1.count ∙ e ∙ sym s.1.count))))
-
-    pub elements-low : m ≡ n → (a < 64) × (b < 64)
-    elements-low e = rw (r.1.second, s.1.second) (same_low arrays none-basic (counted e) r.0)
-
-    pub elements-same : m ≡ n → eqb (get_or new a 0) (get_or new b 0) ≡ same_ty (ty_at d j) (ty_at d k)
-    elements-same e = rw (r.1.second, s.1.second) (same-array arrays none-basic (counted e) r.0)
-
-  module _ (u v : Bool) (a m b n : ℕ) (r : Reads d j (Group u a m)) (s : Reads d k (Group v b n)) where
-    alike : beq u v ≡ true → kind_at d j ≡ kind_at d k
-    alike h = by (eqb (kind_at d j) 3) refl
-      where
-        e : u ≡ v
-        e = beq-true u v h
-
-        by : (x : Bool) → eqb (kind_at d j) 3 ≡ x → kind_at d j ≡ kind_at d k
-        by true q = eqb-true (kind_at d j) 3 q ∙ sym (eqb-true (kind_at d k) 3 (sym s.1 ∙ sym e ∙ r.1 ∙ q))
-        by false q =
-            let x = eqb-false (kind_at d j) 3 q in
-            let y = eqb-false (kind_at d k) 3 (sym s.1 ∙ sym e ∙ r.1 ∙ q) in
-            omega (arith, x, y, r.0, s.0, kind-top d j sized-j, kind-top d k sized-k)
-
-    no-basic : kind_at d j ≡ 0 → ⊥
-    no-basic e = omega (arith, r.0)
-
-    as-many : m ≡ n → count_at d j ≡ count_at d k
-    as-many e = sym r.2.count ∙ e ∙ s.2.count
-
-    pub groups-apart : beq u v ≡ false → same_ty (ty_at d j) (ty_at d k) ≡ false
-    groups-apart h = same-kinds (λ e. beq-false u v h (r.1 ∙ ap (λ (x : ℕ). eqb x 3) e ∙ sym s.1))
-
-    pub groups-other : beq u v ≡ true → (m ≡ n → ⊥) → same_ty (ty_at d j) (ty_at d k) ≡ false
-    groups-other e h = same-counts (alike e) no-basic (λ q. h (r.2.count ∙ q ∙ sym s.2.count))
-
-    pub groups-asked : beq u v ≡ true → m ≡ n → AskRuns d new a b m
-    groups-asked e q = rw (r.2.second, s.2.second, r.2.count) (same_runs (alike e) no-basic (as-many q) r.0)
-
-    pub groups-same : beq u v ≡ true → m ≡ n → same_tys (tys_from (ty_at d) d a m) (tys_from (ty_at d) d b m) ≡ same_ty (ty_at d j) (ty_at d k)
-    groups-same e q = rw (r.2.second, s.2.second, r.2.count) (same-groups (alike e) no-basic (as-many q) r.0)
 
 -- ---- the next part
 
