@@ -41,6 +41,7 @@ impl Laying {
     }
 
     // The record of an argument of type k at this place; `used` is used after it.
+    #[inline(always)]
     pub fn step(
         &mut self,
         k: usize,
@@ -71,6 +72,7 @@ impl Laying {
 
 impl<'a> Described<'a> {
     // How many arguments are named.
+    #[inline(always)]
     pub fn named(self) -> usize
         ensures { result ≡ named_in self.entry.bytes.now }
     {
@@ -78,6 +80,7 @@ impl<'a> Described<'a> {
     }
 
     // How many arguments there are.
+    #[inline(always)]
     pub fn arguments(self) -> usize
         ensures { result ≡ arguments_in self.entry.bytes.now }
     {
@@ -127,6 +130,8 @@ impl<'a> Described<'a> {
     }
 
     // The record of argument i; the caller knows whether it is named.
+    // Inlined with what it calls, so that no record of a place goes through memory where the caller takes it apart.
+    #[inline(always)]
     pub fn place_as(self, i: usize, named: bool, laying: &mut Laying) -> Placement
         requires { AskRecord self.bytes.now i laying.old × (is_named self.bytes.now i ≡ named) }
         ensures { (result ≡ (step_at self.entry.bytes.now laying.old i).placement) × (laying.new ≡ (step_at self.entry.bytes.now laying.old i).after) }
@@ -143,6 +148,7 @@ impl<'a> Described<'a> {
     }
 
     // The record of argument i.
+    #[inline(always)]
     pub fn place_argument(self, i: usize, laying: &mut Laying) -> Placement
         requires { AskRecord self.bytes.now i laying.old }
         ensures { (result ≡ (step_at self.entry.bytes.now laying.old i).placement) × (laying.new ≡ (step_at self.entry.bytes.now laying.old i).after) }

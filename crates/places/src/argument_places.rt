@@ -138,6 +138,7 @@ impl Used {
 
     // What is used after an argument, as `place` says it, without the place. Whether an unnamed one is wide is asked only where there are
     // registers for it.
+    #[inline(always)]
     pub fn use_argument(&mut self, argument: Argument)
         requires { Room self.old × Small (shape_in argument.named argument.entry.0) × Asking argument.entry.0 }
         ensures { self.new ≡ next eights self.old (shape_in argument.named argument.entry.0) }

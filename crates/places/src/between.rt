@@ -47,6 +47,7 @@ impl Used {
     }
 
     // The place of an argument, where `after` is used once it is placed.
+    #[inline(always)]
     pub fn place_between(self, after: Used, argument: Argument) -> Place
         requires { (self.stack.0 ≤ 2 ^ 20) × Between argument.named argument.entry.0 self after }
         ensures { place_of result ≡ place eights self (shape_in argument.named argument.entry.0) }

@@ -50,6 +50,7 @@ pub fn kinds_of(first: Class, second: Class) -> Kinds
 
 impl Argument {
     // Size and alignment of its type.
+    #[inline(always)]
     pub fn extent(self) -> Extent
         ensures { IsEntry self.entry.0 result }
     {
