@@ -122,11 +122,11 @@ pub fn cb_type_classes(d: &[u8], asked: u8, classes: &mut Classes) -> Refusal
 pub fn cb_member_run(d: &[u8], asked: u8, part: &mut Part) -> Refusal
     ensures { (result ≡ run_refusal (run_answer d.now asked)) × (part.new ≡ run_part (run_answer d.now asked)) }
 {
-    *part = flat::nowhere();
     let run = questions::run_at(d, asked).map(|run| match run {
         Some((offset, count)) => flat::part_of(Image::Description as u8, offset, Bytes(count)),
         None => flat::nowhere(),
     });
+    *part = flat::nowhere();
     give(run, part)
 }
 
@@ -363,7 +363,6 @@ pub fn cb_show(
     ensures { (result ≡ shown_refusal (shown_answer kcb (station_meant station.now) seat.now (walk_meant walk.now) (asking registers.now stack.now asked [])))
         × (part.new ≡ shown_part (shown_answer kcb (station_meant station.now) seat.now (walk_meant walk.now) (asking registers.now stack.now asked []))) }
 {
-    *part = flat::nowhere();
     let attached = station::Station::from(*station);
     let answer = walk::shown_at(
         attached,
@@ -382,5 +381,6 @@ pub fn cb_show(
         Some(Shown::Stack(lies)) => flat::part_of(Image::Stack as u8, lies.offset, lies.length),
         None => flat::nowhere(),
     });
+    *part = flat::nowhere();
     give(shown, part)
 }

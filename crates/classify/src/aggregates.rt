@@ -133,8 +133,8 @@ impl<'a> Known<'a> {
 
     // The classes of aggregate k at offset `at` of the whole; `different` are its different members, if it is a union.
     #[inline]
-    pub fn of_aggregate(self, k: usize, different: &Option<Different>, at: Bytes) -> Packed
-        requires { IfSome different.now (λ l. Listed self.d.now k l.members l.count) × AskType self.d.now k at.0 × (k ≤ self.types) }
+    pub fn of_aggregate(self, k: usize, different: Option<&Different>, at: Bytes) -> Packed
+        requires { IfSome different (λ l. Listed self.d.now k l.now.members l.now.count) × AskType self.d.now k at.0 × (k ≤ self.types) }
         ensures { pair_in result.0 ≡ classes_at (model_in self.entry.d.now) 2 (ty_at self.entry.d.now k) at.0 }
     {
         match different {

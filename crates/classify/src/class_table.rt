@@ -22,11 +22,11 @@ use units::Bytes;
 fn finish(
     d: &[u8],
     k: usize,
-    different: &Option<Different>,
+    different: Option<&Different>,
     table: &[u32; 64],
     finished: &mut [u8; 512],
 )
-    requires { Sized (model_in d.now) d.now k × IfSome different.now (λ l. Listed d.now k l.members l.count) × Ready d.now table.now finished.old k }
+    requires { Sized (model_in d.now) d.now k × IfSome different (λ l. Listed d.now k l.now.members l.now.count) × Ready d.now table.now finished.old k }
     ensures { Right d.now finished.new }
 {
     let extent = types::extent_in(table, k);
@@ -59,15 +59,16 @@ fn aggregate_word(d: &[u8], k: usize, table: &[u32; 64], finished: &mut [u8; 512
         };
         return wide_aggregates::wide_word(known, k, size);
     }
-    let different = unions::different_members(d, k);
-    finish(d, k, &different, table, finished);
+    let mut list = Different::none();
+    let different = unions::different_members(d, k, &mut list);
+    finish(d, k, different, table, finished);
     let known = Known {
         d,
         table,
         finished,
         types: k,
     };
-    Word::from(known.of_aggregate(k, &different, Bytes(0)))
+    Word::from(known.of_aggregate(k, different, Bytes(0)))
 }
 
 // The same of any type.

@@ -15,40 +15,48 @@ pub struct Different {
     pub count: usize,
 }
 
-// The different members of union k, which are `count` from place `first` on.
-fn listed(d: &[u8], k: usize, first: usize, count: usize) -> Different
+impl Different {
+    // None yet.
+    pub fn none() -> Self {
+        Self {
+            members: [0; 64],
+            count: 0,
+        }
+    }
+}
+
+// The different members of union k, which are `count` from place `first` on, in place of what the list holds. It is lent: by value it would be copied.
+fn list_members(d: &[u8], k: usize, first: usize, count: usize, list: &mut Different)
     requires { AskType d.now k 0 × (kind_at d.now k ≡ 3) × (k < 64) × Parts d.now k first count }
-    ensures { Listed d.now k result.members result.count }
+    ensures { Listed d.now k list.new.members list.new.count }
 {
     let mut seen = [false; 64];
-    let mut members = [0u8; 64];
-    let mut different = 0;
+    list.count = 0;
     for i in first..first + count {
         let member = description::member_at(d, i);
         if seen[member] {
             continue;
         }
         seen[member] = true;
-        members[different] = member as u8;
-        different += 1;
-    }
-    Different {
-        members,
-        count: different,
+        list.members[list.count] = member as u8;
+        list.count += 1;
     }
 }
 
-// The same of any aggregate: none unless it is a union.
-pub fn different_members(d: &[u8], k: usize) -> Option<Different>
+// The same of any aggregate, by a lent list: none unless it is a union.
+pub fn different_members<'a>(d: &[u8], k: usize, list: &'a mut Different) -> Option<&'a Different>
     requires { AskType d.now k 0 × (k < 64) }
-    ensures { IfSome result (λ l. Listed d.now k l.members l.count) }
+    ensures { IfSome result (λ l. Listed d.now k l.now.members l.now.count) }
 {
     match description::record_at(d, k) {
         TypeRecord::Group {
             union: true,
             first,
             count,
-        } => Some(listed(d, k, first, count)),
+        } => {
+            list_members(d, k, first, count, list);
+            Some(list)
+        }
         _ => None,
     }
 }

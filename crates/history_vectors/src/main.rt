@@ -6,7 +6,6 @@ ghost use Rattle.std.specs.Prelude.{◌<◌, ◌≤◌, length};
 
 use form::Refusal;
 use station::Station;
-use std::io;
 use streams::Hex;
 use units::Bytes;
 use walk::{Shown, Walk};
@@ -48,28 +47,28 @@ impl Desk {
 // ---- what is printed
 
 // The number, and the type that breaks the rule of 6 or 7, which is 0 for the others; both are 0 for an accepted call.
-fn print_answer(rt: &impl Print, call: &str, answer: Result<(), Refusal>) -> io::Result<()> {
-    match answer {
+fn print_answer(rt: &impl Print, call: &str, answer: Result<(), Refusal>) {
+    let _ = match answer {
         Ok(()) => print!(rt; "{call} 0 0"),
         Err(refusal) => print!(rt; "{call} {} {}", refusal.number, refusal.ty),
-    }
+    };
 }
 
-fn print_station(rt: &impl Print, station: Station) -> io::Result<()> {
-    print!(rt;
+fn print_station(rt: &impl Print, station: Station) {
+    let _ = print!(rt;
         "station {} {} {}",
         u8::from(station.attached),
         station.length.0,
         station.number
-    )
+    );
 }
 
 // The record in a slot, at the end of a line.
-fn print_walk(rt: &impl Print, walk: Walk) -> io::Result<()> {
-    println!(rt;
+fn print_walk(rt: &impl Print, walk: Walk) {
+    let _ = println!(rt;
         "walk {} {} {} {} {}",
         walk.number, walk.position, walk.general.0, walk.vector.0, walk.overflow.0
-    )
+    );
 }
 
 // A byte more, modulo 65,521.
@@ -93,10 +92,10 @@ fn checksum(room: &[u8]) -> u64
     sum
 }
 
-fn print_seat(rt: &impl Print, host: &Host, desk: &Desk) -> io::Result<()> {
-    print!(rt; " ")?;
-    print_station(rt, host.station)?;
-    println!(rt; " seat {}", checksum(&desk.room))
+fn print_seat(rt: &impl Print, host: &Host, desk: &Desk) {
+    let _ = print!(rt; " ");
+    print_station(rt, host.station);
+    let _ = println!(rt; " seat {}", checksum(&desk.room));
 }
 
 // ---- what is read
@@ -153,11 +152,11 @@ impl Host {
         }
     }
 
-    fn print_slot(&self, rt: &impl Print, slot: usize) -> io::Result<()> {
-        print_walk(rt, self.walk(slot))
+    fn print_slot(&self, rt: &impl Print, slot: usize) {
+        print_walk(rt, self.walk(slot));
     }
 
-    fn make_station(&mut self, rt: &(impl Print + Input)) -> io::Result<()> {
+    fn make_station(&mut self, rt: &(impl Print + Input)) {
         let attached = streams::read_byte(rt) == 1;
         let length = Bytes(read_word(rt));
         let number = read_half(rt);
@@ -166,11 +165,11 @@ impl Host {
             length,
             number,
         };
-        print_station(rt, self.station)?;
-        println!(rt)
+        print_station(rt, self.station);
+        let _ = println!(rt);
     }
 
-    fn make_walk(&mut self, rt: &(impl Print + Input)) -> io::Result<()> {
+    fn make_walk(&mut self, rt: &(impl Print + Input)) {
         let slot = read_slot(rt);
         let number = read_half(rt);
         let position = read_whole(rt);
@@ -185,90 +184,78 @@ impl Host {
             overflow,
         };
         self.keep(slot, walk);
-        self.print_slot(rt, slot)
+        self.print_slot(rt, slot);
     }
 
     // ---- the calls on the seat
 
-    fn attach(&mut self, rt: &(impl Print + Input), desk: &mut Desk) -> io::Result<()> {
+    fn attach(&mut self, rt: &(impl Print + Input), desk: &mut Desk) {
         let Some(seat) = desk.room.get_mut(..desk.seat_lent) else {
-            return Ok(());
+            return;
         };
         let mut space = [0u8; 4096];
         let n = read_sized(rt, &mut space);
         let answer = station::attach(&mut self.station, seat, &space[..n]);
-        print_answer(rt, "attach", answer)?;
-        print_seat(rt, self, desk)
+        print_answer(rt, "attach", answer);
+        print_seat(rt, self, desk);
     }
 
-    fn detach(&mut self, rt: &impl Print, desk: &mut Desk) -> io::Result<()> {
+    fn detach(&mut self, rt: &impl Print, desk: &mut Desk) {
         let Some(seat) = desk.room.get_mut(..desk.seat_lent) else {
-            return Ok(());
+            return;
         };
         let answer = station::detach(&mut self.station, seat);
-        print_answer(rt, "detach", answer)?;
-        print_seat(rt, self, desk)
+        print_answer(rt, "detach", answer);
+        print_seat(rt, self, desk);
     }
 
-    fn change(&mut self, rt: &(impl Print + Input), desk: &mut Desk) -> io::Result<()> {
+    fn change(&mut self, rt: &(impl Print + Input), desk: &mut Desk) {
         let Some(seat) = desk.room.get_mut(..desk.seat_lent) else {
-            return Ok(());
+            return;
         };
         let mut space = [0u8; 4096];
         let n = read_sized(rt, &mut space);
         let answer = station::change(&mut self.station, seat, &space[..n]);
-        print_answer(rt, "change", answer)?;
-        print_seat(rt, self, desk)
+        print_answer(rt, "change", answer);
+        print_seat(rt, self, desk);
     }
 
     // ---- open, step, all the rest and show: they leave the seat and the images
 
-    fn open(&mut self, rt: &(impl Print + Input), seat: &[u8]) -> io::Result<()> {
+    fn open(&mut self, rt: &(impl Print + Input), seat: &[u8]) {
         let slot = read_slot(rt);
         let answer = walk::open_walk(self.station, seat);
         if let Ok(walk) = answer {
             self.keep(slot, walk);
         }
-        print_answer(rt, "open", answer.map(|_| ()))?;
-        print!(rt; " ")?;
-        self.print_slot(rt, slot)
+        print_answer(rt, "open", answer.map(|_| ()));
+        let _ = print!(rt; " ");
+        self.print_slot(rt, slot);
     }
 
-    fn step(
-        &mut self,
-        rt: &(impl Print + Input),
-        seat: &[u8],
-        registers: &[u8],
-        stack: &[u8],
-    ) -> io::Result<()> {
+    fn step(&mut self, rt: &(impl Print + Input), seat: &[u8], registers: &[u8], stack: &[u8]) {
         let mut space = [0u8; 4096];
         let slot = read_slot(rt);
         let asked = streams::read_byte(rt);
         let Some(out) = space.get_mut(..read_word(rt)) else {
-            return Ok(());
+            return;
         };
         let mut walk = self.walk(slot);
         out.fill(0xEE);
         let answer = walk::step(&self.station, seat, &mut walk, registers, stack, asked, out);
         self.keep(slot, walk);
-        print_answer(rt, "step", answer)?;
-        print!(rt; " out{} ", Hex(out))?;
-        self.print_slot(rt, slot)
+        print_answer(rt, "step", answer);
+        let _ = print!(rt; " out{} ", Hex(out));
+        self.print_slot(rt, slot);
     }
 
-    fn finish(
-        &mut self,
-        rt: &(impl Print + Input),
-        seat: &[u8],
-        registers: &[u8],
-        stack: &[u8],
-    ) -> io::Result<()> {
+    fn finish(&mut self, rt: &(impl Print + Input), seat: &[u8], registers: &[u8], stack: &[u8]) {
         let mut types = [0u8; 4096];
         let mut space = [0u8; 4096];
         let slot = read_slot(rt);
         let count = read_sized(rt, &mut types);
         let Some(out) = space.get_mut(..read_word(rt)) else {
-            return Ok(());
+            return;
         };
         let asked = &types[..count];
         let mut walk = self.walk(slot);
@@ -283,23 +270,17 @@ impl Host {
             out,
         );
         self.keep(slot, walk);
-        print_answer(rt, "finish", answer)?;
-        print!(rt; " out{} ", Hex(out))?;
-        self.print_slot(rt, slot)
+        print_answer(rt, "finish", answer);
+        let _ = print!(rt; " out{} ", Hex(out));
+        self.print_slot(rt, slot);
     }
 
     // Where the part begins, and the bytes of the part that is handed out: they are those that stand there only where it begins there.
-    fn show(
-        &self,
-        rt: &(impl Print + Input),
-        seat: &[u8],
-        registers: &[u8],
-        stack: &[u8],
-    ) -> io::Result<()> {
+    fn show(&self, rt: &(impl Print + Input), seat: &[u8], registers: &[u8], stack: &[u8]) {
         let walk = self.walk(read_slot(rt));
         let asked = streams::read_byte(rt);
         let part = Hex(walk::show(self.station, seat, walk, registers, stack, asked));
-        match walk::shown_at(self.station, seat, walk, registers, stack, asked) {
+        let _ = match walk::shown_at(self.station, seat, walk, registers, stack, asked) {
             Ok(Some(Shown::Registers(place))) => {
                 println!(rt; "show registers {} part{part}", place.offset.0)
             }
@@ -307,26 +288,20 @@ impl Host {
                 println!(rt; "show stack {} part{part}", place.offset.0)
             }
             Ok(None) | Err(_) => println!(rt; "show none"),
-        }
+        };
     }
 
-    fn show_number(
-        &self,
-        rt: &(impl Print + Input),
-        seat: &[u8],
-        registers: &[u8],
-        stack: &[u8],
-    ) -> io::Result<()> {
+    fn show_number(&self, rt: &(impl Print + Input), seat: &[u8], registers: &[u8], stack: &[u8]) {
         let walk = self.walk(read_slot(rt));
         let asked = streams::read_byte(rt);
         let answer = walk::show_number(self.station, seat, walk, registers, stack, asked);
-        print_answer(rt, "number", answer)?;
-        println!(rt)
+        print_answer(rt, "number", answer);
+        let _ = println!(rt);
     }
 
-    fn look(&mut self, rt: &(impl Print + Input), command: u8, desk: &Desk) -> io::Result<()> {
+    fn look(&mut self, rt: &(impl Print + Input), command: u8, desk: &Desk) {
         let (Some(seat), Some((registers, stack))) = (desk.seat(), desk.images()) else {
-            return Ok(());
+            return;
         };
         match command {
             9 => self.open(rt, seat),
@@ -334,7 +309,7 @@ impl Host {
             11 => self.show(rt, seat, registers, stack),
             12 => self.show_number(rt, seat, registers, stack),
             17 => self.finish(rt, seat, registers, stack),
-            _ => Ok(()),
+            _ => {}
         }
     }
 }
@@ -348,51 +323,46 @@ fn new_host() -> Host {
     }
 }
 
-fn reset(rt: &impl Print, host: &mut Host, desk: &mut Desk) -> io::Result<()> {
+fn reset(rt: &impl Print, host: &mut Host, desk: &mut Desk) {
     *host = new_host();
     desk.room.fill(0);
     desk.seat_lent = 586;
     desk.registers_lent = 0;
     desk.stack_lent = 0;
-    println!(rt; "reset")
+    let _ = println!(rt; "reset");
 }
 
-fn lend_seat(rt: &(impl Print + Input), desk: &mut Desk) -> io::Result<()> {
+fn lend_seat(rt: &(impl Print + Input), desk: &mut Desk) {
     desk.seat_lent = read_word(rt);
-    println!(rt; "seat length {}", desk.seat_lent)
+    let _ = println!(rt; "seat length {}", desk.seat_lent);
 }
 
-fn spoil(rt: &(impl Print + Input), desk: &mut Desk) -> io::Result<()> {
+fn spoil(rt: &(impl Print + Input), desk: &mut Desk) {
     let index = read_word(rt);
     let byte = streams::read_byte(rt);
     if let Some(place) = desk.room.get_mut(index) {
         *place = byte;
     }
-    println!(rt; "spoilt seat {}", checksum(&desk.room))
+    let _ = println!(rt; "spoilt seat {}", checksum(&desk.room));
 }
 
-fn fill_seat(rt: &(impl Print + Input), desk: &mut Desk) -> io::Result<()> {
+fn fill_seat(rt: &(impl Print + Input), desk: &mut Desk) {
     desk.room.fill(streams::read_byte(rt));
-    println!(rt; "filled seat {}", checksum(&desk.room))
+    let _ = println!(rt; "filled seat {}", checksum(&desk.room));
 }
 
-fn set_registers(rt: &(impl Print + Input), desk: &mut Desk) -> io::Result<()> {
+fn set_registers(rt: &(impl Print + Input), desk: &mut Desk) {
     desk.registers_lent = read_sized(rt, &mut desk.registers);
-    println!(rt; "registers {}", desk.registers_lent)
+    let _ = println!(rt; "registers {}", desk.registers_lent);
 }
 
-fn set_stack(rt: &(impl Print + Input), desk: &mut Desk) -> io::Result<()> {
+fn set_stack(rt: &(impl Print + Input), desk: &mut Desk) {
     desk.stack_lent = read_sized(rt, &mut desk.stack);
-    println!(rt; "stack {}", desk.stack_lent)
+    let _ = println!(rt; "stack {}", desk.stack_lent);
 }
 
 // One call, by the number that it has in the file.
-fn play(
-    rt: &(impl Print + Input),
-    command: u8,
-    host: &mut Host,
-    desk: &mut Desk,
-) -> io::Result<()> {
+fn play(rt: &(impl Print + Input), command: u8, host: &mut Host, desk: &mut Desk) {
     match command {
         1 => reset(rt, host, desk),
         2 => lend_seat(rt, desk),
@@ -421,8 +391,9 @@ fn main(rt: HostRuntime) {
     };
     for _ in 0..COMMANDS {
         let command = streams::read_byte(&rt);
-        if command == 0 || play(&rt, command, &mut host, &mut desk).is_err() {
+        if command == 0 {
             return;
         }
+        play(&rt, command, &mut host, &mut desk);
     }
 }

@@ -67,6 +67,6 @@ pub unnamed-narrow : (d : List ℕ) (i : ℕ) → named_in d ≤ i → has_wide 
 unfolding shape_at is_named
 unnamed-narrow d i h = rw (le-ltb i (named_in d) h) (shape_narrow (model_in d) (ty_at d (argument_at d i)))
 
--- what `place_shape` asks
+-- what `Used::place` asks
 pub before-room : (i : ℕ) (u : Used) → i ≤ 64 → Before i u → Room u
 before-room i u h b = record { general = b.general; vector = b.vector; stack = omega (arith, b.stack) }

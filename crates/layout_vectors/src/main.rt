@@ -7,7 +7,7 @@ ghost use Rattle.layout.specs.Layout.{layout_of};
 
 use layout::{Described, Laying, Layout, Placement};
 use places::{Place, Register, ReturnPlace};
-use std::{fmt, io};
+use std::fmt;
 use units::Registers;
 
 // A register by its name behind a blank: general ones have others where a value is returned.
@@ -55,7 +55,7 @@ fn return_name(register: Register) -> Name {
     }
 }
 
-fn print_record(rt: &impl Print, i: usize, placement: Placement) -> io::Result<()> {
+fn print_record(rt: &impl Print, i: usize, placement: Placement) {
     let Placement {
         ty,
         size,
@@ -64,29 +64,30 @@ fn print_record(rt: &impl Print, i: usize, placement: Placement) -> io::Result<(
         at,
         named,
     } = placement;
-    print!(rt; "{i} type {ty} size {} align {}", size.0, align.0)?;
-    match place {
-        Place::One(register) => print!(rt; "{}", argument_name(register))?,
-        Place::Two(low, high) => print!(rt; "{}{}", argument_name(low), argument_name(high))?,
-        Place::Stack(offset) => print!(rt; " stack {}", offset.0)?,
-    }
+    let _ = print!(rt; "{i} type {ty} size {} align {}", size.0, align.0);
+    let _ = match place {
+        Place::One(register) => print!(rt; "{}", argument_name(register)),
+        Place::Two(low, high) => print!(rt; "{}{}", argument_name(low), argument_name(high)),
+        Place::Stack(offset) => print!(rt; " stack {}", offset.0),
+    };
     let mark = if named { "named" } else { "unnamed" };
-    println!(rt; " at {} {mark}", at.0)
+    let _ = println!(rt; " at {} {mark}", at.0);
 }
 
-fn print_returned(rt: &impl Print, ty: u8, returns: ReturnPlace) -> io::Result<()> {
+fn print_returned(rt: &impl Print, ty: u8, returns: ReturnPlace) {
     if ty == 255 {
-        return println!(rt; "return void");
+        let _ = println!(rt; "return void");
+        return;
     }
-    print!(rt; "return type {ty}")?;
-    match returns {
+    let _ = print!(rt; "return type {ty}");
+    let _ = match returns {
         ReturnPlace::Void => println!(rt; " void"),
         ReturnPlace::Memory => println!(rt; " memory"),
         ReturnPlace::One(register) => println!(rt; "{}", return_name(register)),
         ReturnPlace::Two(low, high) => println!(rt; "{}{}", return_name(low), return_name(high)),
         ReturnPlace::St0 => println!(rt; " st0"),
         ReturnPlace::St0St1 => println!(rt; " st0 st1"),
-    }
+    };
 }
 
 // gp_offset and fp_offset after so many registers.
@@ -104,45 +105,46 @@ fn vector_offset(count: Registers) -> usize {
     48 + count.vector_bytes().0
 }
 
-fn print_walk(rt: &impl Print, variadic: bool, layout: Layout) -> io::Result<()> {
+fn print_walk(rt: &impl Print, variadic: bool, layout: Layout) {
     if !variadic {
-        return println!(rt; "walk none");
+        let _ = println!(rt; "walk none");
+        return;
     }
     let named = layout.named;
-    println!(rt;
+    let _ = println!(rt;
         "walk gp {} fp {} over {}",
         general_offset(named.general),
         vector_offset(named.vector),
         named.stack.0
-    )
+    );
 }
 
 // The records, as `lay_out` writes them into a list, between what the call asks for as a whole.
-fn print_laid(rt: &impl Print, described: Described, layout: Layout) -> io::Result<()>
+fn print_laid(rt: &impl Print, described: Described, layout: Layout)
     requires { layout ≡ layout_of described.bytes.now }
 {
     let used = layout.used;
-    println!(rt;
+    let _ = println!(rt;
         "KCB 1 args {} named {} gp {} vec {} stack {}",
         described.arguments(),
         described.named(),
         used.general.0,
         used.vector.0,
         layout.area.0
-    )?;
+    );
     let mut laying = Laying::fresh(layout.hidden);
     for i in 0..described.arguments() {
         let placement = described.place_argument(i, &mut laying);
-        print_record(rt, i, placement)?;
+        print_record(rt, i, placement);
     }
     let header = described.bytes;
-    print_returned(rt, header.get(9).copied().unwrap_or(255), layout.returns)?;
+    print_returned(rt, header.get(9).copied().unwrap_or(255), layout.returns);
     let variadic = header.get(6).is_some_and(|bits| bits % 2 == 1);
-    print_walk(rt, variadic, layout)?;
-    println!(rt; "values {} align {}", layout.values.0, layout.align.0)
+    print_walk(rt, variadic, layout);
+    let _ = println!(rt; "values {} align {}", layout.values.0, layout.align.0);
 }
 
-fn answer(rt: &impl Print, d: &[u8], room: usize) -> io::Result<()> {
+fn answer(rt: &impl Print, d: &[u8], room: usize) {
     let mut table = [0u32; 64];
     match layout::begin_with(d, room, &mut table) {
         Ok(layout) => {
@@ -150,17 +152,19 @@ fn answer(rt: &impl Print, d: &[u8], room: usize) -> io::Result<()> {
                 bytes: d,
                 table: &table,
             };
-            print_laid(rt, described, layout)?;
+            print_laid(rt, described, layout);
         }
-        Err(refusal) => streams::print_refusal(rt, refusal)?,
+        Err(refusal) => {
+            let _ = streams::print_refusal(rt, refusal);
+        }
     }
-    match layout::needs_stack(d) {
+    let _ = match layout::needs_stack(d) {
         Ok(need) => {
             let answer = if need.needed { "yes" } else { "no" };
             println!(rt; "needs {answer} {}", need.looked)
         }
         Err(refusal) => streams::print_refusal(rt, refusal),
-    }
+    };
 }
 
 // One description and the length of a list; none at the end of the input.
@@ -171,7 +175,8 @@ fn answer_next(rt: &(impl Print + Input)) -> Option<()> {
     if streams::read_full(rt, &mut lent) < 1 {
         return None;
     }
-    answer(rt, &space[..n], usize::from(lent[0])).ok()
+    answer(rt, &space[..n], usize::from(lent[0]));
+    Some(())
 }
 
 fn main(rt: HostRuntime) {

@@ -1,5 +1,5 @@
-// What the programs read and write, over std's standard streams, in memory of fixed size. A read that fails ends the input. Nothing is kept back
-// between two calls.
+// What the programs read and write, over std's standard streams, in memory of fixed size. A read that fails ends the input; a write that fails is
+// left out (`let _ =`), and a program reads and writes on behind it. Nothing is kept back between two calls.
 #![tactic(auto)]
 
 pub mod tool; // a command that reads one file or the standard input

@@ -3,14 +3,13 @@
 #![tactic(auto)]
 
 use reading::ReadError;
-use std::io;
 
-fn print_answer(rt: &impl Print, answer: Result<(), ReadError>) -> io::Result<()> {
-    match answer {
+fn print_answer(rt: &impl Print, answer: Result<(), ReadError>) {
+    let _ = match answer {
         Ok(()) => println!(rt; "accepted"),
         Err(ReadError::TooLong) => println!(rt; "too long"),
         Err(ReadError::RefusedAt(place)) => println!(rt; "refused at {place}"),
-    }
+    };
 }
 
 // A part begins with a byte that says what its text is read as: 0, a prototype; otherwise the types of further arguments.
@@ -26,7 +25,8 @@ fn read_text(part: &[u8]) -> Result<(), ReadError> {
 fn print_next(rt: &(impl Print + Input)) -> Option<()> {
     let mut space = [0u8; 65536];
     let n = streams::read_part(rt, &mut space)?;
-    print_answer(rt, read_text(&space[..n])).ok()
+    print_answer(rt, read_text(&space[..n]));
+    Some(())
 }
 
 fn main(rt: HostRuntime) {

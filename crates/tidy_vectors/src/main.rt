@@ -2,22 +2,21 @@
 // answers.
 #![tactic(auto)]
 
-use std::io;
 use streams::Hex;
 
 // The length of the tidy form, and the form into a buffer that is of that length or not.
-fn answer(rt: &impl Print, d: &[u8], out: &mut [u8]) -> io::Result<()> {
-    match tidying::tidy_length(d) {
-        Ok(length) => println!(rt; "length {}", length.0)?,
-        Err(refusal) => streams::print_refusal(rt, refusal)?,
-    }
+fn answer(rt: &impl Print, d: &[u8], out: &mut [u8]) {
+    let _ = match tidying::tidy_length(d) {
+        Ok(length) => println!(rt; "length {}", length.0),
+        Err(refusal) => streams::print_refusal(rt, refusal),
+    };
     // What the buffer holds before.
     out.fill(0xEE);
-    match tidying::tidy(d, out) {
-        Ok(()) => println!(rt; "tidy")?,
-        Err(refusal) => streams::print_refusal(rt, refusal)?,
-    }
-    println!(rt; "out{}", Hex(out))
+    let _ = match tidying::tidy(d, out) {
+        Ok(()) => println!(rt; "tidy"),
+        Err(refusal) => streams::print_refusal(rt, refusal),
+    };
+    let _ = println!(rt; "out{}", Hex(out));
 }
 
 // One record; none at the end of the input.
@@ -26,7 +25,8 @@ fn answer_next(rt: &(impl Print + Input)) -> Option<()> {
     let mut out = [0u8; 65536];
     let n = streams::read_part(rt, &mut space)?;
     let room = streams::read_room(rt, out.len());
-    answer(rt, &space[..n], &mut out[..room]).ok()
+    answer(rt, &space[..n], &mut out[..room]);
+    Some(())
 }
 
 fn main(rt: HostRuntime) {

@@ -34,8 +34,8 @@ pub fn end_after(union: bool, end: Bytes, member: Extent) -> Bytes
 
 // ---- one type
 
-// Size and alignment of each code; those of a pointer, which the model changes, are not read.
-const BASIC: [(u8, u8); 17] = [
+// Size and alignment of each code; those of a pointer, which the model changes, are not read. A static: a const is made anew at each look.
+static BASIC: [(u8, u8); 17] = [
     (1, 1), // _Bool
     (1, 1), // char
     (2, 2), // short

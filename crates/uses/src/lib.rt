@@ -1,11 +1,11 @@
 // What a call may use of a description's types (document 01, "Refusal numbers", 8 and 9), and which of 1 to 9 refuses any bytes.
 #![tactic(auto)]
 
-ghost use Rattle.std.specs.Prelude.{◌≡◌, ◌≤◌, ◌<◌};
+ghost use Rattle.std.specs.Prelude.{◌≡◌, ◌≤◌, ◌<◌, ltb};
 ghost use Rattle.description.specs.Description.{Whole, types_in, named_in, arguments_in, model_in};
 ghost use Rattle.form.specs.Order.{first};
 ghost use Rattle.form.specs.Reading.{judgment, refusal_of};
-ghost use Rattle.uses.specs.Uses.{wrong_number, wrong_return, wrong_use, narrow, narrow_unnamed, Typed, passing_order, uses_refusal};
+ghost use Rattle.uses.specs.Uses.{wrong_number, wrong_return, first_wrong, wrong_use, narrow, narrow_unnamed, Typed, passing_order, uses_refusal};
 ghost use Rattle.types.specs.Table.{sizes_after, Sizes};
 ghost use Rattle.types.specs.Wrong.{refusal_for};
 
@@ -34,14 +34,26 @@ fn wrong_return(d: &[u8]) -> bool
     returns != 255 && wrong_number(d, returns)
 }
 
+// Whether an argument has such a number. A loop and no `any`, here and for 9: the header is then read before it, and not at each turn.
+fn some_wrong(d: &[u8]) -> bool
+    requires { Whole d.now }
+    ensures { result ≡ ltb (first_wrong d.now) (arguments_in d.now) }
+{
+    for i in 0..description::byte_at(d, 8) {
+        if wrong_number(d, description::argument_at(d, i)) {
+            return true;
+        }
+    }
+    false
+}
+
 // Whether the return type or an argument has such a number.
 #[tactic(auto, unfolding(crate::specs::Uses::wrong_use))]
 fn wrong_use(d: &[u8]) -> bool
     requires { Whole d.now }
     ensures { result ≡ wrong_use d.now }
 {
-    wrong_return(d)
-        || (0..description::byte_at(d, 8)).any(|i| wrong_number(d, description::argument_at(d, i)))
+    wrong_return(d) || some_wrong(d)
 }
 
 // ---- 9: unnamed arguments
@@ -64,12 +76,12 @@ fn narrow_unnamed(d: &[u8]) -> bool
     ensures { result ≡ narrow_unnamed d.now }
 {
     let named = description::byte_at(d, 7);
-    let arguments = description::byte_at(d, 8);
-    (named..arguments).any(
-        |i|
-            requires { Typed d.now × (i < arguments_in d.now) }
-        { is_narrow(d, description::argument_at(d, i)) },
-    )
+    for i in named..description::byte_at(d, 8) {
+        if is_narrow(d, description::argument_at(d, i)) {
+            return true;
+        }
+    }
+    false
 }
 
 // ---- 8 and 9
